@@ -1,0 +1,3 @@
+pub mod Alignment
+pub mod Field
+pub mod Spelling

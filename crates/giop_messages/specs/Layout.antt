@@ -1,0 +1,51 @@
+-- The order in which the parts of a message stand: CORBA 3.0.3, section 15.4.
+use Rattle.std.specs.Prelude.{ℕ, List, [], ◌∷◌, ◌++◌, length}
+use Rattle.std.specs.List.{flat_map}
+use Rattle.std.specs.Int.{w8, w16, w32}
+use Rattle.orb_base.specs.declared.order.Order.{Order}
+use Rattle.orb_base.specs.declared.order.Order.TheVariants.{Big, Little}
+use Rattle.cdr_core.specs.Field.{Field, number, run, number_bytes, string_fields, octets_fields}
+use Rattle.giop_messages.specs.Message.{Context, Target, key, Request, Reply, Message, request, reply, close, error}
+
+-- 'GIOP'
+abbrev pub magic : List ℕ
+magic = 71 ∷ 73 ∷ 79 ∷ 80 ∷ []
+
+-- bit 0 of the flags
+abbrev pub order_flag : Order → ℕ
+order_flag Big = 0
+order_flag Little = 1
+
+-- the header of 12 bytes: version 1.2, the flags, the kind, and how many bytes stand behind it
+abbrev pub header : Order → ℕ → ℕ → ℕ → List ℕ
+header order flags kind size = magic ++ 1 ∷ 2 ∷ flags ∷ kind ∷ [] ++ number_bytes order w32 size
+
+-- a key is addressing form 0
+abbrev pub target_fields : Target → List Field
+target_fields (key bytes) = number w16 0 ∷ octets_fields bytes
+
+abbrev pub context_fields : Context → List Field
+context_fields context = number w32 context.id ∷ octets_fields context.bytes
+
+abbrev pub contexts_fields : List Context → List Field
+contexts_fields contexts = number w32 (length contexts) ∷ flat_map context_fields contexts
+
+-- the named fields of a message, with the three reserved octets of a request
+abbrev pub named_fields : List ℕ → Message → List Field
+named_fields reserved (request r) =
+    number w32 r.id ∷ number w8 r.flags ∷ run 1 reserved ∷ target_fields r.target ++ string_fields r.operation ++ contexts_fields r.contexts
+named_fields reserved (reply r) = number w32 r.id ∷ number w32 r.status ∷ contexts_fields r.contexts
+named_fields reserved close = []
+named_fields reserved error = []
+
+-- a body stands at the next multiple of 8, and an empty one nowhere
+abbrev pub body_fields : List ℕ → List Field
+body_fields [] = []
+body_fields (byte ∷ bytes) = run 8 (byte ∷ bytes) ∷ []
+
+-- the body of a message
+abbrev pub body_of : Message → List ℕ
+body_of (request r) = r.body
+body_of (reply r) = r.body
+body_of close = []
+body_of error = []

@@ -1,0 +1,9 @@
+pub mod Room
+pub mod Span
+pub mod Halves
+pub mod NulFree
+pub mod JobRecord
+pub mod Outcomes
+pub mod Pool
+pub mod Outside
+pub mod Priorities
