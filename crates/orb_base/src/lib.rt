@@ -58,3 +58,6 @@ pub use source::Source;
 pub use system::{Completed, Sys, SysName};
 pub use text::Text;
 pub use text_fault::TextFault;
+
+#[cfg(test)]
+mod tests;

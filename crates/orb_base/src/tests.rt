@@ -1,0 +1,238 @@
+//! What no clause says: each public call once with ample memory, and the scripts of the devices in memory.
+use super::*;
+use std::alloc::Global;
+use std::test::Fail;
+
+fn octets(alloc: Global, bytes: &[u8]) -> Result<Octets, Fail> {
+    Ok(List::from_vec(Vec::from_slice(alloc, bytes)?))
+}
+
+fn job(alloc: Global, id: u32) -> Result<Job, Fail> {
+    Ok(Job {
+        conn: ConnId { slot: 0, nth: 0 },
+        serial: 0,
+        id,
+        order: Order::Big,
+        due: Due::Late,
+        priority: Priority::new(100).ok_or("a priority")?,
+        lane: 0,
+        size: 48,
+        target: 0,
+        operation: Text::new(alloc, b"current")?,
+        body: List::new(alloc),
+    })
+}
+
+/// A read through the bound: its answer, and the buffer.
+fn read_three<I: Source>(source: &mut I) -> (Got, [u8; 3]) {
+    let mut into = [0u8; 3];
+    let got = source.read(&mut into);
+    (got, into)
+}
+
+/// A write through the bound.
+fn write_abc<O: Sink>(sink: &mut O) -> Put {
+    sink.write(b"abc")
+}
+
+#[test]
+fn lists_hold_their_items(rt: HostRuntime) -> Result<(), Fail> {
+    let mut list = List::new(rt.alloc());
+    assert!(rt; list.is_empty());
+    assert!(rt; list.reserve(2).is_ok());
+    for x in [5u8, 6, 7] {
+        assert_eq!(rt; list.push(x), Ok(()));
+    }
+    assert_eq!(rt; list.len(), 3);
+    assert_eq!(rt; list.get(1).copied(), Some(6));
+    assert_eq!(rt; list.get(3).copied(), None);
+    assert_eq!(rt; list.replace(0, 9), 5);
+    assert_eq!(rt; list.remove(1), 6);
+    assert!(rt; list.append(&[1, 2]).is_ok());
+    assert_eq!(rt; list.as_slice(), [9, 7, 1, 2].as_slice());
+    assert_eq!(rt; list.into_vec().len(), 4);
+    Ok(())
+}
+
+#[test]
+fn priorities_and_bands_have_their_ends(rt: HostRuntime) -> Result<(), Fail> {
+    for (n, there) in [(-32768i16, false), (-1, false), (0, true), (32767, true)] {
+        assert_eq!(rt;
+            Priority::new(n).map(Priority::get),
+            if there { Some(n) } else { None },
+            "at {n}"
+        );
+    }
+    let low = Priority::new(10).ok_or("low")?;
+    let high = Priority::new(20).ok_or("high")?;
+    assert!(rt; Band::new(high, low).is_none());
+    let band = Band::new(low, high).ok_or("a band")?;
+    assert_eq!(rt; (band.low(), band.high()), (low, high));
+    assert!(rt; band.holds(low) && band.holds(high));
+    assert!(rt; !band.holds(Priority::new(9).ok_or("below")?));
+    Ok(())
+}
+
+#[test]
+fn texts_hold_no_nul(rt: HostRuntime) -> Result<(), Fail> {
+    let text = Text::new(rt.alloc(), b"ping")?;
+    assert_eq!(rt; text.as_slice(), b"ping".as_slice());
+    assert_eq!(rt; text.copy(rt.alloc())?.len(), 4);
+    assert_eq!(rt;
+        Text::new(rt.alloc(), b"pi\0g\0").err(),
+        Some(TextFault::Nul(2))
+    );
+    Ok(())
+}
+
+/// The body of an answer's outcome.
+fn body_of(item: &Item) -> &[u8] {
+    match item {
+        Item::Answered(answer) => match &answer.outcome {
+            Outcome::Returned(body) => body.as_slice(),
+            Outcome::User(body) => body.as_slice(),
+            Outcome::System(_) => &[],
+        },
+        Item::Early(_) => &[],
+        Item::Transient(_) => &[],
+    }
+}
+
+#[test]
+fn shares_are_equal(rt: HostRuntime) -> Result<(), Fail> {
+    let alloc = rt.alloc();
+    let shared = Arc::new(alloc, job(alloc, 7)?).ok().ok_or("memory")?;
+    let body = SharedOctets::new(alloc, octets(alloc, &[1, 2])?)?;
+    let returned = Answer {
+        job: shared.share()?,
+        outcome: Outcome::Returned(body.share()?).share()?,
+    };
+    let raised = Answer {
+        job: shared.share()?,
+        outcome: Outcome::User(body).share()?,
+    };
+    assert_eq!(rt; returned.share()?.job.get().id, 7);
+    assert_eq!(rt;
+        body_of(&Item::Answered(returned).share()?),
+        [1, 2].as_slice()
+    );
+    assert_eq!(rt;
+        body_of(&Item::Answered(raised).share()?),
+        [1, 2].as_slice()
+    );
+    assert_eq!(rt;
+        body_of(&Item::Early(shared.share()?).share()?),
+        [].as_slice()
+    );
+    assert_eq!(rt; body_of(&Item::Transient(shared).share()?), [].as_slice());
+    Ok(())
+}
+
+fn pool(alloc: Global, laned: bool, lanes: &[LaneSpec]) -> Result<PoolSpec, Fail> {
+    Ok(PoolSpec {
+        laned,
+        lanes: List::from_vec(Vec::from_slice(alloc, lanes)?),
+        borrowing: false,
+        buffering: false,
+        max_requests: 0,
+        max_bytes: 0,
+        run_calls: 65_536,
+        run_bytes: 67_108_864,
+    })
+}
+
+fn lane(level: i16, statics: u8, dynamics: u8) -> Result<LaneSpec, Fail> {
+    Ok(LaneSpec {
+        priority: Priority::new(level).ok_or("a priority")?,
+        statics,
+        dynamics,
+    })
+}
+
+#[test]
+fn pools_are_judged(rt: HostRuntime) -> Result<(), Fail> {
+    let alloc = rt.alloc();
+    let ten = lane(10, 1, 0)?;
+    let twenty = lane(20, 0, 2)?;
+    let empty = lane(30, 0, 0)?;
+    let wide = lane(40, 60, 4)?;
+    for (name, laned, lanes, good) in [
+        ("one lane", false, [ten].as_slice(), true),
+        ("two lanes", true, [ten, twenty].as_slice(), true),
+        (
+            "two lanes without lanes",
+            false,
+            [ten, twenty].as_slice(),
+            false,
+        ),
+        ("falling lanes", true, [twenty, ten].as_slice(), false),
+        ("one priority twice", true, [ten, ten].as_slice(), false),
+        (
+            "a lane without threads",
+            true,
+            [ten, empty].as_slice(),
+            false,
+        ),
+        ("64 threads", true, [wide].as_slice(), true),
+        ("65 threads", true, [ten, wide].as_slice(), false),
+    ] {
+        assert_eq!(rt;
+            pool(alloc, laned, lanes)?.copy(alloc)?.well_formed(),
+            good,
+            "{name}"
+        );
+    }
+    let mut lending = pool(alloc, false, &[ten])?;
+    lending.borrowing = true;
+    assert!(rt; !lending.well_formed());
+    let mut buffered = pool(alloc, true, &[ten])?;
+    buffered.buffering = true;
+    assert!(rt; !buffered.well_formed());
+    buffered.max_requests = 1;
+    buffered.max_bytes = 1;
+    assert!(rt; buffered.well_formed());
+    buffered.run_calls = 65_537;
+    assert!(rt; !buffered.well_formed());
+    Ok(())
+}
+
+#[test]
+fn sources_follow_their_scripts(rt: HostRuntime) -> Result<(), Fail> {
+    let alloc = rt.alloc();
+    let cuts = List::from_vec(Vec::from_slice(alloc, &[1usize, 0, 9])?);
+    let failing = List::from_vec(Vec::from_slice(alloc, &[2u64])?);
+    let mut source = MemSource::new(octets(alloc, b"abcde")?, cuts, failing);
+    for (got, front) in [
+        (Got::Bytes(1), b"a".as_slice()),
+        (Got::Bytes(1), b"b".as_slice()),
+        (Got::Failed, b"".as_slice()),
+        (Got::Bytes(3), b"cde".as_slice()),
+        (Got::End, b"".as_slice()),
+    ] {
+        let (answer, into) = read_three(&mut source);
+        assert_eq!(rt; answer, got);
+        assert!(rt; into.starts_with(front));
+    }
+    let mut steady = SteadySource::new(octets(alloc, b"ab")?, List::new(alloc));
+    assert_eq!(rt; read_three(&mut steady).0, Got::Bytes(2));
+    assert_eq!(rt; read_three(&mut steady).0, Got::End);
+    Ok(())
+}
+
+#[test]
+fn sinks_follow_their_scripts(rt: HostRuntime) -> Result<(), Fail> {
+    let alloc = rt.alloc();
+    let cuts = List::from_vec(Vec::from_slice(alloc, &[2usize])?);
+    let failing = List::from_vec(Vec::from_slice(alloc, &[1u64])?);
+    let mut sink = MemSink::new(alloc, cuts, failing);
+    for put in [Put::Took(2), Put::Failed, Put::Took(3)] {
+        assert_eq!(rt; write_abc(&mut sink), put);
+    }
+    sink.close();
+    assert_eq!(rt; sink.held(), b"ababc".as_slice());
+    let mut counting = CountingSink { bytes: 0 };
+    assert_eq!(rt; write_abc(&mut counting), Put::Took(3));
+    counting.close();
+    assert_eq!(rt; counting.bytes, 3);
+    Ok(())
+}
