@@ -5,7 +5,7 @@ use Rattle.std.specs.Int.{w8, w16, w32}
 use Rattle.orb_base.specs.declared.order.Order.{Order}
 use Rattle.orb_base.specs.declared.order.Order.TheVariants.{Big, Little}
 use Rattle.cdr_core.specs.Field.{Field, number, run, number_bytes, string_fields, octets_fields}
-use Rattle.giop_messages.specs.Message.{Context, Target, key, Request, Reply, Message, request, reply, close, error}
+use Rattle.giop_messages.specs.Message.{Context, Target, key, Message, request, reply, close, error}
 
 -- 'GIOP'
 abbrev pub magic : List ℕ

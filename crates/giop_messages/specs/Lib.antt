@@ -4,3 +4,4 @@ pub mod Spelling
 pub mod Reading
 pub mod Exceptions
 pub mod Plain
+pub mod PlainReading

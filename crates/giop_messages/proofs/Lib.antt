@@ -1,0 +1,5 @@
+pub mod StandardFacts
+pub mod Taking
+pub mod PlainLaws
+pub mod ReadingLaws
+pub mod WritingLaws
