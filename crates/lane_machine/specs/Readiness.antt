@@ -1,5 +1,5 @@
 -- When a call of the lane machine is answered, and what its caller keeps.
-use Rattle.std.specs.Prelude.{◌≡◌, ◌≤◌, ℕ, zero, suc, ◌+◌, Bool, true, false, ◌==◌, ◌&&◌, ◌||◌, nat_le, List, Option, Some, None, is_some, count_by, slice_get}
+use Rattle.std.specs.Prelude.{◌≡◌, ◌≤◌, ℕ, zero, suc, ◌+◌, Bool, true, false, ◌==◌, ◌&&◌, ◌||◌, nat_le, Option, Some, None, is_some, count_by, slice_get}
 use Rattle.std.specs.List.{list_any}
 use Rattle.orb_base.specs.Outcomes.{body_len}
 use Rattle.orb_base.specs.declared.limits.TheConstants.{MAX_OWED, MAX_BODY}

@@ -1,6 +1,6 @@
 -- The state of the lane machine: Real-time CORBA 1.2, Threadpools. It is one list of all threads and one of all waiting
 -- requests; an engine may keep masks and queues, which stand for these lists.
-use Rattle.std.specs.Prelude.{◌≡◌, ◌+◌, ◌*◌, ◌≤◌, ℕ, zero, suc, Bool, true, false, List, [], ◌∷◌, ◌++◌, replicate}
+use Rattle.std.specs.Prelude.{◌≡◌, ◌+◌, ◌*◌, ◌≤◌, ℕ, Bool, true, false, List, [], ◌∷◌, ◌++◌, replicate}
 use Rattle.orb_base.specs.Pool.{Pool, IsWellFormed}
 use Rattle.orb_base.specs.declared.limits.TheConstants.{MAX_SLOTS, MAX_CONNECTIONS}
 use Rattle.orb_base.specs.declared.lane_spec.LaneSpec.{LaneSpec}
