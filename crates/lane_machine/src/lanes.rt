@@ -1,8 +1,8 @@
-//! The lane machine: threads, what they do, and what is owed to each connection.
+//! The lane machine: the threads of a pool, what they do, and what is owed to each connection.
 //!
 //! A call that fails for want of memory leaves the machine as it was: what takes memory comes before what changes.
-ghost use Rattle.std.specs.Prelude.{◌≡◌, ◌≤◌, ◌<◌, true, false, ◌==◌, ◌&&◌, ◌||◌, is_some, slice_get, IfOk};
-ghost use Rattle.lane_machine.specs.State.{State, CanOpen, opening, pool_threads};
+ghost use Rattle.std.specs.Prelude.{◌≡◌, true, false, ◌==◌, ◌&&◌, ◌||◌, is_some, slice_get, IfOk};
+ghost use Rattle.lane_machine.specs.State.{CanOpen, opening};
 ghost use Rattle.lane_machine.specs.Machine.{step, item_place, end_of};
 ghost use Rattle.lane_machine.specs.Readiness.{is_ready, IsSound, owed, can_take};
 ghost use Rattle.lane_machine.specs.Histories.{Steps};
@@ -12,15 +12,18 @@ use crate::doing::Doing;
 use crate::look;
 use crate::thread::{LaneThread, all_threads};
 use orb_base::limits::MAX_OWED;
-use orb_base::{ConnId, Item, Job, List, NoMemory, PoolSpec};
+use orb_base::{ConnId, Item, List, NoMemory, PoolSpec};
 use std::alloc::Global;
 use std::marker::Model;
 
 mod finishing;
 mod handing;
 mod offering;
+#[cfg(test)]
+mod tests;
 
-/// The threads of a pool, what is owed to its connections, and the counts of its run.
+/// The lane machine: the threads of a pool, what is owed to the connections of its slots, and the counts of its run
+/// (Real-time CORBA 1.2, Threadpools).
 #[derive(Debug, Drop)]
 pub struct Lanes {
     pool: PoolSpec,
@@ -61,7 +64,7 @@ impl Model for Lanes {
 }
 
 impl Lanes {
-    /// Opens the machine over a pool that lets no request wait. Takes memory for its threads.
+    /// Opens the machine over a pool whose requests don't wait. Takes memory for the threads and a copy of the pool.
     pub fn new(alloc: Global, pool: &PoolSpec, slots: u8, per_slot: u8) -> Result<Lanes, NoMemory>
         requires can { CanOpen pool.now slots per_slot }
         requires unbuffered { pool.now.buffering ≡ false }
@@ -82,8 +85,8 @@ impl Lanes {
         })
     }
 
-    /// Whether the call is answered now; else it waits. Takes no memory. Work grows with the threads and with what is
-    /// owed.
+    /// Whether the call is answered now; else it waits. Takes no memory. Work grows with the threads, with what is
+    /// owed to all connections, and with the connections that ended.
     pub fn ready(&self, call: &LaneCall) -> bool
         ensures { result ≡ is_ready self.now call.now }
     {
@@ -98,7 +101,7 @@ impl Lanes {
     }
 
     /// Answers a call, with the reply twice: one for the history, one for the caller. For want of memory nothing
-    /// changes.
+    /// changes. Takes memory for shares and for what grows; work is as with `ready`.
     pub fn apply(&mut self, call: &LaneCall) -> Result<(LaneReply, LaneReply), NoMemory>
         requires ready { is_ready self.old call.now ≡ true }
         requires sound { IsSound self.old call.now }

@@ -1,11 +1,9 @@
 //! Threads of lanes, by what they do.
-ghost use Rattle.std.specs.Prelude.{◌≡◌, true};
-ghost use Rattle.std.specs.Prelude.{◌≤◌, OnOk, length};
+ghost use Rattle.std.specs.Prelude.{◌≡◌, ◌≤◌, true, OnOk, length};
 ghost use Rattle.lane_machine.specs.Choice.{is_free, may_run, can_start, rank};
 ghost use Rattle.lane_machine.specs.State.{some_threads, pool_threads};
 ghost use Rattle.lane_machine.specs.Readiness.{works_for};
 ghost use Rattle.lane_machine.specs.Building.{IsBuilt, IsGrown};
-ghost use Rattle.lane_machine.specs.Readiness.{works_for};
 
 use crate::doing::Doing;
 use crate::look::{caller_of, is_same};

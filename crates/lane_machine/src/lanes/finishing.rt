@@ -1,7 +1,6 @@
 //! Threads that take their tasks and finish them.
-ghost use Rattle.std.specs.Prelude.{◌≡◌, ◌≤◌, ◌<◌, ◌+◌, slice_get, length, IsSomeAnd, OnOk, OnErr};
-ghost use Rattle.orb_base.specs.Outcomes.{body_len};
-ghost use Rattle.lane_machine.specs.Machine.{step, taken, finished, late_items, add_items, set_thread};
+ghost use Rattle.std.specs.Prelude.{◌≡◌, ◌≤◌, ◌+◌, slice_get, IsSomeAnd, OnOk, OnErr};
+ghost use Rattle.lane_machine.specs.Machine.{step, taken, late_items, add_items, set_thread};
 ghost use Rattle.lane_machine.specs.Readiness.{IsSound};
 ghost use Rattle.lane_machine.specs.Histories.{Steps};
 ghost use Rattle.lane_machine.specs.Bounds.{load};

@@ -1,5 +1,5 @@
 //! Requests that are offered: to a thread, or refused.
-ghost use Rattle.std.specs.Prelude.{◌≡◌, ◌≤◌, ◌<◌, ◌+◌, ◌++◌, ◌∷◌, [], not, true, false, ◌==◌, slice_get, slice_set, length, OnOk, OnErr, IfSome, Some, None};
+ghost use Rattle.std.specs.Prelude.{◌≡◌, ◌<◌, ◌∷◌, [], false, slice_get, length, OnOk, OnErr, IfSome};
 ghost use Rattle.lane_machine.specs.Choice.{chosen_thread};
 ghost use Rattle.lane_machine.specs.Machine.{step, placed, run_by, kept_or_full, has_room, heard, is_over, early_items, refusals, add_items, set_thread};
 ghost use Rattle.lane_machine.specs.Histories.{Steps};
@@ -35,7 +35,8 @@ impl Lanes {
     /// Gives the request to the chosen thread, or refuses it.
     fn place(&mut self, job: &Arc<Job>) -> Result<(LaneReply, LaneReply), NoMemory>
         requires { is_over self.old job.now.size ≡ false }
-        ensures { Steps self.old (placed (heard self.old job.now.size) job.now (chosen_thread self.old.pool.borrowing job.now.lane self.old.threads)) self.new result }
+        ensures { let s = heard self.old job.now.size in
+            Steps self.old (placed s job.now (chosen_thread s.pool.borrowing job.now.lane s.threads)) self.new result }
     {
         match self.choose(lane_of(job.get())) {
             Some(at) => self.run(at, job),
@@ -55,7 +56,8 @@ impl Lanes {
     fn run(&mut self, at: usize, job: &Arc<Job>) -> Result<(LaneReply, LaneReply), NoMemory>
         requires under { is_over self.old job.now.size ≡ false }
         requires there { at < length self.old.threads }
-        ensures { Steps self.old (run_by (heard self.old job.now.size) job.now at (slice_get self.old.threads at)) self.new result }
+        ensures { let s = heard self.old job.now.size in
+            Steps self.old (run_by s job.now at (slice_get s.threads at)) self.new result }
     {
         let thread = &self.threads.as_slice()[at];
         let lent = thread.lane != lane_of(job.get());
@@ -84,7 +86,8 @@ impl Lanes {
     /// Refuses the request.
     fn refuse(&mut self, job: &Arc<Job>) -> Result<(LaneReply, LaneReply), NoMemory>
         requires { is_over self.old job.now.size ≡ false }
-        ensures { let s = heard self.old job.now.size in Steps self.old (kept_or_full s job.now (has_room s job.now)) self.new result }
+        ensures { let s = heard self.old job.now.size in
+            Steps self.old (kept_or_full s job.now (has_room s job.now)) self.new result }
     {
         self.note_refusal(job)?;
         self.hear(size_of(job.get()));
