@@ -12,7 +12,7 @@ use Rattle.cdr_core.proofs.SpellingLaws.{length-fields, fields_spell, fields-app
 use Rattle.giop_messages.specs.Message.{Message, request, reply, close, error, kind_of, Fits, FitsRequest, FitContexts}
 use Rattle.giop_messages.specs.Layout.{order_flag, named_fields, body_fields, body_of}
 use Rattle.giop_messages.specs.Spelling.{all_fields, framed, spelled}
-use Rattle.giop_messages.specs.Reading.{HasBody, Reads}
+use Rattle.giop_messages.specs.Reading.{HasBody, ReadsIn}
 use Rattle.giop_messages.specs.Plain.{plain}
 use Rattle.giop_messages.proofs.PlainLaws.{inner_is, plain_size}
 
@@ -43,29 +43,27 @@ has_body order (reply r) here place same = behind_pad order here place r.body sa
 has_body order close here place same = tt
 has_body order error here place same = tt
 
-pub spelled_reads : (order : Order) (message : Message) → Fits message → length (fields_bytes order 12 (all_fields message)) < 2 ^ 32 → Reads message (spelled order message)
+pub spelled_reads : (order : Order) (message : Message) → Fits message → length (fields_bytes order 12 (all_fields message)) < 2 ^ 32 → ReadsIn order message (spelled order message)
 spelled_reads order message fits size =
     let names = named_fields (0 ∷ 0 ∷ 0 ∷ []) message in
     let named = fields_bytes order 12 names in
     let rest = fields_bytes order (fields_end 12 names) (body_fields (body_of message)) in
-    let both : fields_bytes order 12 (all_fields message) ≡ named ++ rest = fields-append order 12 names (body_fields (body_of message)) in (
-      order,
-      record {
-        flags = order_flag order;
-        reserved = 0 ∷ 0 ∷ 0 ∷ [];
-        named = named;
-        rest = rest;
-        octet = flag_fits order;
-        order_bit = flag_bit order;
-        whole = flag_whole order;
-        three = refl;
-        size = omega (arith, size, ap length both);
-        parts = ap (framed order (kind_of message)) both;
-        fields = fields_spell order 12 names;
-        body = has_body order message (12 + length named) (fields_end 12 names) (length-fields order 12 names);
-        fits = fits;
-      },
-    )
+    let both : fields_bytes order 12 (all_fields message) ≡ named ++ rest = fields-append order 12 names (body_fields (body_of message)) in
+    record {
+      flags = order_flag order;
+      reserved = 0 ∷ 0 ∷ 0 ∷ [];
+      named = named;
+      rest = rest;
+      octet = flag_fits order;
+      order_bit = flag_bit order;
+      whole = flag_whole order;
+      three = refl;
+      size = omega (arith, size, ap length both);
+      parts = ap (framed order (kind_of message)) both;
+      fields = fields_spell order 12 names;
+      body = has_body order message (12 + length named) (fields_end 12 names) (length-fields order 12 names);
+      fits = fits;
+    }
 
 no_contexts : FitContexts []
 no_contexts = record { few = lit< tt; each = All-nil _ }
@@ -80,6 +78,6 @@ fits_plain id key id_fits key_fits = record {
   contexts = no_contexts;
 }
 
-pub plain_reads : (id : ℕ) (key : List ℕ) → id < 2 ^ 32 → length key < 2 ^ 31 → Reads (request (plain id key)) (spelled Big (request (plain id key)))
+pub plain_reads : (id : ℕ) (key : List ℕ) → id < 2 ^ 32 → length key < 2 ^ 31 → ReadsIn Big (request (plain id key)) (spelled Big (request (plain id key)))
 plain_reads id key id_fits key_fits =
     spelled_reads Big (request (plain id key)) (fits_plain id key id_fits key_fits) (omega (arith, plain_size id key, ap length (inner_is id key)))

@@ -5,18 +5,18 @@ ghost use Rattle.orb_base.specs.declared.order.Order.TheVariants.{Big};
 ghost use Rattle.cdr_core.specs.Spelling.{fields_bytes};
 ghost use Rattle.giop_messages.specs.Message.{Message, Fits, request};
 ghost use Rattle.giop_messages.specs.Spelling.{spelled, all_fields};
-ghost use Rattle.giop_messages.specs.Reading.{Reads};
+ghost use Rattle.giop_messages.specs.Reading.{ReadsIn};
 ghost use Rattle.giop_messages.specs.Plain.{plain};
 
 /// What a message is spelled as is read as that message, in either order.
 pub fn spelled_is_read()
     ensures { (order : Order) (message : Message) → Fits message
         → length (fields_bytes order 12 (all_fields message)) < 2 ^ 32
-        → Reads message (spelled order message) }
+        → ReadsIn order message (spelled order message) }
 {}
 
 /// What a plain request is spelled as is read as that request.
 pub fn plain_request_is_read()
     ensures { (id : ℕ) (key : List ℕ) → id < 2 ^ 32 → length key < 2 ^ 31
-        → Reads (request (plain id key)) (spelled Big (request (plain id key))) }
+        → ReadsIn Big (request (plain id key)) (spelled Big (request (plain id key))) }
 {}

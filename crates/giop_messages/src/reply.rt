@@ -6,6 +6,7 @@ ghost use Rattle.giop_messages.specs.Spelling.{spelled};
 ghost use Rattle.giop_messages.specs.Plain.{bare};
 
 use crate::writer::put_u32;
+use orb_base::limits::MAX_BODY;
 use orb_base::{List, NoMemory, Octets};
 use std::alloc::Global;
 
@@ -18,11 +19,11 @@ const HEADER_LEN: usize = 12;
 /// Bytes of a reply's id, status and number of service contexts.
 const NAMED_LEN: usize = 12;
 
-/// Writes one big-endian GIOP 1.2 Reply without contexts. The body, of at most 1024 bytes, begins
+/// Writes one big-endian GIOP 1.2 Reply without contexts. The body, of at most `MAX_BODY` bytes, begins
 /// at place 24; an empty one takes no place.
 pub fn plain_reply(alloc: Global, id: u32, status: u32, body: &[u8]) -> Result<Octets, NoMemory>
     requires status { status ≤ 5 }
-    requires body { length body.now ≤ 1024 }
+    requires body { length body.now ≤ MAX_BODY }
     ensures { IfOk result (λ o. o.items ≡ spelled Big (reply (bare id status body.now))) }
 {
     let mut out = List::new(alloc);
