@@ -1,0 +1,47 @@
+//! A source over a reader of the standard library.
+ghost use Rattle.std.specs.Prelude.{None};
+
+use orb_base::{Got, Source};
+use std::io::Read;
+
+/// A reader with its counts. It tells no content, since nothing is known of what a real stream holds.
+#[derive(Drop)]
+pub struct StdSource<R: Read + Drop> {
+    reader: R,
+    faults: u64,
+    ends: u64,
+}
+
+impl<R: Read + Drop> StdSource<R> {
+    pub fn new(reader: R) -> StdSource<R> {
+        StdSource {
+            reader,
+            faults: 0,
+            ends: 0,
+        }
+    }
+}
+
+impl<R: Read + Drop> Source for StdSource<R> {
+    ghost left = { λ _. None };
+
+    ghost taken = { λ _. None };
+
+    ghost faults = { λ s. s.faults };
+
+    ghost ends = { λ s. s.ends };
+
+    fn read(&mut self, into: &mut [u8]) -> Got {
+        match self.reader.read(into) {
+            Ok(0) => {
+                self.ends = self.ends.saturating_add(1);
+                Got::End
+            }
+            Ok(n) => Got::Bytes(n),
+            Err(_) => {
+                self.faults = self.faults.saturating_add(1);
+                Got::Failed
+            }
+        }
+    }
+}

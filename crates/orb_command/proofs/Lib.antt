@@ -1,0 +1,7 @@
+pub mod StandardFacts
+pub mod OneRequest
+pub mod StreamLaws
+pub mod BuiltInput
+pub mod Turns
+pub mod PipedLaws
+pub mod CommandLaws

@@ -1,0 +1,54 @@
+-- What the bytes of a connection mean to the lane machine. So far they are nothing, or one request that is offered;
+-- later pieces add cases.
+use Rattle.std.specs.Prelude.{◌≡◌, ℕ, ◌==◌, ◌%◌, if◌then◌else◌, List, [], ◌∷◌, Option, Some, None, length, slice_get}
+use Rattle.orb_base.specs.Priorities.{mandated, lane_of}
+use Rattle.orb_base.specs.JobRecord.{JobRecord}
+use Rattle.orb_base.specs.declared.conn_id.ConnId.{ConnId}
+use Rattle.orb_base.specs.declared.due.Due.{Due}
+use Rattle.orb_base.specs.declared.due.Due.TheVariants as due
+use Rattle.orb_base.specs.declared.order.Order.{Order}
+use Rattle.giop_messages.specs.Message.{Request, key, request}
+use Rattle.giop_messages.specs.Reading.{ReadsIn}
+use Rattle.lane_machine.specs.declared.call.LaneCall.{LaneCall}
+use Rattle.lane_machine.specs.declared.call.LaneCall.TheVariants.{Offer}
+use Rattle.lane_machine.specs.declared.call.How.{How}
+use Rattle.lane_machine.specs.declared.call.How.TheVariants.{Quiet}
+use Rattle.orb_command.specs.Setup.{Setup, Object}
+
+-- when a reply is due, by the response flags: CORBA 3.0.3, section 15.4.2
+abbrev pub due_of : ℕ → Due
+due_of flags = if flags % 2 == 0 then due.Nothing else (if flags == 1 then due.Early else due.Late)
+
+-- the job of a request that passed every judgement, as the call of this number of its connection
+abbrev pub job_of : ConnId → ℕ → Order → ℕ → Request → ℕ → ℕ → ℕ → JobRecord
+job_of conn serial order size r target level lane = record {
+  conn = conn;
+  serial = serial;
+  id = r.id;
+  order = order;
+  due = due_of r.flags;
+  priority = level;
+  lane = lane;
+  size = size;
+  target = target;
+  operation = r.operation;
+  body = r.body;
+}
+
+-- the request passes every judgement, and means this call. Its key is that of an object; it has no contexts, so that no
+-- priority was sent and no band is bound; and a lane takes its mandated priority.
+pub record IsOffered (setup : Setup) (conn : ConnId) (serial : ℕ) (order : Order) (size : ℕ) (r : Request) (call : LaneCall) : Type 0 where
+  pub target : ℕ
+  pub object : Object
+  pub lane : ℕ
+  pub known : slice_get setup.objects target ≡ Some object
+  pub addressed : r.target ≡ key object.object_key
+  pub plain : r.contexts ≡ []
+  pub placed : lane_of setup.pool (mandated object.model object.server None) ≡ Some lane
+  pub meant : call ≡ Offer (job_of conn serial order size r target (mandated object.model object.server None) lane)
+
+-- the whole input of a connection means these calls, and ends so
+pub data Hears (setup : Setup) (conn : ConnId) (bytes : List ℕ) (calls : List LaneCall) (how : How) : Type 0 where
+  nothing : bytes ≡ [] → calls ≡ [] → how ≡ Quiet → Hears setup conn bytes calls how
+  one : (order : Order) (r : Request) (call : LaneCall) → ReadsIn order (request r) bytes
+      → IsOffered setup conn 0 order (length bytes) r call → calls ≡ call ∷ [] → how ≡ Quiet → Hears setup conn bytes calls how

@@ -1,0 +1,12 @@
+pub mod Setup
+pub mod Ping
+pub mod Heard
+pub mod Said
+pub mod Piped
+pub mod Built
+pub mod PingRun
+pub mod Hearing
+pub mod Words
+pub mod Streams
+pub mod Pipe
+pub mod Command

@@ -1,0 +1,13 @@
+-- What an object of the interface Orb::Ping answers: `current` returns the priority at which it runs, as a short.
+use Rattle.std.specs.Prelude.{ℕ, List, if◌then◌else◌, codes}
+use Rattle.std.specs.Str.{bytes_eq}
+use Rattle.std.specs.Int.{w16}
+use Rattle.orb_base.specs.Outcomes.{bad_operation}
+use Rattle.orb_base.specs.JobRecord.{JobRecord}
+use Rattle.orb_base.specs.declared.outcome.Outcome.{Outcome}
+use Rattle.orb_base.specs.declared.outcome.Outcome.TheVariants.{Returned}
+use Rattle.cdr_core.specs.Field.{number_bytes}
+
+abbrev pub ping_outcome : List ℕ → JobRecord → Outcome
+ping_outcome interface job =
+    if bytes_eq job.operation (codes "current") then Returned (number_bytes job.order w16 job.priority) else bad_operation

@@ -1,0 +1,118 @@
+-- What the pipe answers: one connection, whose calls are applied in groups. Behind each group, and behind the end, the
+-- threads are run to rest and all items are collected; behind the end the connection collects once more. Own profile.
+use Rattle.std.specs.Prelude.{ℕ, zero, suc, ◌+◌, ◌-◌, ◌==◌, Bool, true, false, not, if◌then◌else◌, List, [], ◌∷◌, ◌++◌, Option, Some, None, length, position, count_by}
+use Rattle.std.specs.List.{list_any}
+use Rattle.orb_base.specs.Outcomes.{no_memory}
+use Rattle.orb_base.specs.JobRecord.{JobRecord}
+use Rattle.orb_base.specs.declared.conn_id.ConnId.{ConnId}
+use Rattle.orb_base.specs.declared.outcome.Outcome.{Outcome}
+use Rattle.lane_machine.specs.declared.call.How.{How}
+use Rattle.lane_machine.specs.declared.call.How.TheVariants.{Shut}
+use Rattle.lane_machine.specs.declared.call.LaneCall.{LaneCall}
+use Rattle.lane_machine.specs.declared.call.LaneCall.TheVariants.{Take, Finish, Collect, End}
+use Rattle.lane_machine.specs.declared.call.LaneReply.{LaneReply}
+use Rattle.lane_machine.specs.declared.call.LaneReply.TheVariants as reply
+use Rattle.lane_machine.specs.declared.doing.Doing.{Doing}
+use Rattle.lane_machine.specs.declared.doing.Doing.TheVariants.{Free, Given, Busy}
+use Rattle.lane_machine.specs.State.{Thread, State, opening}
+use Rattle.lane_machine.specs.Choice.{is_free}
+use Rattle.lane_machine.specs.Machine.{step, item_place}
+use Rattle.lane_machine.specs.Readiness.{is_ready}
+use Rattle.lane_machine.specs.Histories.{History}
+use Rattle.orb_command.specs.Setup.{Setup, interface_of, pipe_conn}
+use Rattle.orb_command.specs.Said.{said}
+
+-- where a run stands: its state, and the history that led to it
+pub record Run : Type 0 where
+  pub state : State
+  pub history : History
+
+-- one more call of the one caller, number 0
+abbrev pub applied : Run → LaneCall → Run
+applied run call = record {
+  state = (step run.state call).0;
+  history = run.history ++ record { caller = 0; call = call; reply = (step run.state call).1 } ∷ [];
+}
+
+-- the number of the first thread with a task that it hasn't taken yet
+abbrev pub is_given : Doing → Bool
+is_given (Given _) = true
+is_given Free = false
+is_given (Busy _) = false
+
+abbrev pub first_given : State → Option ℕ
+first_given s = position (λ thread. is_given thread.doing) s.threads
+
+-- a turn: that thread takes its task, and finishes it with the servant's answer
+abbrev pub finished_by : (JobRecord → Outcome) → Run → ℕ → LaneReply → Run
+finished_by servant run t (reply.Given job) = applied run (Finish t (record { job = job; outcome = servant job }))
+finished_by servant run t _ = run
+
+abbrev pub turned : (JobRecord → Outcome) → Run → Option ℕ → Run
+turned servant run (Some t) = finished_by servant (applied run (Take t)) t (step run.state (Take t)).1
+turned servant run None = run
+
+abbrev pub rested_after : (JobRecord → Outcome) → ℕ → Run → Run
+rested_after servant zero run = run
+rested_after servant (suc turns) run = rested_after servant turns (turned servant run (first_given run.state))
+
+-- turns until no task is given; each finishes one of the requests in hand
+abbrev pub in_hand : State → ℕ
+in_hand s = length s.waiting + count_by (λ thread. not (is_free thread.doing)) s.threads
+
+abbrev pub rested : (JobRecord → Outcome) → Run → Run
+rested servant run = rested_after servant (in_hand run.state) run
+
+-- the next item of the connection is collected, where there is one
+abbrev pub collected : ConnId → Run → Option ℕ → Run
+collected conn run (Some _) = applied run (Collect conn)
+collected conn run None = run
+
+abbrev pub emptied_after : ConnId → ℕ → Run → Run
+emptied_after conn zero run = run
+emptied_after conn (suc items) run = emptied_after conn items (collected conn run (item_place run.state conn))
+
+abbrev pub emptied : ConnId → Run → Run
+emptied conn run = emptied_after conn (length run.state.out) run
+
+-- the end of a group
+abbrev pub settled : (JobRecord → Outcome) → Run → Run
+settled servant run = emptied pipe_conn (rested servant run)
+
+-- a group ends before a call that isn't ready, behind its `batch`-th call, and behind one that was answered Closing;
+-- `room` is how many calls more fit into the open group
+abbrev pub before_call : (JobRecord → Outcome) → Run → LaneCall → Run
+before_call servant run call = if is_ready run.state call then run else settled servant run
+
+abbrev pub room_behind : ℕ → ℕ → Run → LaneCall → ℕ
+room_behind batch room run call = (if is_ready run.state call then room else batch) - 1
+
+abbrev pub behind_call : (JobRecord → Outcome) → ℕ → Run → Run
+behind_call servant room run = if room == 0 then settled servant run else run
+
+abbrev pub grouped : (JobRecord → Outcome) → ℕ → ℕ → Run → List LaneCall → Run
+grouped servant batch room run [] = settled servant run
+grouped servant batch room run (call ∷ calls) =
+    let left = room_behind batch room run call in
+    if run.state.closing then settled servant run
+    else grouped servant batch (if left == 0 then batch else left) (behind_call servant left (applied (before_call servant run call) call)) calls
+
+-- the end of the connection: by closing where that holds
+abbrev pub closed_by : (JobRecord → Outcome) → How → Run → Run
+closed_by servant how run =
+    applied (settled servant (applied run (End pipe_conn (if run.state.closing then Shut else how)))) (Collect pipe_conn)
+
+-- a servant answers the outcome, or NO_MEMORY to the jobs with these serials
+abbrev pub answer_of : Setup → (List ℕ → JobRecord → Outcome) → List ℕ → JobRecord → Outcome
+answer_of setup outcome lacks job =
+    if list_any (λ serial. serial == job.serial) lacks then no_memory else outcome (interface_of setup job.target) job
+
+-- the run of the pipe
+abbrev pub piped : Setup → (List ℕ → JobRecord → Outcome) → ℕ → List LaneCall → How → List ℕ → Run
+piped setup outcome batch calls how lacks =
+    let servant = answer_of setup outcome lacks in
+    closed_by servant how (grouped servant batch batch (record { state = opening setup.pool setup.slots setup.per_slot; history = [] }) calls)
+
+-- the bytes that it writes
+abbrev pub piped_bytes : Setup → (List ℕ → JobRecord → Outcome) → ℕ → List LaneCall → How → List ℕ → List ℕ
+piped_bytes setup outcome batch calls how lacks = said pipe_conn (piped setup outcome batch calls how lacks).history

@@ -1,0 +1,44 @@
+-- What a whole read and a whole write do to what a source and a sink tell.
+use Rattle.std.specs.Prelude.{◌≡◌, ◌≤◌, ◌<◌, ℕ, List, [], ◌++◌, Option, length, option_map, IfSome}
+use Rattle.orb_base.specs.Outside.{Told, Rose}
+use Rattle.orb_command.specs.declared.read_all.ReadAll.{ReadAll}
+use Rattle.orb_command.specs.declared.read_all.ReadAll.TheVariants as read
+use Rattle.orb_command.specs.declared.write_all.WriteAll.{WriteAll}
+use Rattle.orb_command.specs.declared.write_all.WriteAll.TheVariants as write
+use Rattle.orb_command.specs.declared.read_all.TheConstants.{MAX_PIPED}
+
+-- these bytes went from what is left to what was taken
+pub record Gave (bytes : List ℕ) (left left' taken taken' : Told) : Type 0 where
+  pub from_left : left ≡ option_map (λ rest. bytes ++ rest) left'
+  pub to_taken : taken' ≡ option_map (λ seen. seen ++ bytes) taken
+
+-- at most so many bytes did
+pub record GaveFew (limit : ℕ) (left left' taken taken' : Told) : Type 0 where
+  pub bytes : List ℕ
+  pub few : length bytes ≤ limit
+  pub gave : Gave bytes left left' taken taken'
+
+-- a front of the bytes was written, and this is the rest
+pub record WroteSome (bytes rest : List ℕ) (held held' : Told) : Type 0 where
+  pub front : List ℕ
+  pub parts : bytes ≡ front ++ rest
+  pub wrote : held' ≡ option_map (λ h. h ++ front) held
+
+-- a whole input of at most MAX_PIPED bytes was read to its end, or a longer one was met
+abbrev pub ReadsAll : ReadAll → Told → Type 0
+ReadsAll (read.Whole bytes) left = (length bytes.items ≤ MAX_PIPED) × IfSome left (λ input. input ≡ bytes.items)
+ReadsAll read.TooLong left = IfSome left (λ input. MAX_PIPED < length input)
+ReadsAll read.Failed left = Unit {0}
+ReadsAll read.NoMemory left = Unit {0}
+
+-- an end was met where the whole is there, and a fault where the read failed; pairs are a count before and after
+abbrev pub CountsReadAll : ReadAll → ℕ × ℕ → ℕ × ℕ → Type 0
+CountsReadAll (read.Whole _) faults ends = Rose ends.0 ends.1
+CountsReadAll read.Failed faults ends = Rose faults.0 faults.1
+CountsReadAll read.TooLong faults ends = Unit {0}
+CountsReadAll read.NoMemory faults ends = Unit {0}
+
+-- all bytes were written, or a front of them up to a fault
+abbrev pub WritesAll : WriteAll → List ℕ → Told → Told → ℕ × ℕ → Type 0
+WritesAll write.Whole bytes held held' faults = held' ≡ option_map (λ h. h ++ bytes) held
+WritesAll write.Failed bytes held held' faults = ((rest : List ℕ) × WroteSome bytes rest held held') × Rose faults.0 faults.1

@@ -1,0 +1,77 @@
+//! The top call.
+ghost use Rattle.std.specs.Prelude.{◌≡◌, ◌+◌, string_bytes};
+ghost use Rattle.orb_command.specs.Words.{command_of};
+ghost use Rattle.orb_command.specs.Ping.{ping_outcome};
+ghost use Rattle.orb_command.specs.Streams.{GaveFew};
+ghost use Rattle.orb_command.specs.Command.{Answers, status_of, note_of};
+
+use crate::answered::Answered;
+use crate::ends::{PipeFault, Piped, ReadEnd, WriteEnd};
+use crate::meaning::Meaning;
+use crate::note::Note;
+use crate::ping::Ping;
+use crate::pipe::pipe_run;
+use crate::read_all::MAX_PIPED;
+use crate::words::read_words;
+use orb_base::{Sink, Source};
+use std::alloc::Global;
+
+/// The note with its status.
+fn answered(note: Note) -> Answered
+    ensures note { result.note ≡ note }
+    ensures status { result.status ≡ status_of note }
+{
+    let status = match note {
+        Note::Nothing => 0,
+        Note::Usage => 1,
+        Note::ReadFault => 3,
+        Note::WriteFault => 4,
+        Note::Memory => 12,
+        Note::NotBuilt => 14,
+    };
+    Answered { status, note }
+}
+
+/// The note of a run of the pipe.
+fn note_for(ran: Result<Piped, PipeFault>) -> Note
+    ensures { result ≡ note_of ran }
+{
+    match ran {
+        Ok(piped) => match piped.read {
+            ReadEnd::Ended => match piped.write {
+                WriteEnd::Done => Note::Nothing,
+                WriteEnd::WriteFault => Note::WriteFault,
+            },
+            ReadEnd::ReadFault => Note::ReadFault,
+            ReadEnd::Stopped => Note::WriteFault,
+        },
+        Err(PipeFault::NotBuilt) => Note::NotBuilt,
+        Err(PipeFault::NoMemory) => Note::Memory,
+    }
+}
+
+/// Does all that the program does: reads the words, runs the command over the input and the output, and answers the
+/// status with its note. `pipe` answers each request of its input; the other commands aren't built yet. It returns
+/// where each read and write returns.
+#[tactic(auto, using(crate::proofs::CommandLaws::pipes_answers, crate::proofs::StreamLaws::gave_none))]
+pub fn orb_main<I: Source, O: Sink>(
+    alloc: Global,
+    words: &[String],
+    input: &mut I,
+    out: &mut O,
+) -> Answered
+    // The status is that of the note, and each note has its cause: 0 exactly where an input of the built form was read
+    // to its end and its whole answer was written; 1 exactly where the words mean no command; 14 exactly where they
+    // mean one that isn't built, or the input isn't of the built form; 3 and 4 only where a count of faults rose.
+    ensures status { result.status ≡ status_of result.note }
+    ensures answers { Answers result.note (command_of string_bytes words.now) (I.left input.old) (O.held out.old) (O.held out.new)
+        (I.faults input.old, I.faults input.new) (I.ends input.old, I.ends input.new) (O.faults out.old, O.faults out.new) }
+    // An input is taken no further than it takes to see that it is too long.
+    ensures few { GaveFew (MAX_PIPED + 1) (I.left input.old) (I.left input.new) (I.taken input.old) (I.taken input.new) }
+{
+    match read_words(words) {
+        Meaning::Pipe => answered(note_for(pipe_run(alloc, input, out, &Ping::new(alloc)))),
+        Meaning::Unbuilt => answered(Note::NotBuilt),
+        Meaning::Unread => answered(Note::Usage),
+    }
+}

@@ -1,0 +1,28 @@
+//! The top call of the program: it does all that `orb` does, over the source and the sink that it is handed.
+#![tactic(auto)]
+
+mod answered;
+mod command;
+mod ends;
+mod heard;
+mod meaning;
+mod note;
+mod ping;
+mod pipe;
+mod read_all;
+mod request;
+mod setup;
+mod streams;
+mod turn;
+mod words;
+mod write_all;
+
+pub use answered::Answered;
+pub use command::orb_main;
+pub use ends::{PipeFault, Piped, ReadEnd, WriteEnd};
+pub use note::Note;
+pub use pipe::pipe_run;
+pub use read_all::MAX_PIPED;
+
+#[cfg(test)]
+mod tests;

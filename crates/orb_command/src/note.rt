@@ -1,0 +1,18 @@
+//! What a run came to.
+
+/// What a run came to, as the program prints it on standard error.
+#[derive(Clone, Copy, Debug, PartialEq, Eq, Hash)]
+pub enum Note {
+    /// It did what the words say; nothing is printed.
+    Nothing,
+    /// The words have no reading.
+    Usage,
+    /// The input failed.
+    ReadFault,
+    /// The output failed.
+    WriteFault,
+    /// Memory was wanting.
+    Memory,
+    /// The words, or the input, are of a form that isn't built yet.
+    NotBuilt,
+}

@@ -1,0 +1,19 @@
+//! Reading a whole input.
+
+use orb_base::Octets;
+
+/// Bytes of an input that the pipe takes so far.
+pub const MAX_PIPED: usize = 8192;
+
+/// What reading a whole input came to.
+#[derive(Debug, Drop)]
+pub enum ReadAll {
+    /// The bytes, up to the end.
+    Whole(Octets),
+    /// More than `MAX_PIPED` bytes came.
+    TooLong,
+    /// The source failed.
+    Failed,
+    /// Memory was wanting.
+    NoMemory,
+}

@@ -1,0 +1,377 @@
+//! The program over memory: what it reads, writes and answers, and what it does when a device fails.
+ghost use Rattle.orb_base.specs.Outcomes.{bad_operation};
+
+use super::*;
+use orb_base::{
+    Completed, CountingSink, Job, List, MemSink, MemSource, Outcome, Serving, SteadySource, Sys,
+    SysName, Text,
+};
+use std::alloc::Global;
+use std::test::Fail;
+
+/// The request of id 1 for `current` of `ping`, and its reply: the priority 100.
+const PING_REQUEST: &[u8] =
+    b"GIOP\x01\x02\0\0\0\0\0\x24\0\0\0\x01\x03\0\0\0\0\0\0\0\0\0\0\x04ping\0\0\0\x08current\0\0\0\0\0";
+
+const PING_REPLY: &[u8] = b"GIOP\x01\x02\0\x01\0\0\0\x0e\0\0\0\x01\0\0\0\0\0\0\0\0\0\x64";
+
+/// The same of id 4,275,878,552.
+const OTHER_REQUEST: &[u8] =
+    b"GIOP\x01\x02\0\0\0\0\0\x24\xfe\xdc\xba\x98\x03\0\0\0\0\0\0\0\0\0\0\x04ping\0\0\0\x08current\0\0\0\0\0";
+
+const OTHER_REPLY: &[u8] = b"GIOP\x01\x02\0\x01\0\0\0\x0e\xfe\xdc\xba\x98\0\0\0\0\0\0\0\0\0\x64";
+
+/// The request for an unknown key, with a byte too many, and in the other byte order with a priority of 7.
+const PONG_REQUEST: &[u8] =
+    b"GIOP\x01\x02\0\0\0\0\0\x24\0\0\0\x01\x03\0\0\0\0\0\0\0\0\0\0\x04pong\0\0\0\x08current\0\0\0\0\0";
+
+const TRAILING_REQUEST: &[u8] =
+    b"GIOP\x01\x02\0\0\0\0\0\x24\0\0\0\x01\x03\0\0\0\0\0\0\0\0\0\0\x04ping\0\0\0\x08current\0\0\0\0\0\0";
+
+const LITTLE_REQUEST: &[u8] =
+    b"GIOP\x01\x02\x01\0\x30\0\0\0\x01\0\0\0\x03\0\0\0\0\0\0\0\x04\0\0\0ping\x08\0\0\0current\0\x01\0\0\0\x0a\0\0\0\x04\0\0\0\x01\0\x07\0";
+
+/// The reply of id 1 with BAD_OPERATION, minor 1, completed NO.
+const BAD_OPERATION_REPLY: &[u8] =
+    b"GIOP\x01\x02\0\x01\0\0\0\x3c\0\0\0\x01\0\0\0\x02\0\0\0\0\0\0\0\x24IDL:omg.org/CORBA/BAD_OPERATION:1.0\0\0\0\0\x01\0\0\0\x01";
+
+/// One run: the words, the input with its cuts and failing reads, the sink's cuts and failing writes, and what comes.
+#[derive(Clone, Copy)]
+struct Row {
+    name: &'static str,
+    words: &'static [&'static str],
+    input: &'static [u8],
+    reads: &'static [usize],
+    failed_reads: &'static [u64],
+    writes: &'static [usize],
+    failed_writes: &'static [u64],
+    status: u8,
+    note: Note,
+    output: &'static [u8],
+}
+
+/// Reads of one byte each.
+const ONES: &[usize] = &[1; 64];
+
+fn list<T: Copy>(alloc: Global, items: &[T]) -> Result<List<T>, Fail> {
+    Ok(List::from_vec(Vec::from_slice(alloc, items)?))
+}
+
+fn strings(alloc: Global, words: &[&str]) -> Result<Vec<String>, Fail> {
+    let mut all = Vec::new(alloc);
+    for word in words {
+        all.push(String::from_str(alloc, word)?)?;
+    }
+    Ok(all)
+}
+
+/// What a run answers and writes.
+fn ran(alloc: Global, row: &Row) -> Result<(Answered, Vec<u8>), Fail> {
+    let words = strings(alloc, row.words)?;
+    let mut input = MemSource::new(
+        list(alloc, row.input)?,
+        list(alloc, row.reads)?,
+        list(alloc, row.failed_reads)?,
+    );
+    let mut out = MemSink::new(
+        alloc,
+        list(alloc, row.writes)?,
+        list(alloc, row.failed_writes)?,
+    );
+    let answered = orb_main(alloc, words.as_slice(), &mut input, &mut out);
+    Ok((answered, Vec::from_slice(alloc, out.held())?))
+}
+
+#[test]
+fn the_pipe_answers_each_ping(rt: HostRuntime) -> Result<(), Fail> {
+    for row in [
+        Row {
+            name: "a ping",
+            words: &["pipe"],
+            input: PING_REQUEST,
+            reads: &[],
+            failed_reads: &[],
+            writes: &[],
+            failed_writes: &[],
+            status: 0,
+            note: Note::Nothing,
+            output: PING_REPLY,
+        },
+        Row {
+            name: "a ping of another id",
+            words: &["pipe"],
+            input: OTHER_REQUEST,
+            reads: &[],
+            failed_reads: &[],
+            writes: &[],
+            failed_writes: &[],
+            status: 0,
+            note: Note::Nothing,
+            output: OTHER_REPLY,
+        },
+        Row {
+            name: "a ping read byte by byte",
+            words: &["pipe"],
+            input: PING_REQUEST,
+            reads: ONES,
+            failed_reads: &[],
+            writes: &[],
+            failed_writes: &[],
+            status: 0,
+            note: Note::Nothing,
+            output: PING_REPLY,
+        },
+        Row {
+            name: "a reply written byte by byte",
+            words: &["pipe"],
+            input: PING_REQUEST,
+            reads: &[],
+            failed_reads: &[],
+            writes: ONES,
+            failed_writes: &[],
+            status: 0,
+            note: Note::Nothing,
+            output: PING_REPLY,
+        },
+        Row {
+            name: "an empty input",
+            words: &["pipe"],
+            input: b"",
+            reads: &[],
+            failed_reads: &[],
+            writes: &[],
+            failed_writes: &[],
+            status: 0,
+            note: Note::Nothing,
+            output: b"",
+        },
+        Row {
+            name: "a little-endian request",
+            words: &["pipe"],
+            input: LITTLE_REQUEST,
+            reads: &[],
+            failed_reads: &[],
+            writes: &[],
+            failed_writes: &[],
+            status: 14,
+            note: Note::NotBuilt,
+            output: b"",
+        },
+        Row {
+            name: "an unknown key",
+            words: &["pipe"],
+            input: PONG_REQUEST,
+            reads: &[],
+            failed_reads: &[],
+            writes: &[],
+            failed_writes: &[],
+            status: 14,
+            note: Note::NotBuilt,
+            output: b"",
+        },
+        Row {
+            name: "a trailing byte",
+            words: &["pipe"],
+            input: TRAILING_REQUEST,
+            reads: &[],
+            failed_reads: &[],
+            writes: &[],
+            failed_writes: &[],
+            status: 14,
+            note: Note::NotBuilt,
+            output: b"",
+        },
+        Row {
+            name: "8,192 bytes",
+            words: &["pipe"],
+            input: &[0; 8192],
+            reads: &[],
+            failed_reads: &[],
+            writes: &[],
+            failed_writes: &[],
+            status: 14,
+            note: Note::NotBuilt,
+            output: b"",
+        },
+        Row {
+            name: "8,193 bytes",
+            words: &["pipe"],
+            input: &[0; 8193],
+            reads: &[],
+            failed_reads: &[],
+            writes: &[],
+            failed_writes: &[],
+            status: 14,
+            note: Note::NotBuilt,
+            output: b"",
+        },
+        Row {
+            name: "a failed first read",
+            words: &["pipe"],
+            input: PING_REQUEST,
+            reads: &[],
+            failed_reads: &[0],
+            writes: &[],
+            failed_writes: &[],
+            status: 3,
+            note: Note::ReadFault,
+            output: b"",
+        },
+        Row {
+            name: "a failed later read",
+            words: &["pipe"],
+            input: PING_REQUEST,
+            reads: &[40],
+            failed_reads: &[1],
+            writes: &[],
+            failed_writes: &[],
+            status: 3,
+            note: Note::ReadFault,
+            output: b"",
+        },
+        Row {
+            name: "a failed read in place of the end",
+            words: &["pipe"],
+            input: PING_REQUEST,
+            reads: &[48],
+            failed_reads: &[1],
+            writes: &[],
+            failed_writes: &[],
+            status: 3,
+            note: Note::ReadFault,
+            output: b"",
+        },
+        Row {
+            name: "a failed first write",
+            words: &["pipe"],
+            input: PING_REQUEST,
+            reads: &[],
+            failed_reads: &[],
+            writes: &[],
+            failed_writes: &[0],
+            status: 4,
+            note: Note::WriteFault,
+            output: b"",
+        },
+        Row {
+            name: "a failed write behind four bytes",
+            words: &["pipe"],
+            input: PING_REQUEST,
+            reads: &[],
+            failed_reads: &[],
+            writes: &[3, 1],
+            failed_writes: &[2],
+            status: 4,
+            note: Note::WriteFault,
+            output: b"GIOP",
+        },
+    ] {
+        let (answered, output) = ran(rt.alloc(), &row)?;
+        let wanted = Answered {
+            status: row.status,
+            note: row.note,
+        };
+        assert_eq!(rt; answered, wanted, "{}", row.name);
+        assert_eq!(rt; output.as_slice(), row.output, "{}", row.name);
+    }
+    Ok(())
+}
+
+#[test]
+fn words_are_read_first(rt: HostRuntime) -> Result<(), Fail> {
+    for (name, words, status, note) in [
+        ("no words", [].as_slice(), 1, Note::Usage),
+        ("an unknown word", ["ping"].as_slice(), 1, Note::Usage),
+        (
+            "a command behind a word",
+            ["--", "pipe"].as_slice(),
+            1,
+            Note::Usage,
+        ),
+        (
+            "pipe with an option",
+            ["pipe", "--batch"].as_slice(),
+            14,
+            Note::NotBuilt,
+        ),
+        ("serve alone", ["serve"].as_slice(), 14, Note::NotBuilt),
+        ("call alone", ["call"].as_slice(), 14, Note::NotBuilt),
+        ("refs alone", ["refs"].as_slice(), 14, Note::NotBuilt),
+        ("dump alone", ["dump"].as_slice(), 14, Note::NotBuilt),
+        ("idl alone", ["idl"].as_slice(), 14, Note::NotBuilt),
+        ("load alone", ["load"].as_slice(), 14, Note::NotBuilt),
+    ] {
+        let row = Row {
+            name,
+            words,
+            input: PING_REQUEST,
+            reads: &[],
+            failed_reads: &[],
+            writes: &[],
+            failed_writes: &[],
+            status,
+            note,
+            output: b"",
+        };
+        let (answered, output) = ran(rt.alloc(), &row)?;
+        assert_eq!(rt; answered, Answered { status, note }, "{name}");
+        assert_eq!(rt; output.len(), 0, "{name}");
+    }
+    Ok(())
+}
+
+/// Ids of many forms are all answered by their priority: ample memory gives neither want of memory nor NO_MEMORY.
+#[test]
+fn ample_memory_always_gives_the_priority(rt: HostRuntime) -> Result<(), Fail> {
+    let alloc = rt.alloc();
+    let words = strings(alloc, &["pipe"])?;
+    for id in [0u32, 1, 255, 256, 65_535, 16_777_216, u32::MAX] {
+        let mut request = list(alloc, &PING_REQUEST[..12])?;
+        assert!(rt; request.append(&id.to_be_bytes()).is_ok());
+        assert!(rt; request.append(&PING_REQUEST[16..]).is_ok());
+        let mut reply = list(alloc, &PING_REPLY[..12])?;
+        assert!(rt; reply.append(&id.to_be_bytes()).is_ok());
+        assert!(rt; reply.append(&PING_REPLY[16..]).is_ok());
+        let mut input = SteadySource::new(request, List::new(alloc));
+        let mut out = MemSink::new(alloc, List::new(alloc), List::new(alloc));
+        assert_eq!(rt;
+            orb_main(alloc, words.as_slice(), &mut input, &mut out).note,
+            Note::Nothing
+        );
+        assert_eq!(rt; out.held(), reply.as_slice());
+    }
+    Ok(())
+}
+
+/// A servant that knows no operation.
+struct Deaf;
+
+impl Serving for Deaf {
+    ghost outcome = { λ _ _ _. bad_operation };
+
+    fn invoke(&self, _interface: &Text, _job: &Job) -> Outcome {
+        Outcome::System(Sys {
+            name: SysName::BadOperation,
+            minor: 1,
+            completed: Completed::No,
+        })
+    }
+}
+
+#[test]
+fn the_pipe_runs_over_any_servant(rt: HostRuntime) -> Result<(), Fail> {
+    let alloc = rt.alloc();
+    let mut input = SteadySource::new(list(alloc, PING_REQUEST)?, List::new(alloc));
+    let mut out = MemSink::new(alloc, List::new(alloc), List::new(alloc));
+    let done = Piped {
+        read: ReadEnd::Ended,
+        write: WriteEnd::Done,
+    };
+    assert_eq!(rt; pipe_run(alloc, &mut input, &mut out, &Deaf), Ok(done));
+    assert_eq!(rt; out.held(), BAD_OPERATION_REPLY);
+    let mut again = SteadySource::new(list(alloc, PING_REQUEST)?, List::new(alloc));
+    let mut counting = CountingSink { bytes: 0 };
+    assert_eq!(rt; pipe_run(alloc, &mut again, &mut counting, &Deaf), Ok(done));
+    assert_eq!(rt; counting.bytes, 72);
+    Ok(())
+}
