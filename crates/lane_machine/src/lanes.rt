@@ -1,6 +1,7 @@
 //! The lane machine: the threads of a pool, what they do, and what is owed to each connection.
 //!
-//! A call that fails for want of memory leaves the machine as it was: what takes memory comes before what changes.
+//! A call that fails for want of memory leaves the machine as it was: what takes memory comes before what
+//! changes.
 ghost use Rattle.std.specs.Prelude.{◌≡◌, true, false, ◌==◌, ◌&&◌, ◌||◌, is_some, slice_get, IfOk};
 ghost use Rattle.lane_machine.specs.State.{CanOpen, opening};
 ghost use Rattle.lane_machine.specs.Machine.{step, item_place, end_of};
@@ -22,8 +23,8 @@ mod offering;
 #[cfg(test)]
 mod tests;
 
-/// The lane machine: the threads of a pool, what is owed to the connections of its slots, and the counts of its run
-/// (Real-time CORBA 1.2, Threadpools).
+/// The lane machine: the threads of a pool, what is owed to the connections of its slots, and the counts of
+/// its run (Real-time CORBA 1.2, Threadpools).
 #[derive(Debug, Drop)]
 pub struct Lanes {
     pool: PoolSpec,
@@ -64,7 +65,8 @@ impl Model for Lanes {
 }
 
 impl Lanes {
-    /// Opens the machine over a pool whose requests don't wait. Takes memory for the threads and a copy of the pool.
+    /// Opens the machine over a pool whose requests don't wait. Takes memory for the threads and for a
+    /// copy of the pool.
     pub fn new(alloc: Global, pool: &PoolSpec, slots: u8, per_slot: u8) -> Result<Lanes, NoMemory>
         requires can { CanOpen pool.now slots per_slot }
         requires unbuffered { pool.now.buffering ≡ false }
@@ -85,8 +87,8 @@ impl Lanes {
         })
     }
 
-    /// Whether the call is answered now; else it waits. Takes no memory. Work grows with the threads, with what is
-    /// owed to all connections, and with the connections that ended.
+    /// Whether the call is answered now; else it waits. Takes no memory. Work grows with the threads,
+    /// with what is owed to all connections, and with the connections that ended.
     pub fn ready(&self, call: &LaneCall) -> bool
         ensures { result ≡ is_ready self.now call.now }
     {
@@ -100,8 +102,9 @@ impl Lanes {
         }
     }
 
-    /// Answers a call, with the reply twice: one for the history, one for the caller. For want of memory nothing
-    /// changes. Takes memory for shares and for what grows; work is as with `ready`.
+    /// Answers a call, with the reply twice: one for the history, one for the caller. For want of memory
+    /// nothing changes. Takes memory for items, and for the connections that ended or were told to close;
+    /// work grows as that of `ready`.
     pub fn apply(&mut self, call: &LaneCall) -> Result<(LaneReply, LaneReply), NoMemory>
         requires ready { is_ready self.old call.now ≡ true }
         requires sound { IsSound self.old call.now }
@@ -148,7 +151,8 @@ impl Lanes {
 
     /// Whether nothing is owed to the connection any more, and its ending is to be told.
     fn is_done_with(&self, conn: ConnId) -> bool
-        ensures { result ≡ ((owed self.now conn == 0) && (is_some (end_of self.now conn) || self.now.closing)) }
+        ensures { let s = self.now in
+            result ≡ ((owed s conn == 0) && (is_some (end_of s conn) || s.closing)) }
     {
         self.owed(conn) == 0 && self.is_ending(conn)
     }

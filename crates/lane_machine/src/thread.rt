@@ -30,13 +30,23 @@ impl Model for LaneThread {
 
     ghost Value = { Thread };
 
-    ghost view = { λ t. record { lane = t.lane; is_static = t.is_static; started = t.started; doing = t.doing } };
+    ghost view = { λ t. record {
+      lane = t.lane;
+      is_static = t.is_static;
+      started = t.started;
+      doing = t.doing;
+    } };
 }
 
 impl LaneThread {
     /// A thread that does nothing yet. A static one is started.
     pub fn idle(lane: u8, is_static: bool) -> LaneThread
-        ensures { result ≡ record { lane = lane; is_static = is_static; started = is_static; doing = Doing.Free } }
+        ensures { result ≡ record {
+          lane = lane;
+          is_static = is_static;
+          started = is_static;
+          doing = Doing.Free;
+        } }
     {
         LaneThread {
             lane,
@@ -77,8 +87,8 @@ impl LaneThread {
         is_free(&self.doing) && may_run(borrowing, self.lane, lane)
     }
 
-    /// Higher lanes first, and in a lane a static thread before a started dynamic one, and that before one that
-    /// is not started.
+    /// Its rank: higher lanes first, and in a lane a static thread before a started dynamic one, and
+    /// that before one that is not started.
     pub fn rank(&self) -> u16
         ensures { result ≡ rank self.now }
     {
