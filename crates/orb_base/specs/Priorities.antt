@@ -1,5 +1,5 @@
 -- The priority and the lane of a request: Real-time CORBA 1.2, Priority models and Threadpools.
-use Rattle.std.specs.Prelude.{ℕ, Bool, true, false, ◌==◌, if◌then◌else◌, Option, Some, unwrap_or, position}
+use Rattle.std.specs.Prelude.{ℕ, ◌==◌, if◌then◌else◌, Option, Some, unwrap_or, position}
 use Rattle.orb_base.specs.Pool.{Pool}
 use Rattle.orb_base.specs.declared.priority_model.PriorityModel.{PriorityModel}
 use Rattle.orb_base.specs.declared.priority_model.PriorityModel.TheVariants.{ClientPropagated, ServerDeclared}

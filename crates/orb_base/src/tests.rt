@@ -78,10 +78,28 @@ fn texts_hold_no_nul(rt: HostRuntime) -> Result<(), Fail> {
     let text = Text::new(rt.alloc(), b"ping")?;
     assert_eq!(rt; text.as_slice(), b"ping".as_slice());
     assert_eq!(rt; text.copy(rt.alloc())?.len(), 4);
+    assert!(rt; !text.is_empty());
     assert_eq!(rt;
         Text::new(rt.alloc(), b"pi\0g\0").err(),
         Some(TextFault::Nul(2))
     );
+    Ok(())
+}
+
+/// What other threads may have and share.
+fn may_go<T: Send + Sync>(_value: &T) {}
+
+#[test]
+fn values_may_go_to_other_threads(rt: HostRuntime) -> Result<(), Fail> {
+    let alloc = rt.alloc();
+    let shared = Arc::new(alloc, job(alloc, 1)?).ok().ok_or("memory")?;
+    may_go(&shared);
+    let item = Item::Answered(Answer {
+        job: shared,
+        outcome: Outcome::Returned(SharedOctets::new(alloc, octets(alloc, &[1])?)?),
+    });
+    may_go(&item);
+    may_go(&pool(alloc, true, &[])?);
     Ok(())
 }
 
