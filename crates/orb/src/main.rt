@@ -5,13 +5,12 @@ mod note_text;
 mod std_sink;
 mod std_source;
 
+use note_text::note_text;
+use orb_command::orb_main;
 use std::alloc::Global;
 use std::process::ExitCode;
 use std::rt::Env;
 use std::{env, io};
-
-use note_text::note_text;
-use orb_command::orb_main;
 use std_sink::StdSink;
 use std_source::StdSource;
 

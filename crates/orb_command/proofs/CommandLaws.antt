@@ -1,5 +1,5 @@
 -- The answers of the top call where its words mean the pipe.
-use Rattle.std.proofs.Common.{◌≡◌, ℕ, List, refl, inr}
+use Rattle.std.proofs.Common.{ℕ, refl, inr}
 use Rattle.std.specs.Prelude.{Result, Ok, Err}
 use Rattle.orb_base.specs.Outside.{Told}
 use Rattle.orb_command.specs.declared.ends.ReadEnd.{ReadEnd}

@@ -1,5 +1,5 @@
 -- The run of the pipe on no request, and on one.
-use Rattle.std.proofs.Common.{◌≡◌, ℕ, List, [], ◌∷◌, ◌++◌, refl, sym, ap, ◌∙◌, append-nil, arith, lit<, lit≤, zero, suc, ◌<◌, ◌≤◌}
+use Rattle.std.proofs.Common.{◌≡◌, ℕ, List, [], ◌∷◌, refl, append-nil, arith, lit<, lit≤, zero, suc, ◌<◌, ◌≤◌}
 use Rattle.std.specs.List.{slice_index_or}
 use Rattle.orb_base.specs.Pool.{lane_threads}
 use Rattle.orb_base.specs.declared.lane_spec.LaneSpec.{LaneSpec}
@@ -14,9 +14,8 @@ use Rattle.orb_base.specs.Outcomes.{body_len}
 use Rattle.orb_base.specs.declared.limits.TheConstants.{MAX_BODY}
 use Rattle.lane_machine.specs.State.{CanOpen}
 use Rattle.lane_machine.specs.Histories.{IsLegal}
-use Rattle.orb_command.specs.Setup.{built_in, built_in_pool, pipe_conn}
+use Rattle.orb_command.specs.Setup.{built_in, built_in_pool}
 use Rattle.orb_command.specs.PingRun.{ping_job, opened}
-use Rattle.orb_command.specs.Ping.{ping_outcome}
 use Rattle.orb_command.specs.Said.{item_bytes}
 use Rattle.orb_command.specs.Piped.{answer_of, piped, piped_bytes}
 

@@ -1,6 +1,6 @@
 -- The built inputs are answered: by nothing, and by the reply to the one request.
 use Rattle.std.proofs.Common.{◌≡◌, ℕ, ◌≤◌, ◌<◌, ◌^◌, List, [], ◌∷◌, ◌++◌, length, refl, sym, ap, ◌∙◌, subst, inl, inr, arith, lit≤, append-nil}
-use Rattle.std.specs.Prelude.{◌⊎◌, codes, option_map, IfSome, Option, Some, None, Result, Ok, Err}
+use Rattle.std.specs.Prelude.{◌⊎◌, codes, option_map, IfSome, Some, None, Result, Ok, Err}
 use Rattle.orb_base.specs.JobRecord.{JobRecord}
 use Rattle.orb_base.specs.Outcomes.{no_memory, body_len}
 use Rattle.orb_base.specs.declared.limits.TheConstants.{MAX_BODY}
@@ -14,11 +14,9 @@ use Rattle.giop_messages.specs.Message.{request}
 use Rattle.giop_messages.specs.Spelling.{spelled}
 use Rattle.giop_messages.specs.Plain.{plain}
 use Rattle.giop_messages.proofs.ReadingLaws.{plain_reads}
-use Rattle.lane_machine.specs.declared.call.How.TheVariants.{Quiet}
-use Rattle.lane_machine.specs.declared.call.LaneCall.{LaneCall}
 use Rattle.lane_machine.specs.declared.call.LaneCall.TheVariants.{Offer}
 use Rattle.orb_command.specs.Setup.{built_in, pipe_conn}
-use Rattle.orb_command.specs.Heard.{job_of, IsOffered, Hears, nothing, one}
+use Rattle.orb_command.specs.Heard.{job_of, IsOffered, nothing, one}
 use Rattle.orb_command.specs.Said.{item_bytes}
 use Rattle.orb_command.specs.PingRun.{ping_job, IsAnswerTo}
 use Rattle.orb_command.specs.Built.{IsBuilt, IsPiped}

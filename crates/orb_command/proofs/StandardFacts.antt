@@ -1,16 +1,11 @@
 -- The definitions on the ping of the format document: the request of id 1 at priority 100, and its reply.
-use Rattle.std.specs.Prelude.{◌≡◌, ℕ, List, [], ◌∷◌, refl, codes}
-use Rattle.orb_base.specs.JobRecord.{JobRecord}
-use Rattle.orb_base.specs.declared.order.Order.TheVariants.{Big}
-use Rattle.orb_base.specs.declared.outcome.Outcome.{Outcome}
-use Rattle.orb_base.specs.declared.outcome.Outcome.TheVariants.{Returned}
+use Rattle.std.specs.Prelude.{◌≡◌, [], ◌∷◌, refl}
 use Rattle.cdr_core.specs.Field.{number_bytes}
-use Rattle.giop_messages.specs.Plain.{plain}
 use Rattle.lane_machine.specs.declared.call.How.TheVariants.{Quiet}
 use Rattle.lane_machine.specs.declared.call.LaneCall.TheVariants.{Offer}
 use Rattle.lane_machine.specs.Choice.{chosen_thread, next_job}
 use Rattle.lane_machine.specs.Readiness.{owed}
-use Rattle.orb_command.specs.Setup.{built_in, pipe_conn}
+use Rattle.orb_command.specs.Setup.{built_in}
 use Rattle.orb_command.specs.Ping.{ping_outcome}
 use Rattle.orb_command.specs.PingRun.{ping_job}
 use Rattle.orb_command.specs.Piped.{piped_bytes}

@@ -1,11 +1,9 @@
 -- The steps of the machine at the pipe's one request.
-use Rattle.std.proofs.Common.{◌≡◌, ℕ, ◌+◌, Bool, true, false, ◌&&◌, List, [], ◌∷◌, refl, sym, ap, ◌∙◌, subst, arith, count_by, filter, length}
+use Rattle.std.proofs.Common.{◌≡◌, Bool, true, false, ◌&&◌, List, [], ◌∷◌, refl, sym, ap, ◌∙◌, subst, count_by, filter, length}
 use Rattle.std.proofs.lemmas.List.Sums.{length-filter}
 use Rattle.std.specs.List.{list_all}
 use Rattle.orb_base.specs.JobRecord.{JobRecord}
 use Rattle.orb_base.specs.declared.conn_id.ConnId.{ConnId}
-use Rattle.orb_base.specs.declared.job.Job.{Job}
-use Rattle.orb_base.specs.declared.outcome.Outcome.{Outcome}
 use Rattle.orb_base.specs.declared.answer.Answer.{Answer}
 use Rattle.lane_machine.specs.declared.call.How.TheVariants.{Quiet}
 use Rattle.lane_machine.specs.declared.call.LaneCall.TheVariants.{Offer, Finish, Collect, End}

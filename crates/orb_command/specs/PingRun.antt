@@ -1,5 +1,5 @@
 -- The states of the lane machine in which the pipe's one request runs.
-use Rattle.std.specs.Prelude.{◌≡◌, ◌≤◌, ◌⊎◌, ℕ, ◌+◌, true, List, [], ◌∷◌, codes}
+use Rattle.std.specs.Prelude.{◌≡◌, ◌≤◌, ◌⊎◌, ℕ, ◌+◌, true, [], ◌∷◌, codes}
 use Rattle.std.specs.List.{list_all}
 use Rattle.orb_base.specs.Outcomes.{no_memory, body_len}
 use Rattle.orb_base.specs.declared.limits.TheConstants.{MAX_BODY}
@@ -11,7 +11,7 @@ use Rattle.orb_base.specs.declared.item.Item.TheVariants.{Answered}
 use Rattle.giop_messages.specs.Plain.{plain}
 use Rattle.lane_machine.specs.declared.doing.Doing.{Doing}
 use Rattle.lane_machine.specs.declared.doing.Doing.TheVariants.{Free, Given, Busy}
-use Rattle.lane_machine.specs.State.{Thread, State, opening}
+use Rattle.lane_machine.specs.State.{State, opening}
 use Rattle.lane_machine.specs.Choice.{is_free}
 use Rattle.orb_command.specs.Setup.{built_in_pool, pipe_conn}
 use Rattle.orb_command.specs.Heard.{job_of}

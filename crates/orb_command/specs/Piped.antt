@@ -14,7 +14,7 @@ use Rattle.lane_machine.specs.declared.call.LaneReply.{LaneReply}
 use Rattle.lane_machine.specs.declared.call.LaneReply.TheVariants as reply
 use Rattle.lane_machine.specs.declared.doing.Doing.{Doing}
 use Rattle.lane_machine.specs.declared.doing.Doing.TheVariants.{Free, Given, Busy}
-use Rattle.lane_machine.specs.State.{Thread, State, opening}
+use Rattle.lane_machine.specs.State.{State, opening}
 use Rattle.lane_machine.specs.Choice.{is_free}
 use Rattle.lane_machine.specs.Machine.{step, item_place}
 use Rattle.lane_machine.specs.Readiness.{is_ready}

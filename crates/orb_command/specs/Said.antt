@@ -1,6 +1,6 @@
 -- The bytes that a history has written to a connection. A reply is in the byte order of its request, without contexts;
 -- CloseConnection and MessageError are big endian. CORBA 3.0.3, section 15.4.
-use Rattle.std.specs.Prelude.{ℕ, List, [], ◌∷◌, if◌then◌else◌}
+use Rattle.std.specs.Prelude.{ℕ, List, [], if◌then◌else◌}
 use Rattle.std.specs.List.{flat_map}
 use Rattle.orb_base.specs.declared.conn_id.ConnId.{ConnId}
 use Rattle.orb_base.specs.declared.order.Order.{Order}
@@ -21,7 +21,6 @@ use Rattle.lane_machine.specs.declared.call.LaneCall.TheVariants.{Offer, Take, F
 use Rattle.lane_machine.specs.declared.call.LaneReply.{LaneReply}
 use Rattle.lane_machine.specs.declared.call.LaneReply.TheVariants as answer
 use Rattle.lane_machine.specs.Machine.{same_conn}
-use Rattle.lane_machine.specs.History.{Entry}
 use Rattle.lane_machine.specs.Histories.{History}
 
 -- the status of a reply: NO_EXCEPTION, USER_EXCEPTION or SYSTEM_EXCEPTION

@@ -1,5 +1,5 @@
 -- What a whole read and a whole write do to what a source and a sink tell.
-use Rattle.std.specs.Prelude.{◌≡◌, ◌≤◌, ◌<◌, ℕ, List, [], ◌++◌, Option, length, option_map, IfSome}
+use Rattle.std.specs.Prelude.{◌≡◌, ◌≤◌, ◌<◌, ℕ, List, ◌++◌, length, option_map, IfSome}
 use Rattle.orb_base.specs.Outside.{Told, Rose}
 use Rattle.orb_command.specs.declared.read_all.ReadAll.{ReadAll}
 use Rattle.orb_command.specs.declared.read_all.ReadAll.TheVariants as read

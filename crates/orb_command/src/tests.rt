@@ -50,6 +50,15 @@ struct Row {
     output: &'static [u8],
 }
 
+/// Nothing of each kind.
+const NO_WORDS: &[&str] = &[];
+
+const NO_CUTS: &[usize] = &[];
+
+const NO_CALLS: &[u64] = &[];
+
+const NOTHING: &[u8] = &[];
+
 /// Reads of one byte each.
 const ONES: &[usize] = &[1; 64];
 
@@ -280,7 +289,7 @@ fn the_pipe_answers_each_ping(rt: HostRuntime) -> Result<(), Fail> {
 #[test]
 fn words_are_read_first(rt: HostRuntime) -> Result<(), Fail> {
     for (name, words, status, note) in [
-        ("no words", [].as_slice(), 1, Note::Usage),
+        ("no words", NO_WORDS, 1, Note::Usage),
         ("an unknown word", ["ping"].as_slice(), 1, Note::Usage),
         (
             "a command behind a word",
@@ -305,13 +314,13 @@ fn words_are_read_first(rt: HostRuntime) -> Result<(), Fail> {
             name,
             words,
             input: PING_REQUEST,
-            reads: &[],
-            failed_reads: &[],
-            writes: &[],
-            failed_writes: &[],
+            reads: NO_CUTS,
+            failed_reads: NO_CALLS,
+            writes: NO_CUTS,
+            failed_writes: NO_CALLS,
             status,
             note,
-            output: b"",
+            output: NOTHING,
         };
         let (answered, output) = ran(rt.alloc(), &row)?;
         assert_eq!(rt; answered, Answered { status, note }, "{name}");

@@ -1,5 +1,5 @@
 -- An input that is read as nothing, or as a request for another object, isn't built.
-use Rattle.std.proofs.Common.{None, Some, refl}
+use Rattle.std.proofs.Common.{None, Some}
 use Rattle.orb_command.proofs.BuiltInput.{other_input, not_empty, other_key}
 use Rattle.orb_command.proofs.request.hear.Goals as goal
 
