@@ -1,0 +1,271 @@
+//! A reader of CDR over borrowed bytes: CORBA 3.0.3, section 15.3.
+ghost use Rattle.std.specs.Prelude.{◌≡◌, ◌+◌, ◌<◌, ◌≤◌, length, take, Some, None, IfOk, IfSome, option_map};
+ghost use Rattle.std.specs.Int.{w8, w16, w32, w64};
+ghost use Rattle.cdr_core.specs.Alignment.{pad_len};
+ghost use Rattle.cdr_core.specs.Cursor.{ahead, Takes};
+ghost use Rattle.cdr_core.specs.Reading.{piece_at, number_at, bool_at, count_at, octets_at, string_at, encap_at, entered, text_before_nul, aligned};
+ghost use Rattle.orb_base.specs.NulFree.{nul_at};
+
+use crate::fault::{CdrCause, CdrFault};
+use crate::number::{u8_of, u16_of, u32_of, u64_of};
+use orb_base::limits::MAX_MESSAGE;
+use orb_base::Order;
+use std::marker::Model;
+
+/// Stands in bytes at a place, and reads one value after another. A reader that refuses stands where it stood.
+/// Takes no memory; each call is constant work beside the bytes that it passes.
+#[derive(Drop)]
+pub struct Reader<'a> {
+    order: Order,
+    place: usize,
+    rest: &'a [u8],
+}
+
+impl<'a> Model for Reader<'a> {
+    ghost use Rattle.std.specs.Prelude.{◌+◌, ◌<◌, ◌^◌, length};
+    ghost use Rattle.cdr_core.specs.Cursor.{Cursor};
+
+    ghost Value = { Cursor };
+
+    ghost view = { λ r. record { order = r.order; place = r.place; rest = r.rest.now } };
+
+    ghost invariant = { λ r. r.place + length r.rest.now < 2 ^ 63 + 2 ^ 19 };
+}
+
+impl<'a> Reader<'a> {
+    /// Stands before the bytes, the first of which is at the place `at`.
+    pub fn new(order: Order, at: usize, bytes: &'a [u8]) -> Reader<'a>
+        requires { at ≤ MAX_MESSAGE }
+        ensures { result ≡ record { order = order; place = at; rest = bytes.now } }
+    {
+        Reader {
+            order,
+            place: at,
+            rest: bytes,
+        }
+    }
+
+    /// The place of the next byte.
+    pub fn place(&self) -> usize
+        ensures { result ≡ self.now.place }
+    {
+        self.place
+    }
+
+    /// How many bytes are left.
+    pub fn left(&self) -> usize
+        ensures { result ≡ length self.now.rest }
+    {
+        self.rest.len()
+    }
+
+    /// An octet. Short where no byte is left.
+    #[tactic(auto, unfolding(crate::specs::Reading::number_at))]
+    pub fn take_u8(&mut self) -> Result<u8, CdrFault>
+        ensures { Takes (λ n. n) result self.old self.new (number_at w8 self.old) }
+    {
+        let order = self.order;
+        let piece = self.take_piece(1)?;
+        Ok(u8_of(order, piece))
+    }
+
+    /// An unsigned short, aligned on 2.
+    #[tactic(auto, unfolding(crate::specs::Reading::number_at))]
+    pub fn take_u16(&mut self) -> Result<u16, CdrFault>
+        ensures { Takes (λ n. n) result self.old self.new (number_at w16 self.old) }
+    {
+        let order = self.order;
+        let piece = self.take_piece(2)?;
+        Ok(u16_of(order, piece))
+    }
+
+    /// An unsigned long, aligned on 4.
+    #[tactic(auto, unfolding(crate::specs::Reading::number_at))]
+    pub fn take_u32(&mut self) -> Result<u32, CdrFault>
+        ensures { Takes (λ n. n) result self.old self.new (number_at w32 self.old) }
+    {
+        let order = self.order;
+        let piece = self.take_piece(4)?;
+        Ok(u32_of(order, piece))
+    }
+
+    /// An unsigned long long, aligned on 8.
+    #[tactic(auto, unfolding(crate::specs::Reading::number_at))]
+    pub fn take_u64(&mut self) -> Result<u64, CdrFault>
+        ensures { Takes (λ n. n) result self.old self.new (number_at w64 self.old) }
+    {
+        let order = self.order;
+        let piece = self.take_piece(8)?;
+        Ok(u64_of(order, piece))
+    }
+
+    /// A boolean. A byte above 1 is BadBool.
+    #[tactic(auto, unfolding(crate::specs::Reading::bool_at))]
+    pub fn take_bool(&mut self) -> Result<bool, CdrFault>
+        ensures { Takes (λ b. b) result self.old self.new (bool_at self.old) }
+    {
+        let mut copy = self.copy();
+        let byte = copy.take_u8()?;
+        if byte > 1 {
+            return Err(CdrFault {
+                cause: CdrCause::BadBool,
+                place: self.place,
+            });
+        }
+        *self = copy;
+        Ok(byte == 1)
+    }
+
+    /// The count of what stands behind it. A count greater than the number of bytes behind it is TooMany.
+    #[tactic(auto, unfolding(crate::specs::Reading::count_at))]
+    pub fn take_count(&mut self) -> Result<u32, CdrFault>
+        ensures exact { Takes (λ n. n) result self.old self.new (count_at self.old) }
+        ensures room { IfOk result (λ n. n ≤ length self.new.rest) }
+    {
+        let mut copy = self.copy();
+        let count = copy.take_u32()?;
+        if copy.left() < count as usize {
+            return Err(CdrFault {
+                cause: CdrCause::TooMany,
+                place: self.aligned(),
+            });
+        }
+        *self = copy;
+        Ok(count)
+    }
+
+    /// The bytes of an octet sequence.
+    #[tactic(auto, unfolding(crate::specs::Reading::octets_at))]
+    pub fn take_octets(&mut self) -> Result<&'a [u8], CdrFault>
+        ensures { Takes (λ octets. octets.now) result self.old self.new (octets_at self.old) }
+    {
+        let mut copy = self.copy();
+        let count = copy.take_count()?;
+        let octets = copy.take_front(count as usize);
+        *self = copy;
+        Ok(octets)
+    }
+
+    /// The bytes of a string, without the NUL.
+    #[tactic(auto, unfolding(crate::specs::Reading::string_at))]
+    pub fn take_string(&mut self) -> Result<&'a [u8], CdrFault>
+        ensures { Takes (λ text. text.now) result self.old self.new (string_at self.old) }
+    {
+        let mut copy = self.copy();
+        let octets = copy.take_octets()?;
+        match text_of(octets) {
+            Some(text) => {
+                *self = copy;
+                Ok(text)
+            }
+            None => Err(CdrFault {
+                cause: CdrCause::BadString,
+                place: self.aligned(),
+            }),
+        }
+    }
+
+    /// Enters an encapsulation: a reader behind its order byte, whose places count from that byte.
+    #[tactic(auto, unfolding(crate::specs::Reading::encap_at))]
+    pub fn enter_encap(&mut self) -> Result<Reader<'a>, CdrFault>
+        ensures { Takes (λ inner. inner) result self.old self.new (encap_at self.old) }
+    {
+        let mut copy = self.copy();
+        let octets = copy.take_octets()?;
+        let inner = enter(octets)?;
+        *self = copy;
+        Ok(inner)
+    }
+
+    fn copy(&self) -> Reader<'a>
+        ensures { result ≡ self.now }
+    {
+        Reader {
+            order: self.order,
+            place: self.place,
+            rest: self.rest,
+        }
+    }
+
+    /// The place of a count that stands here.
+    fn aligned(&self) -> usize
+        ensures { result ≡ aligned 4 self.now.place }
+    {
+        self.place + pad(4, self.place)
+    }
+
+    fn take_front(&mut self, len: usize) -> &'a [u8]
+        requires { len ≤ length self.old.rest }
+        ensures front { result.now ≡ take len self.old.rest }
+        ensures moves { self.new ≡ ahead len self.old }
+    {
+        let (front, rest) = self.rest.split_at(len);
+        self.place += len;
+        self.rest = rest;
+        front
+    }
+
+    #[tactic(auto, unfolding(crate::specs::Reading::piece_at))]
+    fn take_piece(&mut self, size: usize) -> Result<&'a [u8], CdrFault>
+        requires some { 0 < size }
+        requires few { size ≤ 8 }
+        ensures exact { Takes (λ piece. piece.now) result self.old self.new (piece_at size self.old) }
+        ensures len { IfOk result (λ piece. length piece.now ≡ size) }
+    {
+        let pad = pad(size, self.place);
+        let place = self.place + pad;
+        if self.rest.len() < pad + size {
+            return Err(CdrFault {
+                cause: CdrCause::Short,
+                place,
+            });
+        }
+        let (_, here) = self.rest.split_at(pad);
+        let (piece, rest) = here.split_at(size);
+        self.place = place + size;
+        self.rest = rest;
+        Ok(piece)
+    }
+}
+
+/// How many bytes of pad bring a place to a multiple of the size.
+pub(crate) fn pad(size: usize, place: usize) -> usize
+    requires { 0 < size }
+    ensures value { result ≡ pad_len size place }
+    ensures few { result < size }
+{
+    (size - place % size) % size
+}
+
+/// The bytes before the NUL at the end, where no other NUL stands before it.
+#[tactic(auto, unfolding(crate::specs::Reading::text_before_nul))]
+fn text_of(octets: &[u8]) -> Option<&[u8]>
+    ensures { option_map (λ text. text.now) result ≡ text_before_nul octets.now }
+{
+    match first_nul(octets) {
+        Some(at) if at + 1 == octets.len() => Some(&octets[..at]),
+        _ => None,
+    }
+}
+
+/// The index of the first NUL.
+fn first_nul(octets: &[u8]) -> Option<usize>
+    ensures found { result ≡ nul_at octets.now }
+    ensures within { IfSome result (λ at. at < length octets.now) }
+{
+    octets.iter().position(|b| *b == 0)
+}
+
+/// A reader over an encapsulation of these bytes.
+#[tactic(auto, unfolding(crate::specs::Reading::entered))]
+fn enter(octets: &[u8]) -> Result<Reader<'_>, CdrFault>
+    ensures { result ≡ entered octets.now }
+{
+    let (order, rest) = match octets {
+        [] => return Err(CdrFault { cause: CdrCause::Short, place: 0 }),
+        [0, rest @ ..] => (Order::Big, rest),
+        [1, rest @ ..] => (Order::Little, rest),
+        [_, ..] => return Err(CdrFault { cause: CdrCause::BadBool, place: 0 }),
+    };
+    Ok(Reader { order, place: 1, rest })
+}
