@@ -11,6 +11,9 @@ pub record Page : Type 0 where
   pub place : ℕ
   pub bytes : List ℕ
 
+abbrev pub page : Order → ℕ → List ℕ → Page
+page order place bytes = record { order = order; place = place; bytes = bytes }
+
 -- with the fields spelled at its place
 unfoldable pub written : Page → List Field → Page
 written p fields =

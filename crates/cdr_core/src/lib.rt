@@ -1,3 +1,14 @@
-//! The Common Data Representation: what its spelling is (CORBA 3.0.3, section 15.3). The definitions stand in
-//! `specs/`; readers and writers join them here.
+//! The Common Data Representation, read and written in both byte orders at any place: CORBA 3.0.3, section 15.3.
+//!
+//! A place counts bytes from the first byte of a message or an encapsulation, and a value is aligned by its place.
+//! What a spelling is stands in `specs/`; `Reader` and `Writer` are exact against it.
 #![tactic(auto)]
+
+mod fault;
+mod number;
+mod reader;
+mod writer;
+
+pub use fault::{CdrCause, CdrFault};
+pub use reader::Reader;
+pub use writer::Writer;
