@@ -1,2 +1,6 @@
 pub mod Spelled
 pub mod Pages
+pub mod Numbers
+pub mod Binding
+pub mod Texts
+pub mod Parts

@@ -3,12 +3,20 @@ use Rattle.std.specs.Prelude.{◌≡◌, ℕ, ◌+◌, List, Result, Ok, Err, dr
 use Rattle.orb_base.specs.declared.order.Order.{Order}
 use Rattle.cdr_core.specs.declared.fault.CdrFault.{CdrFault}
 use Rattle.cdr_core.specs.declared.fault.CdrCause.{CdrCause}
+use Rattle.cdr_core.specs.Alignment.{pad_len}
 
 -- the byte order, the place of the next byte, and the bytes from there on
 pub record Cursor : Type 0 where
   pub order : Order
   pub place : ℕ
   pub rest : List ℕ
+
+abbrev pub cursor : Order → ℕ → List ℕ → Cursor
+cursor order place rest = record { order = order; place = place; rest = rest }
+
+-- a place brought to a multiple of the size
+abbrev pub aligned : ℕ → ℕ → ℕ
+aligned size place = place + pad_len size place
 
 -- some bytes on
 abbrev pub ahead : ℕ → Cursor → Cursor

@@ -1,6 +1,9 @@
 pub mod Alignment
 pub mod Field
 pub mod Spelling
+pub mod Basic
 pub mod Cursor
 pub mod Reading
+pub mod Passing
+pub mod Encapsulation
 pub mod Writing

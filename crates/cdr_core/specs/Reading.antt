@@ -8,11 +8,7 @@ use Rattle.orb_base.specs.NulFree.{nul_at}
 use Rattle.cdr_core.specs.declared.fault.CdrFault.{CdrFault}
 use Rattle.cdr_core.specs.declared.fault.CdrCause.TheVariants.{Short, BadBool, BadString, TooMany}
 use Rattle.cdr_core.specs.Alignment.{pad_len}
-use Rattle.cdr_core.specs.Cursor.{Cursor, ahead, Reads, fault, ◌>>=◌}
-
--- a place brought to a multiple of the size
-abbrev pub aligned : ℕ → ℕ → ℕ
-aligned size place = place + pad_len size place
+use Rattle.cdr_core.specs.Cursor.{Cursor, aligned, ahead, Reads, fault, ◌>>=◌}
 
 -- as many bytes as the size, aligned on it
 unfoldable pub piece_at : ℕ → Cursor → Reads (List ℕ)

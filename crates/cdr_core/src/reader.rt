@@ -2,8 +2,8 @@
 ghost use Rattle.std.specs.Prelude.{◌≡◌, ◌+◌, ◌<◌, ◌≤◌, length, take, Some, None, IfOk, IfSome, option_map};
 ghost use Rattle.std.specs.Int.{w8, w16, w32, w64};
 ghost use Rattle.cdr_core.specs.Alignment.{pad_len};
-ghost use Rattle.cdr_core.specs.Cursor.{ahead, Takes};
-ghost use Rattle.cdr_core.specs.Reading.{piece_at, number_at, bool_at, count_at, octets_at, string_at, encap_at, entered, text_before_nul, aligned};
+ghost use Rattle.cdr_core.specs.Cursor.{ahead, aligned, Takes};
+ghost use Rattle.cdr_core.specs.Reading.{piece_at, number_at, bool_at, count_at, octets_at, string_at, encap_at, entered, text_before_nul};
 ghost use Rattle.orb_base.specs.NulFree.{nul_at};
 
 use crate::fault::{CdrCause, CdrFault};
