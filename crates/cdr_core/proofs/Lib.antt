@@ -4,3 +4,5 @@ pub mod Numbers
 pub mod Binding
 pub mod Texts
 pub mod Parts
+pub mod Counts
+pub mod Values

@@ -12,7 +12,7 @@ use Rattle.cdr_core.specs.Spelling.{IsSpelled}
 use Rattle.cdr_core.specs.Cursor.{Cursor, cursor, ahead, aligned, fault, Reads, ◌>>=◌}
 use Rattle.cdr_core.specs.Reading.{piece_at, number_of, number_at}
 use Rattle.cdr_core.specs.Passing.{IsShort}
-use Rattle.cdr_core.proofs.Spelled.{spelled_one, spelled_then, length-spelled, length-number_bytes}
+use Rattle.cdr_core.proofs.Spelled.{spelled_one, spelled_then, split, length-spelled, length-number_bytes}
 use Rattle.cdr_core.proofs.Numbers.{IsBytes, number_again, number_back, number_below}
 use Rattle.cdr_core.proofs.Binding.{bind_ok, bind_err, guard_ok, guard_err, ok_is}
 
@@ -53,6 +53,36 @@ pub read_between : {A : Type 0} (read : Cursor → Reads A) (c d : Cursor) (v : 
 read_between read c d v fields p e =
     ap (λ (rest : List ℕ). read (cursor c.order c.place rest)) p.parts ∙ e
     ∙ rw (← p.order, ← p.place) refl
+
+-- between the first of several fields and the others
+pub record Between (c e : Cursor) (a b : List Field) : Type 0 where
+  pub middle : Cursor
+  pub first : Passed c middle a
+  pub others : Passed middle e b
+
+pub passed_split : (c e : Cursor) (a b : List Field) → Passed c e (a ++ b) → Between c e a b
+passed_split c e a b p =
+    let h = split c.order c.place a b p.spelling p.spelled in
+    let middle : Cursor = cursor c.order (fields_end c.place a) (h.behind ++ e.rest) in
+    let first_end = length-spelled c.order c.place a h.front h.first in
+    let len : length p.spelling ≡ length (h.front ++ h.behind) = ap length h.parts in
+    record {
+      middle = middle;
+      first = record {
+        spelling = h.front;
+        parts = p.parts ∙ ap (λ (x : List ℕ). x ++ e.rest) h.parts ∙ append_assoc h.front h.behind e.rest;
+        spelled = h.first;
+        order = refl;
+        place = first_end
+      };
+      others = record {
+        spelling = h.behind;
+        parts = refl;
+        spelled = h.others;
+        order = p.order;
+        place = omega (arith, p.place, first_end, len, length-append h.front h.behind)
+      }
+    }
 
 -- ---- pieces
 

@@ -80,3 +80,24 @@ pub spelled_run_is : (order : Order) (place : ℕ) (bytes x : List ℕ) → IsSp
 spelled_run_is order place bytes x p =
     let none : p.0 ≡ [] = nil_from_length p.0 (p.2 ∙ pad_one place) in
     p.3 ∙ rw (none, p.4) (append-nil bytes)
+
+-- the spelling of the first of several fields, and that of the others
+pub record Split (order : Order) (place : ℕ) (a b : List Field) (x : List ℕ) : Type 0 where
+  pub front : List ℕ
+  pub behind : List ℕ
+  pub parts : x ≡ front ++ behind
+  pub first : IsSpelled order place a front
+  pub others : IsSpelled order (fields_end place a) b behind
+
+pub split : (order : Order) (place : ℕ) (a b : List Field) (x : List ℕ) → IsSpelled order place (a ++ b) x → Split order place a b x
+split order place [] b x p = record { front = []; behind = x; parts = refl; first = refl; others = p }
+split order place (f ∷ a) b x p =
+    let h = split order (field_end place f) a b p.1 p.4 in
+    let front : List ℕ = p.0 ++ field_text order f in
+    record {
+      front = front ++ h.front;
+      behind = h.behind;
+      parts = p.3 ∙ ap (λ (t : List ℕ). front ++ t) h.parts ∙ sym (append_assoc front h.front h.behind);
+      first = (p.0, h.front, p.2, refl, h.first);
+      others = h.others
+    }

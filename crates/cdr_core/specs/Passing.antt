@@ -1,6 +1,6 @@
 -- What a reader passes, and where it is refused: CORBA 3.0.3, section 15.3. The causes and their order are own profile.
 use Rattle.std.specs.Prelude.{◌≡◌, ℕ, ◌+◌, ◌<◌, List, [], ◌∷◌, ◌++◌, ◌⊎◌, length}
-use Rattle.std.specs.Int.{w32, byte_len}
+use Rattle.std.specs.Int.{w8, w32, byte_len}
 use Rattle.orb_base.specs.NulFree.{HasNoNul}
 use Rattle.cdr_core.specs.declared.fault.CdrFault.{CdrFault}
 use Rattle.cdr_core.specs.declared.fault.CdrCause.TheVariants.{Short, BadBool, BadString, TooMany}
@@ -20,9 +20,13 @@ pub record Passes (old new : Cursor) (v : BasicValue) : Type 0 where
 abbrev pub IsShort : ℕ → Cursor → CdrFault → Type 0
 IsShort size c f = (length c.rest < pad_len size c.place + size) × (f ≡ fault Short (aligned size c.place))
 
--- the next byte is above 1
-abbrev pub IsNoBool : Cursor → CdrFault → Type 0
-IsNoBool c f = (byte : ℕ) × (rest : List ℕ) × (c.rest ≡ byte ∷ rest) × (1 < byte) × (f ≡ fault BadBool c.place)
+-- the octet there is above 1
+pub record IsNoBool (c : Cursor) (f : CdrFault) : Type 0 where
+  pub octet : ℕ
+  pub behind : Cursor
+  pub passes : Passes c behind (unsigned w8 octet)
+  pub high : 1 < octet
+  pub told : f ≡ fault BadBool c.place
 
 -- a count is greater than the number of bytes behind it
 pub record CountsTooMany (c : Cursor) (f : CdrFault) : Type 0 where
