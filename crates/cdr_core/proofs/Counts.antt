@@ -6,14 +6,13 @@ use Rattle.std.proofs.lemmas.List.{take_at, drop_at, take-append-drop, length-ta
 use Rattle.cdr_core.specs.declared.fault.CdrFault.{CdrFault}
 use Rattle.cdr_core.specs.declared.fault.CdrCause.TheVariants.{TooMany}
 use Rattle.cdr_core.specs.Field.{Field, number, run, octets_fields}
-use Rattle.cdr_core.specs.Cursor.{Cursor, cursor, ahead, aligned, fault, ◌>>=◌}
+use Rattle.cdr_core.specs.Cursor.{Cursor, AreBytes, cursor, ahead, aligned, fault, ◌>>=◌}
 use Rattle.cdr_core.specs.Reading.{number_at, count_at, octets_at}
 use Rattle.cdr_core.specs.Basic.{BasicValue, unsigned, Fits, fields_of}
 use Rattle.cdr_core.specs.Passing.{Passes, IsShort, FailsCount}
 use Rattle.cdr_core.proofs.Spelled.{spelled_run, spelled_run_is}
-use Rattle.cdr_core.proofs.Numbers.{IsBytes}
 use Rattle.cdr_core.proofs.Binding.{bind_ok, bind_err, guard_ok, guard_err, ok_is}
-use Rattle.cdr_core.proofs.Parts.{Passed, passed_then, passed_split, IsBytes-take, IsBytes-drop, number_takes, number_fails, number_refuses, number_reads}
+use Rattle.cdr_core.proofs.Parts.{Passed, passed_then, passed_split, AreBytes-take, AreBytes-drop, number_takes, number_fails, number_refuses, number_reads}
 
 pub passes_of : (c d : Cursor) (v : BasicValue) → Fits v → Passed c d (fields_of v) → Passes c d v
 passes_of c d v fits p = record { spelling = p.spelling; parts = p.parts; cdr = (fits, p.spelled); order = p.order; place = p.place }
@@ -27,9 +26,9 @@ pub record Counted (c d : Cursor) (n : ℕ) : Type 0 where
   pub passed : Passed c d (number w32 n ∷ [])
   pub fits : n < 2 ^ 32
   pub room : n ≤ length d.rest
-  pub bytes : IsBytes d.rest
+  pub bytes : AreBytes d.rest
 
-pub count_takes : (c : Cursor) (y : ℕ × Cursor) → IsBytes c.rest → count_at c ≡ Ok y → Counted c y.1 y.0
+pub count_takes : (c : Cursor) (y : ℕ × Cursor) → AreBytes c.rest → count_at c ≡ Ok y → Counted c y.1 y.0
 unfolding count_at
 count_takes c y fits e =
     let b = bind_ok (number_at w32 c) (λ x. cond (ltb (length x.1.rest) x.0) (Err (fault TooMany (aligned 4 c.place))) (Ok x)) y e in
@@ -42,7 +41,7 @@ pub count_reads : (c d : Cursor) (n : ℕ) → n < 2 ^ 32 → n ≤ length d.res
 unfolding count_at
 count_reads c d n lt room p = rw (number_reads w32 c d n (omega arith) lt p, le-ltb _ _ room) refl
 
-pub count_fails : (c : Cursor) (f : CdrFault) → IsBytes c.rest → count_at c ≡ Err f → FailsCount c f
+pub count_fails : (c : Cursor) (f : CdrFault) → AreBytes c.rest → count_at c ≡ Err f → FailsCount c f
 unfolding count_at
 count_fails c f fits e =
     elim (bind_err (number_at w32 c) (λ x. cond (ltb (length x.1.rest) x.0) (Err (fault TooMany (aligned 4 c.place))) (Ok x)) f e) [
@@ -66,8 +65,8 @@ count_refuses c f (inr h) =
 pub record Filled (c d : Cursor) (bytes : List ℕ) : Type 0 where
   pub passed : Passed c d (octets_fields bytes)
   pub fits : length bytes < 2 ^ 32
-  pub inside : IsBytes bytes
-  pub bytes_behind : IsBytes d.rest
+  pub inside : AreBytes bytes
+  pub bytes_behind : AreBytes d.rest
 
 run_passed : (c : Cursor) (n : ℕ) → n ≤ length c.rest → Passed c (ahead n c) (run 1 (take n c.rest) ∷ [])
 run_passed c n le = record {
@@ -78,7 +77,7 @@ run_passed c n le = record {
     place = omega (arith, length-take n c.rest)
   }
 
-pub octets_takes : (c : Cursor) (y : List ℕ × Cursor) → IsBytes c.rest → octets_at c ≡ Ok y → Filled c y.1 y.0
+pub octets_takes : (c : Cursor) (y : List ℕ × Cursor) → AreBytes c.rest → octets_at c ≡ Ok y → Filled c y.1 y.0
 unfolding octets_at
 octets_takes c y fits e =
     let b = bind_ok (count_at c) (λ x. Ok (take x.0 x.1.rest, ahead x.0 x.1)) y e in
@@ -91,8 +90,8 @@ octets_takes c y fits e =
     subst (λ (x : List ℕ × Cursor). Filled c x.1 x.0) (ok_is (bytes, ahead n d) y b.2) (record {
       passed = subst (λ (k : ℕ). Passed c (ahead n d) (number w32 k ∷ run 1 bytes ∷ [])) len both;
       fits = omega (arith, t.fits);
-      inside = IsBytes-take n d.rest t.bytes;
-      bytes_behind = IsBytes-drop n d.rest t.bytes
+      inside = AreBytes-take n d.rest t.bytes;
+      bytes_behind = AreBytes-drop n d.rest t.bytes
     })
 
 pub octets_reads : (c e : Cursor) (bytes : List ℕ) → length bytes < 2 ^ 32 → Passed c e (octets_fields bytes) → octets_at c ≡ Ok (bytes, e)
@@ -106,7 +105,7 @@ octets_reads c e bytes lt p =
     let place : e.place ≡ d.place + length bytes = h.others.place ∙ ap (λ (x : List ℕ). d.place + length x) same in
     rw (count_reads c d (length bytes) lt room h.first, parts, take_at bytes e.rest (length bytes) refl, drop_at bytes e.rest (length bytes) refl, ← h.others.order, ← place) refl
 
-pub octets_fail : (c : Cursor) (f : CdrFault) → IsBytes c.rest → octets_at c ≡ Err f → FailsCount c f
+pub octets_fail : (c : Cursor) (f : CdrFault) → AreBytes c.rest → octets_at c ≡ Err f → FailsCount c f
 unfolding octets_at
 octets_fail c f fits e =
     elim (bind_err (count_at c) (λ x. Ok (take x.0 x.1.rest, ahead x.0 x.1)) f e) [

@@ -6,3 +6,4 @@ pub mod Texts
 pub mod Parts
 pub mod Counts
 pub mod Values
+pub mod Exact

@@ -5,12 +5,10 @@ use Rattle.std.proofs.lemmas.Nat.{be_bytes_2, be_bytes_4, be_bytes_8, le_bytes_2
 use Rattle.orb_base.specs.declared.order.Order.{Order}
 use Rattle.orb_base.specs.declared.order.Order.TheVariants.{Big, Little}
 use Rattle.cdr_core.specs.Field.{number_bytes}
+use Rattle.cdr_core.specs.Cursor.{AreBytes}
 use Rattle.cdr_core.specs.Reading.{number_of}
 
-abbrev pub IsBytes : List ℕ → Type 0
-IsBytes bytes = (i : ℕ) → get_or bytes i 0 < 256
-
-byte_back : (bytes : List ℕ) → length bytes ≡ 1 → IsBytes bytes → get_or bytes 0 0 % 256 ∷ [] ≡ bytes
+byte_back : (bytes : List ℕ) → length bytes ≡ 1 → AreBytes bytes → get_or bytes 0 0 % 256 ∷ [] ≡ bytes
 byte_back (b ∷ []) len fits = let lt : b < 256 = fits 0 in let same : b % 256 ≡ b = omega arith in rw same refl
 byte_back [] len fits = absurd (omega arith)
 byte_back (b ∷ d ∷ bytes) len fits = absurd (omega arith)
@@ -28,7 +26,7 @@ number_again Little w32 n s lt = from_le_bytes-to_le_bytes_4 n lt
 number_again Little w64 n s lt = from_le_bytes-to_le_bytes_8 n lt
 number_again Little w128 n s lt = absurd (omega arith)
 
-pub number_back : (order : Order) (w : Width) (bytes : List ℕ) → byte_len w ≤ 8 → length bytes ≡ byte_len w → IsBytes bytes
+pub number_back : (order : Order) (w : Width) (bytes : List ℕ) → byte_len w ≤ 8 → length bytes ≡ byte_len w → AreBytes bytes
     → number_bytes order w (number_of order w bytes) ≡ bytes
 unfolding number_of number_bytes
 number_back Big w8 bytes s len fits = byte_back bytes len fits
@@ -42,7 +40,7 @@ number_back Little w32 bytes s len fits = le_bytes_4 bytes _ len fits refl
 number_back Little w64 bytes s len fits = le_bytes_8 bytes _ len fits refl
 number_back Little w128 bytes s len fits = absurd (omega arith)
 
-pub number_below : (order : Order) (w : Width) (bytes : List ℕ) → byte_len w ≤ 8 → IsBytes bytes → number_of order w bytes < 2 ^ (8 * byte_len w)
+pub number_below : (order : Order) (w : Width) (bytes : List ℕ) → byte_len w ≤ 8 → AreBytes bytes → number_of order w bytes < 2 ^ (8 * byte_len w)
 unfolding number_of
 number_below Big w8 bytes s fits = fits 0
 number_below Big w16 bytes s fits = omega (arith, fits 0, fits 1)

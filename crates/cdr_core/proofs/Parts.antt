@@ -9,18 +9,18 @@ use Rattle.cdr_core.specs.declared.fault.CdrCause.TheVariants.{Short}
 use Rattle.cdr_core.specs.Alignment.{pad_len}
 use Rattle.cdr_core.specs.Field.{Field, number, number_bytes, fields_end, field_text, field_pad}
 use Rattle.cdr_core.specs.Spelling.{IsSpelled}
-use Rattle.cdr_core.specs.Cursor.{Cursor, cursor, ahead, aligned, fault, Reads, ◌>>=◌}
+use Rattle.cdr_core.specs.Cursor.{Cursor, AreBytes, cursor, ahead, aligned, fault, Reads, ◌>>=◌}
 use Rattle.cdr_core.specs.Reading.{piece_at, number_of, number_at}
 use Rattle.cdr_core.specs.Passing.{IsShort}
 use Rattle.cdr_core.proofs.Spelled.{spelled_one, spelled_then, split, length-spelled, length-number_bytes}
-use Rattle.cdr_core.proofs.Numbers.{IsBytes, number_again, number_back, number_below}
+use Rattle.cdr_core.proofs.Numbers.{number_again, number_back, number_below}
 use Rattle.cdr_core.proofs.Binding.{bind_ok, bind_err, guard_ok, guard_err, ok_is}
 
-pub IsBytes-drop : (n : ℕ) (bytes : List ℕ) → IsBytes bytes → IsBytes (drop n bytes)
-IsBytes-drop n bytes h i = rw get_or-drop (h (n + i))
+pub AreBytes-drop : (n : ℕ) (bytes : List ℕ) → AreBytes bytes → AreBytes (drop n bytes)
+AreBytes-drop n bytes h i = rw get_or-drop (h (n + i))
 
-pub IsBytes-take : (n : ℕ) (bytes : List ℕ) → IsBytes bytes → IsBytes (take n bytes)
-IsBytes-take n bytes h i =
+pub AreBytes-take : (n : ℕ) (bytes : List ℕ) → AreBytes bytes → AreBytes (take n bytes)
+AreBytes-take n bytes h i =
     elim (cases_lt i n) [
       | inl lt ↦ rw (get_or-take n bytes i 0 lt) (h i)
       | inr le ↦ rw (get_or_past (take n bytes) i 0 (omega (arith, length-take n bytes))) (omega arith)
@@ -129,9 +129,9 @@ number_ok w c y e =
 pub record Numbered (w : Width) (old new : Cursor) (n : ℕ) : Type 0 where
   pub passed : Passed old new (number w n ∷ [])
   pub fits : n < 2 ^ (8 * byte_len w)
-  pub bytes : IsBytes new.rest
+  pub bytes : AreBytes new.rest
 
-numbered : (w : Width) (c : Cursor) → byte_len w ≤ 8 → IsBytes c.rest → pad_len (byte_len w) c.place + byte_len w ≤ length c.rest
+numbered : (w : Width) (c : Cursor) → byte_len w ≤ 8 → AreBytes c.rest → pad_len (byte_len w) c.place + byte_len w ≤ length c.rest
     → Numbered w c (ahead (byte_len w) (ahead (pad_len (byte_len w) c.place) c)) (number_of c.order w (take (byte_len w) (drop (pad_len (byte_len w) c.place) c.rest)))
 numbered w c s fits long =
     let size = byte_len w in
@@ -140,8 +140,8 @@ numbered w c s fits long =
     let here : List ℕ = drop len c.rest in
     let text : List ℕ = take size here in
     let n : ℕ = number_of c.order w text in
-    let here_fits = IsBytes-drop len c.rest fits in
-    let text_fits = IsBytes-take size here here_fits in
+    let here_fits = AreBytes-drop len c.rest fits in
+    let text_fits = AreBytes-take size here here_fits in
     let text_len : length text ≡ size = omega (arith, length-take size here, length-drop len c.rest) in
     let pad_is : length pad ≡ len = omega (arith, length-take len c.rest) in
     let back : number_bytes c.order w n ≡ text = number_back c.order w text s text_len text_fits in
@@ -154,10 +154,10 @@ numbered w c s fits long =
         place = omega (arith, text_len, pad_is, length-append pad text)
       };
       fits = number_below c.order w text s text_fits;
-      bytes = IsBytes-drop size here here_fits
+      bytes = AreBytes-drop size here here_fits
     }
 
-pub number_takes : (w : Width) (c : Cursor) (y : ℕ × Cursor) → byte_len w ≤ 8 → IsBytes c.rest → number_at w c ≡ Ok y → Numbered w c y.1 y.0
+pub number_takes : (w : Width) (c : Cursor) (y : ℕ × Cursor) → byte_len w ≤ 8 → AreBytes c.rest → number_at w c ≡ Ok y → Numbered w c y.1 y.0
 number_takes w c y s fits e =
     let p = number_ok w c y e in
     subst (λ (x : ℕ × Cursor). Numbered w c x.1 x.0) p.1 (numbered w c s fits p.0)

@@ -9,13 +9,12 @@ use Rattle.orb_base.specs.declared.order.Order.TheVariants.{Big, Little}
 use Rattle.cdr_core.specs.declared.fault.CdrFault.{CdrFault}
 use Rattle.cdr_core.specs.declared.fault.CdrCause.TheVariants.{Short, BadBool, BadString}
 use Rattle.cdr_core.specs.Field.{Field, number, run, string_fields, octets_fields}
-use Rattle.cdr_core.specs.Cursor.{Cursor, cursor, aligned, fault, Reads, ◌>>=◌}
+use Rattle.cdr_core.specs.Cursor.{Cursor, AreBytes, cursor, aligned, fault, Reads, ◌>>=◌}
 use Rattle.cdr_core.specs.Reading.{number_at, bool_at, octets_at, as_text, text_before_nul, string_at, entered, as_inner, encap_at}
 use Rattle.cdr_core.specs.Basic.{BasicValue, Fits, fields_of, boolean, string}
 use Rattle.cdr_core.specs.Basic as basic
 use Rattle.cdr_core.specs.Passing.{Passes, Fails, FailsCount}
 use Rattle.cdr_core.specs.Encapsulation.{order_byte, Enters, IsUnordered, FailsEncapsulation}
-use Rattle.cdr_core.proofs.Numbers.{IsBytes}
 use Rattle.cdr_core.proofs.Binding.{bind_ok, bind_err, guard_ok, guard_err, ok_is}
 use Rattle.cdr_core.proofs.Texts.{text_takes, text_again, text_fails, text_refuses}
 use Rattle.cdr_core.proofs.Parts.{Passed, number_takes, number_fails, number_refuses, number_reads}
@@ -39,7 +38,7 @@ low_bit false = omega arith
 abbrev bool_step : Cursor → ℕ × Cursor → Reads Bool
 bool_step c x = cond (ltb 1 x.0) (Err (fault BadBool c.place)) (Ok (eqb x.0 1, x.1))
 
-pub bool_takes : (c : Cursor) (y : Bool × Cursor) → IsBytes c.rest → bool_at c ≡ Ok y → Passed c y.1 (number w8 (from_bool y.0) ∷ [])
+pub bool_takes : (c : Cursor) (y : Bool × Cursor) → AreBytes c.rest → bool_at c ≡ Ok y → Passed c y.1 (number w8 (from_bool y.0) ∷ [])
 unfolding bool_at
 bool_takes c y fits e =
     let b = bind_ok (number_at w8 c) (bool_step c) y e in
@@ -54,7 +53,7 @@ bool_reads c d b p =
     let low = low_bit b in
     rw (number_reads w8 c d (from_bool b) (omega arith) (omega arith) p, le-ltb 1 (from_bool b) low, of_bit b) refl
 
-pub bool_fails : (c : Cursor) (f : CdrFault) → IsBytes c.rest → bool_at c ≡ Err f → Fails c boolean f
+pub bool_fails : (c : Cursor) (f : CdrFault) → AreBytes c.rest → bool_at c ≡ Err f → Fails c boolean f
 unfolding bool_at
 bool_fails c f fits e =
     elim (bind_err (number_at w8 c) (bool_step c) f e) [
@@ -89,7 +88,7 @@ text_err : (place : ℕ) (behind : Cursor) (o : Option (List ℕ)) (f : CdrFault
 text_err place behind (Some t) f e = absurd cc
 text_err place behind None f e = (refl, cc)
 
-pub string_takes : (c : Cursor) (y : List ℕ × Cursor) → IsBytes c.rest → string_at c ≡ Ok y → Passes c y.1 (basic.text y.0)
+pub string_takes : (c : Cursor) (y : List ℕ × Cursor) → AreBytes c.rest → string_at c ≡ Ok y → Passes c y.1 (basic.text y.0)
 unfolding string_at
 string_takes c y fits e =
     let b = bind_ok (octets_at c) (text_step c) y e in
@@ -108,7 +107,7 @@ string_reads c d text none lt p =
     let whole : Passed c d (octets_fields (text ++ 0 ∷ [])) = subst (λ (fs : List Field). Passed c d fs) (sym (string_is text)) p in
     rw (octets_reads c d (text ++ 0 ∷ []) few whole, text_again text none) refl
 
-pub string_fails : (c : Cursor) (f : CdrFault) → IsBytes c.rest → string_at c ≡ Err f → Fails c string f
+pub string_fails : (c : Cursor) (f : CdrFault) → AreBytes c.rest → string_at c ≡ Err f → Fails c string f
 unfolding string_at
 string_fails c f fits e =
     elim (bind_err (octets_at c) (text_step c) f e) [
@@ -169,7 +168,7 @@ entered_refuses (zero ∷ rest) f h = absurd (omega (arith, h.0))
 entered_refuses (suc zero ∷ rest) f h = absurd (omega (arith, h.0))
 entered_refuses (suc (suc b) ∷ rest) f h = ap Err (sym h.1)
 
-pub encap_takes : (c : Cursor) (y : Cursor × Cursor) → IsBytes c.rest → encap_at c ≡ Ok y → Enters c y.1 y.0
+pub encap_takes : (c : Cursor) (y : Cursor × Cursor) → AreBytes c.rest → encap_at c ≡ Ok y → Enters c y.1 y.0
 unfolding encap_at
 encap_takes c y fits e =
     let b = bind_ok (octets_at c) inner_step y e in
@@ -187,7 +186,7 @@ encap_reads c d inner h =
     let p = passed_of c d (basic.octets bytes) h.passes in
     rw (octets_reads c d bytes h.passes.cdr.0 p, entered_reads inner.order inner.rest, ← h.place) refl
 
-pub encap_fails : (c : Cursor) (f : CdrFault) → IsBytes c.rest → encap_at c ≡ Err f → FailsEncapsulation c f
+pub encap_fails : (c : Cursor) (f : CdrFault) → AreBytes c.rest → encap_at c ≡ Err f → FailsEncapsulation c f
 unfolding encap_at
 encap_fails c f fits e =
     elim (bind_err (octets_at c) inner_step f e) [

@@ -1,5 +1,5 @@
 -- Where a reader stands, and what it answers.
-use Rattle.std.specs.Prelude.{◌≡◌, ℕ, ◌+◌, List, Result, Ok, Err, drop}
+use Rattle.std.specs.Prelude.{◌≡◌, ℕ, ◌+◌, ◌<◌, List, slice_index, Result, Ok, Err, drop}
 use Rattle.orb_base.specs.declared.order.Order.{Order}
 use Rattle.cdr_core.specs.declared.fault.CdrFault.{CdrFault}
 use Rattle.cdr_core.specs.declared.fault.CdrCause.{CdrCause}
@@ -10,6 +10,10 @@ pub record Cursor : Type 0 where
   pub order : Order
   pub place : ℕ
   pub rest : List ℕ
+
+-- numbers that are bytes
+abbrev pub AreBytes : List ℕ → Type 0
+AreBytes bytes = (i : ℕ) → slice_index bytes i < 256
 
 abbrev pub cursor : Order → ℕ → List ℕ → Cursor
 cursor order place rest = record { order = order; place = place; rest = rest }

@@ -1,8 +1,8 @@
 -- What readings and spellings have to do with each other: CORBA 3.0.3, section 15.3.
-use Rattle.std.specs.Prelude.{◌≡◌, ℕ, ◌+◌, ◌^◌, ◌<◌, List, ◌∷◌, ◌++◌, ◌↔◌, Result, Ok, Err, length, slice_index}
+use Rattle.std.specs.Prelude.{◌≡◌, ℕ, ◌+◌, ◌^◌, ◌<◌, List, ◌∷◌, ◌++◌, ◌↔◌, Result, Ok, Err, length}
 use Rattle.orb_base.specs.declared.order.Order.{Order}
 use Rattle.cdr_core.specs.declared.fault.CdrFault.{CdrFault}
-use Rattle.cdr_core.specs.Cursor.{Cursor, cursor, Reads}
+use Rattle.cdr_core.specs.Cursor.{Cursor, cursor, AreBytes, Reads}
 use Rattle.cdr_core.specs.Basic.{BasicType, integer, boolean, octet_sequence, string, BasicValue, unsigned, truth, octets, text, type_of, IsBasic, Fits, Cdr, spell}
 use Rattle.cdr_core.specs.Reading.{number_at, bool_at, octets_at, string_at, encap_at}
 use Rattle.cdr_core.specs.Passing.{Passes, Fails}
@@ -20,16 +20,13 @@ read boolean c = as_value truth (bool_at c)
 read octet_sequence c = as_value octets (octets_at c)
 read string c = as_value text (string_at c)
 
-abbrev pub IsBytes : List ℕ → Type 0
-IsBytes bytes = (i : ℕ) → slice_index bytes i < 256
-
 -- a reading answers a value exactly where the bytes in front spell it, and a fault exactly where it is the first
 pub record IsExact (kind : BasicType) (c : Cursor) : Type 0 where
   pub found : (v : BasicValue) (d : Cursor) → (read kind c ≡ Ok (v, d)) ↔ ((type_of v ≡ kind) × Passes c d v)
   pub fails : (f : CdrFault) → (read kind c ≡ Err f) ↔ Fails c kind f
 
 abbrev pub ReadsExactly : Type 0
-ReadsExactly = (kind : BasicType) (c : Cursor) → IsBasic kind → IsBytes c.rest → IsExact kind c
+ReadsExactly = (kind : BasicType) (c : Cursor) → IsBasic kind → AreBytes c.rest → IsExact kind c
 
 -- what is spelled is read back as that value, whatever follows, in every order and at every place
 abbrev pub ReadsBack : Type 0
@@ -48,7 +45,7 @@ pub record EntersExactly (c : Cursor) : Type 0 where
   pub fails : (f : CdrFault) → (encap_at c ≡ Err f) ↔ FailsEncapsulation c f
 
 abbrev pub EncapsulationsAreExact : Type 0
-EncapsulationsAreExact = (c : Cursor) → IsBytes c.rest → EntersExactly c
+EncapsulationsAreExact = (c : Cursor) → AreBytes c.rest → EntersExactly c
 
 abbrev pub EntersBack : Type 0
 EntersBack = (order : Order) (place : ℕ) (inner : Order) (bytes rest : List ℕ) → length bytes + 1 < 2 ^ 32

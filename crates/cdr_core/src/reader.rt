@@ -1,8 +1,11 @@
 //! A reader of CDR over borrowed bytes: CORBA 3.0.3, section 15.3.
-ghost use Rattle.std.specs.Prelude.{◌≡◌, ◌+◌, ◌<◌, ◌≤◌, length, take, Some, None, IfOk, IfSome, option_map};
+ghost use Rattle.std.specs.Prelude.{◌≡◌, ◌+◌, ◌<◌, ◌≤◌, length, take, drop, Some, None, IfOk, IfErr, OnErr, IfNone, OnSome, IfSome, option_map};
 ghost use Rattle.std.specs.Int.{w8, w16, w32, w64};
 ghost use Rattle.cdr_core.specs.Alignment.{pad_len};
-ghost use Rattle.cdr_core.specs.Cursor.{ahead, aligned, Takes};
+ghost use Rattle.cdr_core.specs.Basic.{unsigned, truth, octets, text, integer, boolean, octet_sequence, string};
+ghost use Rattle.cdr_core.specs.Passing.{Passes, IsShort, Fails, FailsCount};
+ghost use Rattle.cdr_core.specs.Encapsulation.{Enters, FailsEncapsulation};
+ghost use Rattle.cdr_core.specs.Cursor.{AreBytes, ahead, aligned, Takes};
 ghost use Rattle.cdr_core.specs.Reading.{piece_at, number_at, bool_at, count_at, octets_at, string_at, encap_at, entered, text_before_nul};
 ghost use Rattle.orb_base.specs.NulFree.{nul_at};
 
@@ -23,7 +26,10 @@ pub struct Reader<'a> {
 
 impl<'a> Model for Reader<'a> {
     ghost use Rattle.std.specs.Prelude.{◌+◌, ◌<◌, ◌^◌, length};
-    ghost use Rattle.cdr_core.specs.Cursor.{Cursor};
+    ghost use Rattle.cdr_core.specs.Basic.{unsigned, truth, octets, text, integer, boolean, octet_sequence, string};
+ghost use Rattle.cdr_core.specs.Passing.{Passes, IsShort, Fails, FailsCount};
+ghost use Rattle.cdr_core.specs.Encapsulation.{Enters, FailsEncapsulation};
+ghost use Rattle.cdr_core.specs.Cursor.{Cursor};
 
     ghost Value = { Cursor };
 
@@ -60,9 +66,12 @@ impl<'a> Reader<'a> {
     }
 
     /// An octet. Short where no byte is left.
-    #[tactic(auto, unfolding(crate::specs::Reading::number_at))]
+    #[tactic(auto, using(crate::proofs::Exact::number_found, crate::proofs::Exact::number_fails), unfolding(crate::specs::Reading::number_at))]
     pub fn take_u8(&mut self) -> Result<u8, CdrFault>
-        ensures { Takes (λ n. n) result self.old self.new (number_at w8 self.old) }
+        ensures found { IfOk result (λ n. Passes self.old self.new (unsigned w8 n)) }
+        ensures fails { IfErr result (Fails self.old (integer w8)) }
+        ensures kept { OnErr result (self.new ≡ self.old) }
+        ensures exact { Takes (λ n. n) result self.old self.new (number_at w8 self.old) }
     {
         let order = self.order;
         let piece = self.take_piece(1)?;
@@ -70,9 +79,12 @@ impl<'a> Reader<'a> {
     }
 
     /// An unsigned short, aligned on 2.
-    #[tactic(auto, unfolding(crate::specs::Reading::number_at))]
+    #[tactic(auto, using(crate::proofs::Exact::number_found, crate::proofs::Exact::number_fails), unfolding(crate::specs::Reading::number_at))]
     pub fn take_u16(&mut self) -> Result<u16, CdrFault>
-        ensures { Takes (λ n. n) result self.old self.new (number_at w16 self.old) }
+        ensures found { IfOk result (λ n. Passes self.old self.new (unsigned w16 n)) }
+        ensures fails { IfErr result (Fails self.old (integer w16)) }
+        ensures kept { OnErr result (self.new ≡ self.old) }
+        ensures exact { Takes (λ n. n) result self.old self.new (number_at w16 self.old) }
     {
         let order = self.order;
         let piece = self.take_piece(2)?;
@@ -80,9 +92,12 @@ impl<'a> Reader<'a> {
     }
 
     /// An unsigned long, aligned on 4.
-    #[tactic(auto, unfolding(crate::specs::Reading::number_at))]
+    #[tactic(auto, using(crate::proofs::Exact::number_found, crate::proofs::Exact::number_fails), unfolding(crate::specs::Reading::number_at))]
     pub fn take_u32(&mut self) -> Result<u32, CdrFault>
-        ensures { Takes (λ n. n) result self.old self.new (number_at w32 self.old) }
+        ensures found { IfOk result (λ n. Passes self.old self.new (unsigned w32 n)) }
+        ensures fails { IfErr result (Fails self.old (integer w32)) }
+        ensures kept { OnErr result (self.new ≡ self.old) }
+        ensures exact { Takes (λ n. n) result self.old self.new (number_at w32 self.old) }
     {
         let order = self.order;
         let piece = self.take_piece(4)?;
@@ -90,9 +105,12 @@ impl<'a> Reader<'a> {
     }
 
     /// An unsigned long long, aligned on 8.
-    #[tactic(auto, unfolding(crate::specs::Reading::number_at))]
+    #[tactic(auto, using(crate::proofs::Exact::number_found, crate::proofs::Exact::number_fails), unfolding(crate::specs::Reading::number_at))]
     pub fn take_u64(&mut self) -> Result<u64, CdrFault>
-        ensures { Takes (λ n. n) result self.old self.new (number_at w64 self.old) }
+        ensures found { IfOk result (λ n. Passes self.old self.new (unsigned w64 n)) }
+        ensures fails { IfErr result (Fails self.old (integer w64)) }
+        ensures kept { OnErr result (self.new ≡ self.old) }
+        ensures exact { Takes (λ n. n) result self.old self.new (number_at w64 self.old) }
     {
         let order = self.order;
         let piece = self.take_piece(8)?;
@@ -211,20 +229,22 @@ impl<'a> Reader<'a> {
         requires few { size ≤ 8 }
         ensures exact { Takes (λ piece. piece.now) result self.old self.new (piece_at size self.old) }
         ensures len { IfOk result (λ piece. length piece.now ≡ size) }
+        ensures short { IfErr result (IsShort size self.old) }
+        ensures bytes { AreBytes self.old.rest }
     {
         let pad = pad(size, self.place);
         let place = self.place + pad;
-        if self.rest.len() < pad + size {
-            return Err(CdrFault {
+        match cut(self.rest, pad, size) {
+            None => Err(CdrFault {
                 cause: CdrCause::Short,
                 place,
-            });
+            }),
+            Some((piece, rest)) => {
+                self.place = place + size;
+                self.rest = rest;
+                Ok(piece)
+            }
         }
-        let (_, here) = self.rest.split_at(pad);
-        let (piece, rest) = here.split_at(size);
-        self.place = place + size;
-        self.rest = rest;
-        Ok(piece)
     }
 }
 
@@ -235,6 +255,23 @@ pub(crate) fn pad(size: usize, place: usize) -> usize
     ensures few { result < size }
 {
     (size - place % size) % size
+}
+
+/// As many bytes as the size behind a pad, and those behind them.
+fn cut(bytes: &[u8], pad: usize, size: usize) -> Option<(&[u8], &[u8])>
+    requires pad { pad ≤ 8 }
+    requires size { size ≤ 8 }
+    ensures none { IfNone result (length bytes.now < pad + size) }
+    ensures room { OnSome result (pad + size ≤ length bytes.now) }
+    ensures piece { IfSome result (λ x. x.0.now ≡ take size (drop pad bytes.now)) }
+    ensures rest { IfSome result (λ x. x.1.now ≡ drop size (drop pad bytes.now)) }
+    ensures bytes { AreBytes bytes.now }
+{
+    if bytes.len() < pad + size {
+        return None;
+    }
+    let (_, here) = bytes.split_at(pad);
+    Some(here.split_at(size))
 }
 
 /// The bytes before the NUL at the end, where no other NUL stands before it.
