@@ -68,7 +68,7 @@ pub record Filled (c d : Cursor) (bytes : List ℕ) : Type 0 where
   pub inside : AreBytes bytes
   pub bytes_behind : AreBytes d.rest
 
-run_passed : (c : Cursor) (n : ℕ) → n ≤ length c.rest → Passed c (ahead n c) (run 1 (take n c.rest) ∷ [])
+pub run_passed : (c : Cursor) (n : ℕ) → n ≤ length c.rest → Passed c (ahead n c) (run 1 (take n c.rest) ∷ [])
 run_passed c n le = record {
     spelling = take n c.rest;
     parts = sym (take-append-drop n c.rest);

@@ -7,3 +7,4 @@ pub mod Parts
 pub mod Counts
 pub mod Values
 pub mod Exact
+pub mod LawProofs

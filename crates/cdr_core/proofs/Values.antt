@@ -22,7 +22,7 @@ use Rattle.cdr_core.proofs.Counts.{passes_of, passed_of, octets_takes, octets_re
 
 -- ---- booleans
 
-bit_of : (n : ℕ) → n ≤ 1 → n ≡ from_bool (eqb n 1)
+pub bit_of : (n : ℕ) → n ≤ 1 → n ≡ from_bool (eqb n 1)
 bit_of zero le = refl
 bit_of (suc zero) le = refl
 bit_of (suc (suc n)) le = absurd (omega arith)
@@ -74,7 +74,7 @@ bool_refuses c f (inr h) =
 
 -- ---- strings
 
-string_is : (text : List ℕ) → octets_fields (text ++ 0 ∷ []) ≡ string_fields text
+pub string_is : (text : List ℕ) → octets_fields (text ++ 0 ∷ []) ≡ string_fields text
 string_is text = ap (λ (n : ℕ). number w32 n ∷ run 1 (text ++ 0 ∷ []) ∷ []) (length_push text 0)
 
 abbrev text_step : Cursor → List ℕ × Cursor → Reads (List ℕ)
@@ -139,10 +139,10 @@ inner_err behind (Ok i) f e = absurd cc
 inner_err behind (Err g) f e = let h : g ≡ f = cc in rw h refl
 
 -- the inner cursor stands behind the order byte of these bytes
-abbrev StandsIn : List ℕ → Cursor → Type 0
+abbrev pub StandsIn : List ℕ → Cursor → Type 0
 StandsIn bytes inner = (bytes ≡ order_byte inner.order ∷ inner.rest) × (inner.place ≡ 1)
 
-entered_takes : (bytes : List ℕ) (inner : Cursor) → entered bytes ≡ Ok inner → StandsIn bytes inner
+pub entered_takes : (bytes : List ℕ) (inner : Cursor) → entered bytes ≡ Ok inner → StandsIn bytes inner
 unfolding entered
 entered_takes [] inner e = absurd cc
 entered_takes (zero ∷ rest) inner e = subst (StandsIn (0 ∷ rest)) (ok_is (cursor Big 1 rest) inner e) (refl, refl)
@@ -154,7 +154,7 @@ unfolding entered
 entered_reads Big rest = refl
 entered_reads Little rest = refl
 
-entered_fails : (bytes : List ℕ) (f : CdrFault) → entered bytes ≡ Err f → IsUnordered bytes f
+pub entered_fails : (bytes : List ℕ) (f : CdrFault) → entered bytes ≡ Err f → IsUnordered bytes f
 unfolding entered
 entered_fails [] f e = cc
 entered_fails (zero ∷ rest) f e = absurd cc

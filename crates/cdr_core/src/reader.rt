@@ -118,9 +118,12 @@ impl<'a> Reader<'a> {
     }
 
     /// A boolean. A byte above 1 is BadBool.
-    #[tactic(auto, unfolding(crate::specs::Reading::bool_at))]
+    #[tactic(auto, using(crate::proofs::Exact::bool_found, crate::proofs::Exact::bool_high, crate::proofs::Exact::bool_short), unfolding(crate::specs::Reading::bool_at))]
     pub fn take_bool(&mut self) -> Result<bool, CdrFault>
-        ensures { Takes (λ b. b) result self.old self.new (bool_at self.old) }
+        ensures found { IfOk result (λ b. Passes self.old self.new (truth b)) }
+        ensures fails { IfErr result (Fails self.old boolean) }
+        ensures kept { OnErr result (self.new ≡ self.old) }
+        ensures exact { Takes (λ b. b) result self.old self.new (bool_at self.old) }
     {
         let mut copy = self.copy();
         let byte = copy.take_u8()?;
@@ -135,8 +138,11 @@ impl<'a> Reader<'a> {
     }
 
     /// The count of what stands behind it. A count greater than the number of bytes behind it is TooMany.
-    #[tactic(auto, unfolding(crate::specs::Reading::count_at))]
+    #[tactic(auto, using(crate::proofs::Exact::count_many, crate::proofs::Exact::count_short), unfolding(crate::specs::Reading::count_at))]
     pub fn take_count(&mut self) -> Result<u32, CdrFault>
+        ensures found { IfOk result (λ n. Passes self.old self.new (unsigned w32 n)) }
+        ensures fails { IfErr result (FailsCount self.old) }
+        ensures kept { OnErr result (self.new ≡ self.old) }
         ensures exact { Takes (λ n. n) result self.old self.new (count_at self.old) }
         ensures room { IfOk result (λ n. n ≤ length self.new.rest) }
     {
@@ -153,9 +159,12 @@ impl<'a> Reader<'a> {
     }
 
     /// The bytes of an octet sequence.
-    #[tactic(auto, unfolding(crate::specs::Reading::octets_at))]
+    #[tactic(auto, using(crate::proofs::Exact::octets_found), unfolding(crate::specs::Reading::octets_at))]
     pub fn take_octets(&mut self) -> Result<&'a [u8], CdrFault>
-        ensures { Takes (λ octets. octets.now) result self.old self.new (octets_at self.old) }
+        ensures found { IfOk result (λ bytes. Passes self.old self.new (octets bytes.now)) }
+        ensures fails { IfErr result (Fails self.old octet_sequence) }
+        ensures kept { OnErr result (self.new ≡ self.old) }
+        ensures exact { Takes (λ bytes. bytes.now) result self.old self.new (octets_at self.old) }
     {
         let mut copy = self.copy();
         let count = copy.take_count()?;
@@ -165,9 +174,12 @@ impl<'a> Reader<'a> {
     }
 
     /// The bytes of a string, without the NUL.
-    #[tactic(auto, unfolding(crate::specs::Reading::string_at))]
+    #[tactic(auto, using(crate::proofs::Exact::string_found, crate::proofs::Exact::string_bad, crate::proofs::Exact::string_short), unfolding(crate::specs::Reading::string_at))]
     pub fn take_string(&mut self) -> Result<&'a [u8], CdrFault>
-        ensures { Takes (λ text. text.now) result self.old self.new (string_at self.old) }
+        ensures found { IfOk result (λ bytes. Passes self.old self.new (text bytes.now)) }
+        ensures fails { IfErr result (Fails self.old string) }
+        ensures kept { OnErr result (self.new ≡ self.old) }
+        ensures exact { Takes (λ bytes. bytes.now) result self.old self.new (string_at self.old) }
     {
         let mut copy = self.copy();
         let octets = copy.take_octets()?;
@@ -184,9 +196,12 @@ impl<'a> Reader<'a> {
     }
 
     /// Enters an encapsulation: a reader behind its order byte, whose places count from that byte.
-    #[tactic(auto, unfolding(crate::specs::Reading::encap_at))]
+    #[tactic(auto, using(crate::proofs::Exact::encap_found, crate::proofs::Exact::encap_bad, crate::proofs::Exact::encap_short), unfolding(crate::specs::Reading::encap_at))]
     pub fn enter_encap(&mut self) -> Result<Reader<'a>, CdrFault>
-        ensures { Takes (λ inner. inner) result self.old self.new (encap_at self.old) }
+        ensures found { IfOk result (λ inner. Enters self.old self.new inner) }
+        ensures fails { IfErr result (FailsEncapsulation self.old) }
+        ensures kept { OnErr result (self.new ≡ self.old) }
+        ensures exact { Takes (λ inner. inner) result self.old self.new (encap_at self.old) }
     {
         let mut copy = self.copy();
         let octets = copy.take_octets()?;
