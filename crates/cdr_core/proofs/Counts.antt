@@ -9,21 +9,18 @@ use Rattle.cdr_core.specs.Field.{Field, number, run, octets_fields}
 use Rattle.cdr_core.specs.Cursor.{Cursor, AreBytes, cursor, ahead, aligned, fault, ◌>>=◌}
 use Rattle.cdr_core.specs.Reading.{number_at, count_at, octets_at}
 use Rattle.cdr_core.specs.Basic.{BasicValue, unsigned, Fits, fields_of}
-use Rattle.cdr_core.specs.Passing.{Passes, IsShort, FailsCount}
+use Rattle.cdr_core.specs.Passing.{Spans, Passes, IsShort, FailsCount}
 use Rattle.cdr_core.proofs.Spelled.{spelled_run, spelled_run_is}
 use Rattle.cdr_core.proofs.Binding.{bind_ok, bind_err, guard_ok, guard_err, ok_is}
-use Rattle.cdr_core.proofs.Parts.{Passed, passed_then, passed_split, AreBytes-take, AreBytes-drop, number_takes, number_fails, number_refuses, number_reads}
+use Rattle.cdr_core.proofs.Parts.{spans_then, spans_split, AreBytes-take, AreBytes-drop, number_takes, number_fails, number_refuses, number_reads}
 
-pub passes_of : (c d : Cursor) (v : BasicValue) → Fits v → Passed c d (fields_of v) → Passes c d v
-passes_of c d v fits p = record { spelling = p.spelling; parts = p.parts; cdr = (fits, p.spelled); order = p.order; place = p.place }
-
-pub passed_of : (c d : Cursor) (v : BasicValue) → Passes c d v → Passed c d (fields_of v)
-passed_of c d v p = record { spelling = p.spelling; parts = p.parts; spelled = p.cdr.1; order = p.order; place = p.place }
+pub passes_of : (c d : Cursor) (v : BasicValue) → Fits v → Spans c d (fields_of v) → Passes c d v
+passes_of c d v fits p = record { fits = fits; spans = p }
 
 -- ---- counts
 
 pub record Counted (c d : Cursor) (n : ℕ) : Type 0 where
-  pub passed : Passed c d (number w32 n ∷ [])
+  pub spans : Spans c d (number w32 n ∷ [])
   pub fits : n < 2 ^ 32
   pub room : n ≤ length d.rest
   pub bytes : AreBytes d.rest
@@ -35,9 +32,9 @@ count_takes c y fits e =
     let g = guard_ok (ltb (length b.0.1.rest) b.0.0) (fault TooMany (aligned 4 c.place)) b.0 y b.2 in
     let t = number_takes w32 c b.0 (omega arith) fits b.1 in
     let room : b.0.0 ≤ length b.0.1.rest = ltb-false _ _ g.0 in
-    subst (λ (x : ℕ × Cursor). Counted c x.1 x.0) g.1 (record { passed = t.passed; fits = t.fits; room = room; bytes = t.bytes })
+    subst (λ (x : ℕ × Cursor). Counted c x.1 x.0) g.1 (record { spans = t.spans; fits = t.fits; room = room; bytes = t.bytes })
 
-pub count_reads : (c d : Cursor) (n : ℕ) → n < 2 ^ 32 → n ≤ length d.rest → Passed c d (number w32 n ∷ []) → count_at c ≡ Ok (n, d)
+pub count_reads : (c d : Cursor) (n : ℕ) → n < 2 ^ 32 → n ≤ length d.rest → Spans c d (number w32 n ∷ []) → count_at c ≡ Ok (n, d)
 unfolding count_at
 count_reads c d n lt room p = rw (number_reads w32 c d n (omega arith) lt p, le-ltb _ _ room) refl
 
@@ -50,26 +47,26 @@ count_fails c f fits e =
         let t = number_takes w32 c h.0 (omega arith) fits h.1 in
         let g = guard_err (ltb (length h.0.1.rest) h.0.0) (fault TooMany (aligned 4 c.place)) h.0 f h.2 in
         let few : length h.0.1.rest < h.0.0 = ltb-true _ _ g.0 in
-        inr (record { count = h.0.0; behind = h.0.1; passes = passes_of c h.0.1 (unsigned w32 h.0.0) t.fits t.passed; few = few; told = sym g.1 })
+        inr (record { count = h.0.0; behind = h.0.1; passes = passes_of c h.0.1 (unsigned w32 h.0.0) t.fits t.spans; few = few; told = sym g.1 })
     ]
 
 pub count_refuses : (c : Cursor) (f : CdrFault) → FailsCount c f → count_at c ≡ Err f
 unfolding count_at
 count_refuses c f (inl h) = rw (number_refuses w32 c f h) refl
 count_refuses c f (inr h) =
-    let p = passed_of c h.behind (unsigned w32 h.count) h.passes in
-    rw (number_reads w32 c h.behind h.count (omega arith) h.passes.cdr.0 p, lt-ltb _ _ h.few) (ap Err (sym h.told))
+    let p = h.passes.spans in
+    rw (number_reads w32 c h.behind h.count (omega arith) h.passes.fits p, lt-ltb _ _ h.few) (ap Err (sym h.told))
 
 -- ---- octet sequences
 
 pub record Filled (c d : Cursor) (bytes : List ℕ) : Type 0 where
-  pub passed : Passed c d (octets_fields bytes)
+  pub spans : Spans c d (octets_fields bytes)
   pub fits : length bytes < 2 ^ 32
   pub inside : AreBytes bytes
   pub bytes_behind : AreBytes d.rest
 
-pub run_passed : (c : Cursor) (n : ℕ) → n ≤ length c.rest → Passed c (ahead n c) (run 1 (take n c.rest) ∷ [])
-run_passed c n le = record {
+pub run_spans : (c : Cursor) (n : ℕ) → n ≤ length c.rest → Spans c (ahead n c) (run 1 (take n c.rest) ∷ [])
+run_spans c n le = record {
     spelling = take n c.rest;
     parts = sym (take-append-drop n c.rest);
     spelled = spelled_run c.order c.place (take n c.rest);
@@ -86,18 +83,18 @@ octets_takes c y fits e =
     let t = count_takes c b.0 fits b.1 in
     let bytes : List ℕ = take n d.rest in
     let len : n ≡ length bytes = omega (arith, t.room, length-take n d.rest) in
-    let both : Passed c (ahead n d) (number w32 n ∷ run 1 bytes ∷ []) = passed_then c d (ahead n d) (number w32 n ∷ []) (run 1 bytes ∷ []) t.passed (run_passed d n t.room) in
+    let both : Spans c (ahead n d) (number w32 n ∷ run 1 bytes ∷ []) = spans_then c d (ahead n d) (number w32 n ∷ []) (run 1 bytes ∷ []) t.spans (run_spans d n t.room) in
     subst (λ (x : List ℕ × Cursor). Filled c x.1 x.0) (ok_is (bytes, ahead n d) y b.2) (record {
-      passed = subst (λ (k : ℕ). Passed c (ahead n d) (number w32 k ∷ run 1 bytes ∷ [])) len both;
+      spans = subst (λ (k : ℕ). Spans c (ahead n d) (number w32 k ∷ run 1 bytes ∷ [])) len both;
       fits = omega (arith, t.fits);
       inside = AreBytes-take n d.rest t.bytes;
       bytes_behind = AreBytes-drop n d.rest t.bytes
     })
 
-pub octets_reads : (c e : Cursor) (bytes : List ℕ) → length bytes < 2 ^ 32 → Passed c e (octets_fields bytes) → octets_at c ≡ Ok (bytes, e)
+pub octets_reads : (c e : Cursor) (bytes : List ℕ) → length bytes < 2 ^ 32 → Spans c e (octets_fields bytes) → octets_at c ≡ Ok (bytes, e)
 unfolding octets_at
 octets_reads c e bytes lt p =
-    let h = passed_split c e (number w32 (length bytes) ∷ []) (run 1 bytes ∷ []) p in
+    let h = spans_split c e (number w32 (length bytes) ∷ []) (run 1 bytes ∷ []) p in
     let d = h.middle in
     let same : h.others.spelling ≡ bytes = spelled_run_is d.order d.place bytes h.others.spelling h.others.spelled in
     let parts : d.rest ≡ bytes ++ e.rest = h.others.parts ∙ ap (λ (x : List ℕ). x ++ e.rest) same in

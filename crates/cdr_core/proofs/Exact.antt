@@ -8,23 +8,23 @@ use Rattle.cdr_core.specs.Field.{Field, number, run, octets_fields, string_field
 use Rattle.cdr_core.specs.Cursor.{Cursor, AreBytes, ahead, aligned, fault}
 use Rattle.cdr_core.specs.Reading.{number_at, text_before_nul, entered}
 use Rattle.cdr_core.specs.Basic.{unsigned, truth, octets, text, integer, boolean, string}
-use Rattle.cdr_core.specs.Passing.{Passes, Fails, FailsCount}
+use Rattle.cdr_core.specs.Passing.{Spans, Passes, Fails, FailsCount}
 use Rattle.cdr_core.specs.Encapsulation.{Enters, FailsEncapsulation}
 use Rattle.cdr_core.proofs.Texts.{text_takes, text_fails}
-use Rattle.cdr_core.proofs.Parts.{Passed, passed_then, number_takes}
+use Rattle.cdr_core.proofs.Parts.{spans_then, number_takes}
 use Rattle.cdr_core.proofs.Parts as parts
-use Rattle.cdr_core.proofs.Counts.{passes_of, passed_of, run_passed}
+use Rattle.cdr_core.proofs.Counts.{passes_of, run_spans}
 use Rattle.cdr_core.proofs.Values.{bit_of, string_is, entered_takes, entered_fails}
 
 pub number_found : (w : Width) (c d : Cursor) (n : ℕ) → byte_len w ≤ 8 → AreBytes c.rest → number_at w c ≡ Ok (n, d) → Passes c d (unsigned w n)
-number_found w c d n s fits e = let t = number_takes w c (n, d) s fits e in passes_of c d (unsigned w n) t.fits t.passed
+number_found w c d n s fits e = let t = number_takes w c (n, d) s fits e in passes_of c d (unsigned w n) t.fits t.spans
 
 pub number_fails : (w : Width) (c : Cursor) (f : CdrFault) → number_at w c ≡ Err f → Fails c (integer w) f
 number_fails w c f e = parts.number_fails w c f e
 
 pub bool_found : (c d : Cursor) (n : ℕ) → n ≤ 1 → Passes c d (unsigned w8 n) → Passes c d (truth (eqb n 1))
 bool_found c d n low p =
-    passes_of c d (truth (eqb n 1)) tt (subst (λ (m : ℕ). Passed c d (number w8 m ∷ [])) (bit_of n low) (passed_of c d (unsigned w8 n) p))
+    passes_of c d (truth (eqb n 1)) tt (subst (λ (m : ℕ). Spans c d (number w8 m ∷ [])) (bit_of n low) p.spans)
 
 pub bool_high : (c d : Cursor) (n : ℕ) → 1 < n → Passes c d (unsigned w8 n) → Fails c boolean (fault BadBool c.place)
 bool_high c d n high p = inr (record { octet = n; behind = d; passes = p; high = high; told = refl })
@@ -42,17 +42,17 @@ pub octets_found : (c d : Cursor) (n : ℕ) → n ≤ length d.rest → Passes c
 octets_found c d n room p =
     let bytes : List ℕ = take n d.rest in
     let len : n ≡ length bytes = omega (arith, length-take n d.rest) in
-    let fits : length bytes < 2 ^ 32 = omega (arith, p.cdr.0) in
-    let both : Passed c (ahead n d) (number w32 n ∷ run 1 bytes ∷ []) =
-      passed_then c d (ahead n d) (number w32 n ∷ []) (run 1 bytes ∷ []) (passed_of c d (unsigned w32 n) p) (run_passed d n room) in
-    passes_of c (ahead n d) (octets bytes) fits (subst (λ (k : ℕ). Passed c (ahead n d) (number w32 k ∷ run 1 bytes ∷ [])) len both)
+    let fits : length bytes < 2 ^ 32 = omega (arith, p.fits) in
+    let both : Spans c (ahead n d) (number w32 n ∷ run 1 bytes ∷ []) =
+      spans_then c d (ahead n d) (number w32 n ∷ []) (run 1 bytes ∷ []) p.spans (run_spans d n room) in
+    passes_of c (ahead n d) (octets bytes) fits (subst (λ (k : ℕ). Spans c (ahead n d) (number w32 k ∷ run 1 bytes ∷ [])) len both)
 
 pub string_found : (c d : Cursor) (bytes t : List ℕ) → text_before_nul bytes ≡ Some t → Passes c d (octets bytes) → Passes c d (text t)
 string_found c d bytes t e p =
     let h = text_takes bytes t e in
     let fields : octets_fields bytes ≡ string_fields t = ap octets_fields h.1 ∙ string_is t in
-    let few : length t + 1 < 2 ^ 32 = omega (arith, p.cdr.0, ap length h.1, length_push t 0) in
-    passes_of c d (text t) (h.0, few) (subst (λ (fs : List Field). Passed c d fs) fields (passed_of c d (octets bytes) p))
+    let few : length t + 1 < 2 ^ 32 = omega (arith, p.fits, ap length h.1, length_push t 0) in
+    passes_of c d (text t) (h.0, few) (subst (λ (fs : List Field). Spans c d fs) fields p.spans)
 
 pub string_bad : (c d : Cursor) (bytes : List ℕ) → text_before_nul bytes ≡ None → Passes c d (octets bytes) → Fails c string (fault BadString (aligned 4 c.place))
 string_bad c d bytes e p = inr (record { bytes = bytes; behind = d; passes = p; bad = text_fails bytes e; told = refl })

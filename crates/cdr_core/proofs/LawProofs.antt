@@ -4,16 +4,18 @@ use Rattle.std.specs.Int.{Width, byte_len}
 use Rattle.std.proofs.lemmas.List.{append_cancel_right}
 use Rattle.orb_base.specs.declared.order.Order.{Order}
 use Rattle.cdr_core.specs.declared.fault.CdrFault.{CdrFault}
+use Rattle.cdr_core.specs.Field.{Field}
 use Rattle.cdr_core.specs.Cursor.{Cursor, cursor, AreBytes, Reads}
+use Rattle.cdr_core.specs.Spelling.{IsSpelled}
 use Rattle.cdr_core.specs.Reading.{number_at, bool_at, octets_at, string_at, encap_at}
 use Rattle.cdr_core.specs.Basic.{BasicType, integer, boolean, octet_sequence, string, BasicValue, unsigned, truth, octets, text, type_of, IsBasic, Fits, fields_of, Cdr, spell}
-use Rattle.cdr_core.specs.Passing.{Passes, Fails}
-use Rattle.cdr_core.specs.Encapsulation.{order_byte}
-use Rattle.cdr_core.specs.Laws.{as_value, read, IsExact, ReadsExactly, ReadsBack, ReadsOneWay, EncapsulationsAreExact, EntersBack}
+use Rattle.cdr_core.specs.Passing.{Spans, Passes, Fails}
+use Rattle.cdr_core.specs.Encapsulation.{order_byte, Encapsulates, Enters}
+use Rattle.cdr_core.specs.Laws.{as_value, read, IsExact, ReadsExactly, ReadsBack, ReadsOneWay, EncapsulationsAreExact, EntersBack, Holds, HoldsWithin}
 use Rattle.cdr_core.proofs.Binding.{ok_is}
 use Rattle.cdr_core.proofs.Spelled.{spelled_zeros}
-use Rattle.cdr_core.proofs.Parts.{Passed, number_takes, number_fails, number_refuses, number_reads}
-use Rattle.cdr_core.proofs.Counts.{passes_of, passed_of, octets_takes, octets_reads, octets_fail, octets_refuse}
+use Rattle.cdr_core.proofs.Parts.{number_takes, number_fails, number_refuses, number_reads}
+use Rattle.cdr_core.proofs.Counts.{passes_of, octets_takes, octets_reads, octets_fail, octets_refuse}
 use Rattle.cdr_core.proofs.Values.{bool_takes, bool_reads, bool_fails, bool_refuses, string_takes, string_reads, string_fails, string_refuses, encap_takes, encap_reads, encap_fails, encap_refuses}
 
 as_ok : {A : Type 0} (value : A → BasicValue) (r : Reads A) (y : BasicValue × Cursor) → as_value value r ≡ Ok y → (x : A × Cursor) × (r ≡ Ok x) × ((value x.0, x.1) ≡ y)
@@ -31,23 +33,23 @@ takes : (kind : BasicType) (c : Cursor) (y : BasicValue × Cursor) → IsBasic k
 takes (integer w) c y basic fits e =
     let a = as_ok (unsigned w) (number_at w c) y e in
     let t = number_takes w c a.0 basic fits a.1 in
-    subst (Found (integer w) c) a.2 (refl, passes_of c a.0.1 (unsigned w a.0.0) t.fits t.passed)
+    subst (Found (integer w) c) a.2 (refl, passes_of c a.0.1 (unsigned w a.0.0) t.fits t.spans)
 takes boolean c y basic fits e =
     let a = as_ok truth (bool_at c) y e in
     subst (Found boolean c) a.2 (refl, passes_of c a.0.1 (truth a.0.0) tt (bool_takes c a.0 fits a.1))
 takes octet_sequence c y basic fits e =
     let a = as_ok octets (octets_at c) y e in
     let t = octets_takes c a.0 fits a.1 in
-    subst (Found octet_sequence c) a.2 (refl, passes_of c a.0.1 (octets a.0.0) t.fits t.passed)
+    subst (Found octet_sequence c) a.2 (refl, passes_of c a.0.1 (octets a.0.0) t.fits t.spans)
 takes string c y basic fits e =
     let a = as_ok text (string_at c) y e in
     subst (Found string c) a.2 (refl, string_takes c a.0 fits a.1)
 
 reads : (v : BasicValue) (c d : Cursor) → IsBasic (type_of v) → Passes c d v → read (type_of v) c ≡ Ok (v, d)
-reads (unsigned w n) c d basic p = rw (number_reads w c d n basic p.cdr.0 (passed_of c d (unsigned w n) p)) refl
-reads (truth b) c d basic p = rw (bool_reads c d b (passed_of c d (truth b) p)) refl
-reads (octets bytes) c d basic p = rw (octets_reads c d bytes p.cdr.0 (passed_of c d (octets bytes) p)) refl
-reads (text bytes) c d basic p = rw (string_reads c d bytes p.cdr.0.0 p.cdr.0.1 (passed_of c d (text bytes) p)) refl
+reads (unsigned w n) c d basic p = rw (number_reads w c d n basic p.fits p.spans) refl
+reads (truth b) c d basic p = rw (bool_reads c d b p.spans) refl
+reads (octets bytes) c d basic p = rw (octets_reads c d bytes p.fits p.spans) refl
+reads (text bytes) c d basic p = rw (string_reads c d bytes p.fits.0 p.fits.1 p.spans) refl
 
 fails : (kind : BasicType) (c : Cursor) (f : CdrFault) → AreBytes c.rest → read kind c ≡ Err f → Fails c kind f
 fails (integer w) c f fits e = number_fails w c f (as_err (unsigned w) (number_at w c) f e)
@@ -70,7 +72,7 @@ reads_exactly_law kind c basic fits = record {
 -- a spelling with any pads stands between two cursors
 between : (order : Order) (place : ℕ) (v : BasicValue) (x rest : List ℕ) → Cdr order place v x
     → Passes (cursor order place (x ++ rest)) (cursor order (place + length x) rest) v
-between order place v x rest h = record { spelling = x; parts = refl; cdr = h; order = refl; place = refl }
+between order place v x rest h = record { fits = h.0; spans = record { spelling = x; parts = refl; spelled = h.1; order = refl; place = refl } }
 
 pub reads_back_law : ReadsBack
 reads_back_law order place v rest basic fits =
@@ -100,3 +102,25 @@ enters_back_law order place inner bytes rest lt =
     let spelling : List ℕ = spell order place v in
     encap_reads (cursor order place (spelling ++ rest)) (cursor order (place + length spelling) rest) (cursor inner 1 bytes)
       (record { passes = between order place v spelling rest (omega arith, spelled_zeros order place (fields_of v)); place = refl })
+
+pub holds_within_law : HoldsWithin
+holds_within_law order fields bytes = (λ h. holds h, λ h. encapsulates h)
+  where
+    holds : Encapsulates order fields bytes → Holds order fields bytes
+    holds h = record {
+      inner = cursor order 1 (h.spelling ++ h.behind);
+      behind = cursor order (1 + length h.spelling) h.behind;
+      parts = h.parts;
+      order = refl;
+      place = refl;
+      spans = record { spelling = h.spelling; parts = refl; spelled = h.spelled; order = refl; place = refl }
+    }
+    encapsulates : Holds order fields bytes → Encapsulates order fields bytes
+    encapsulates h =
+      let spelled : IsSpelled order h.inner.place fields h.spans.spelling = subst (λ (o : Order). IsSpelled o h.inner.place fields h.spans.spelling) h.order h.spans.spelled in
+      record {
+        spelling = h.spans.spelling;
+        behind = h.behind.rest;
+        parts = h.parts ∙ ap (λ (x : List ℕ). order_byte order ∷ x) h.spans.parts;
+        spelled = subst (λ (n : ℕ). IsSpelled order n fields h.spans.spelling) h.place spelled
+      }

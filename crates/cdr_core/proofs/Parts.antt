@@ -11,7 +11,7 @@ use Rattle.cdr_core.specs.Field.{Field, number, number_bytes, fields_end, field_
 use Rattle.cdr_core.specs.Spelling.{IsSpelled}
 use Rattle.cdr_core.specs.Cursor.{Cursor, AreBytes, cursor, ahead, aligned, fault, Reads, ◌>>=◌}
 use Rattle.cdr_core.specs.Reading.{piece_at, number_of, number_at}
-use Rattle.cdr_core.specs.Passing.{IsShort}
+use Rattle.cdr_core.specs.Passing.{Spans, IsShort}
 use Rattle.cdr_core.proofs.Spelled.{spelled_one, spelled_then, split, length-spelled, length-number_bytes}
 use Rattle.cdr_core.proofs.Numbers.{number_again, number_back, number_below}
 use Rattle.cdr_core.proofs.Binding.{bind_ok, bind_err, guard_ok, guard_err, ok_is}
@@ -26,16 +26,8 @@ AreBytes-take n bytes h i =
       | inr le ↦ rw (get_or_past (take n bytes) i 0 (omega (arith, length-take n bytes))) (omega arith)
     ]
 
--- the bytes between two cursors spell the fields
-pub record Passed (old new : Cursor) (fields : List Field) : Type 0 where
-  pub spelling : List ℕ
-  pub parts : old.rest ≡ spelling ++ new.rest
-  pub spelled : IsSpelled old.order old.place fields spelling
-  pub order : new.order ≡ old.order
-  pub place : new.place ≡ old.place + length spelling
-
-pub passed_then : (c d e : Cursor) (a b : List Field) → Passed c d a → Passed d e b → Passed c e (a ++ b)
-passed_then c d e a b p q =
+pub spans_then : (c d e : Cursor) (a b : List Field) → Spans c d a → Spans d e b → Spans c e (a ++ b)
+spans_then c d e a b p q =
     let place : d.place ≡ fields_end c.place a = p.place ∙ sym (length-spelled c.order c.place a p.spelling p.spelled) in
     let behind : IsSpelled c.order (fields_end c.place a) b q.spelling =
       subst (λ (o : Order). IsSpelled o (fields_end c.place a) b q.spelling) p.order (subst (λ (n : ℕ). IsSpelled d.order n b q.spelling) place q.spelled) in
@@ -48,7 +40,7 @@ passed_then c d e a b p q =
     }
 
 -- a reading of what was spelled, whatever follows, is a reading between any two such cursors
-pub read_between : {A : Type 0} (read : Cursor → Reads A) (c d : Cursor) (v : A) (fields : List Field) (p : Passed c d fields)
+pub read_between : {A : Type 0} (read : Cursor → Reads A) (c d : Cursor) (v : A) (fields : List Field) (p : Spans c d fields)
     → read (cursor c.order c.place (p.spelling ++ d.rest)) ≡ Ok (v, cursor c.order (c.place + length p.spelling) d.rest) → read c ≡ Ok (v, d)
 read_between read c d v fields p e =
     ap (λ (rest : List ℕ). read (cursor c.order c.place rest)) p.parts ∙ e
@@ -57,11 +49,11 @@ read_between read c d v fields p e =
 -- between the first of several fields and the others
 pub record Between (c e : Cursor) (a b : List Field) : Type 0 where
   pub middle : Cursor
-  pub first : Passed c middle a
-  pub others : Passed middle e b
+  pub first : Spans c middle a
+  pub others : Spans middle e b
 
-pub passed_split : (c e : Cursor) (a b : List Field) → Passed c e (a ++ b) → Between c e a b
-passed_split c e a b p =
+pub spans_split : (c e : Cursor) (a b : List Field) → Spans c e (a ++ b) → Between c e a b
+spans_split c e a b p =
     let h = split c.order c.place a b p.spelling p.spelled in
     let middle : Cursor = cursor c.order (fields_end c.place a) (h.behind ++ e.rest) in
     let first_end = length-spelled c.order c.place a h.front h.first in
@@ -127,7 +119,7 @@ number_ok w c y e =
 
 -- a number was read from bytes, and fits
 pub record Numbered (w : Width) (old new : Cursor) (n : ℕ) : Type 0 where
-  pub passed : Passed old new (number w n ∷ [])
+  pub spans : Spans old new (number w n ∷ [])
   pub fits : n < 2 ^ (8 * byte_len w)
   pub bytes : AreBytes new.rest
 
@@ -146,7 +138,7 @@ numbered w c s fits long =
     let pad_is : length pad ≡ len = omega (arith, length-take len c.rest) in
     let back : number_bytes c.order w n ≡ text = number_back c.order w text s text_len text_fits in
     record {
-      passed = record {
+      spans = record {
         spelling = pad ++ text;
         parts = sym (append_assoc pad text (drop size here) ∙ ap (λ (x : List ℕ). pad ++ x) (take-append-drop size here) ∙ take-append-drop len c.rest);
         spelled = subst (λ (x : List ℕ). IsSpelled c.order c.place (number w n ∷ []) (pad ++ x)) back (spelled_one c.order c.place (number w n) pad pad_is);
@@ -185,5 +177,5 @@ spelled_again w order place n x rest s lt p =
     let behind : place + pad_len (byte_len w) place + byte_len w ≡ place + length (p.0 ++ text) = omega (arith, len, p.2, length-append p.0 text) in
     rw (parts, again, number_again order w n s lt, behind) refl
 
-pub number_reads : (w : Width) (c d : Cursor) (n : ℕ) → byte_len w ≤ 8 → n < 2 ^ (8 * byte_len w) → Passed c d (number w n ∷ []) → number_at w c ≡ Ok (n, d)
+pub number_reads : (w : Width) (c d : Cursor) (n : ℕ) → byte_len w ≤ 8 → n < 2 ^ (8 * byte_len w) → Spans c d (number w n ∷ []) → number_at w c ≡ Ok (n, d)
 number_reads w c d n s lt p = read_between (number_at w) c d n (number w n ∷ []) p (spelled_again w c.order c.place n p.spelling d.rest s lt p.spelled)

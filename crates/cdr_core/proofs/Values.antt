@@ -13,12 +13,12 @@ use Rattle.cdr_core.specs.Cursor.{Cursor, AreBytes, cursor, aligned, fault, Read
 use Rattle.cdr_core.specs.Reading.{number_at, bool_at, octets_at, as_text, text_before_nul, string_at, entered, as_inner, encap_at}
 use Rattle.cdr_core.specs.Basic.{BasicValue, Fits, fields_of, boolean, string}
 use Rattle.cdr_core.specs.Basic as basic
-use Rattle.cdr_core.specs.Passing.{Passes, Fails, FailsCount}
+use Rattle.cdr_core.specs.Passing.{Spans, Passes, Fails, FailsCount}
 use Rattle.cdr_core.specs.Encapsulation.{order_byte, Enters, IsUnordered, FailsEncapsulation}
 use Rattle.cdr_core.proofs.Binding.{bind_ok, bind_err, guard_ok, guard_err, ok_is}
 use Rattle.cdr_core.proofs.Texts.{text_takes, text_again, text_fails, text_refuses}
-use Rattle.cdr_core.proofs.Parts.{Passed, number_takes, number_fails, number_refuses, number_reads}
-use Rattle.cdr_core.proofs.Counts.{passes_of, passed_of, octets_takes, octets_reads, octets_fail, octets_refuse}
+use Rattle.cdr_core.proofs.Parts.{number_takes, number_fails, number_refuses, number_reads}
+use Rattle.cdr_core.proofs.Counts.{passes_of, octets_takes, octets_reads, octets_fail, octets_refuse}
 
 -- ---- booleans
 
@@ -38,16 +38,16 @@ low_bit false = omega arith
 abbrev bool_step : Cursor → ℕ × Cursor → Reads Bool
 bool_step c x = cond (ltb 1 x.0) (Err (fault BadBool c.place)) (Ok (eqb x.0 1, x.1))
 
-pub bool_takes : (c : Cursor) (y : Bool × Cursor) → AreBytes c.rest → bool_at c ≡ Ok y → Passed c y.1 (number w8 (from_bool y.0) ∷ [])
+pub bool_takes : (c : Cursor) (y : Bool × Cursor) → AreBytes c.rest → bool_at c ≡ Ok y → Spans c y.1 (number w8 (from_bool y.0) ∷ [])
 unfolding bool_at
 bool_takes c y fits e =
     let b = bind_ok (number_at w8 c) (bool_step c) y e in
     let g = guard_ok (ltb 1 b.0.0) (fault BadBool c.place) (eqb b.0.0 1, b.0.1) y b.2 in
     let t = number_takes w8 c b.0 (omega arith) fits b.1 in
     let same = bit_of b.0.0 (ltb-false _ _ g.0) in
-    subst (λ (x : Bool × Cursor). Passed c x.1 (number w8 (from_bool x.0) ∷ [])) g.1 (subst (λ (n : ℕ). Passed c b.0.1 (number w8 n ∷ [])) same t.passed)
+    subst (λ (x : Bool × Cursor). Spans c x.1 (number w8 (from_bool x.0) ∷ [])) g.1 (subst (λ (n : ℕ). Spans c b.0.1 (number w8 n ∷ [])) same t.spans)
 
-pub bool_reads : (c d : Cursor) (b : Bool) → Passed c d (number w8 (from_bool b) ∷ []) → bool_at c ≡ Ok (b, d)
+pub bool_reads : (c d : Cursor) (b : Bool) → Spans c d (number w8 (from_bool b) ∷ []) → bool_at c ≡ Ok (b, d)
 unfolding bool_at
 bool_reads c d b p =
     let low = low_bit b in
@@ -62,15 +62,15 @@ bool_fails c f fits e =
         let t = number_takes w8 c h.0 (omega arith) fits h.1 in
         let g = guard_err (ltb 1 h.0.0) (fault BadBool c.place) (eqb h.0.0 1, h.0.1) f h.2 in
         let high : 1 < h.0.0 = ltb-true _ _ g.0 in
-        inr (record { octet = h.0.0; behind = h.0.1; passes = passes_of c h.0.1 (basic.unsigned w8 h.0.0) t.fits t.passed; high = high; told = sym g.1 })
+        inr (record { octet = h.0.0; behind = h.0.1; passes = passes_of c h.0.1 (basic.unsigned w8 h.0.0) t.fits t.spans; high = high; told = sym g.1 })
     ]
 
 pub bool_refuses : (c : Cursor) (f : CdrFault) → Fails c boolean f → bool_at c ≡ Err f
 unfolding bool_at
 bool_refuses c f (inl h) = rw (number_refuses w8 c f h) refl
 bool_refuses c f (inr h) =
-    let p = passed_of c h.behind (basic.unsigned w8 h.octet) h.passes in
-    rw (number_reads w8 c h.behind h.octet (omega arith) h.passes.cdr.0 p, lt-ltb _ _ h.high) (ap Err (sym h.told))
+    let p = h.passes.spans in
+    rw (number_reads w8 c h.behind h.octet (omega arith) h.passes.fits p, lt-ltb _ _ h.high) (ap Err (sym h.told))
 
 -- ---- strings
 
@@ -97,14 +97,14 @@ string_takes c y fits e =
     let h = text_takes b.0.0 y.0 g.0 in
     let fields : octets_fields b.0.0 ≡ string_fields y.0 = ap octets_fields h.1 ∙ string_is y.0 in
     let few : length y.0 + 1 < 2 ^ 32 = omega (arith, t.fits, ap length h.1, length_push y.0 0) in
-    let all : Passed c b.0.1 (string_fields y.0) = subst (λ (fs : List Field). Passed c b.0.1 fs) fields t.passed in
-    passes_of c y.1 (basic.text y.0) (h.0, few) (subst (λ (d : Cursor). Passed c d (string_fields y.0)) g.1 all)
+    let all : Spans c b.0.1 (string_fields y.0) = subst (λ (fs : List Field). Spans c b.0.1 fs) fields t.spans in
+    passes_of c y.1 (basic.text y.0) (h.0, few) (subst (λ (d : Cursor). Spans c d (string_fields y.0)) g.1 all)
 
-pub string_reads : (c d : Cursor) (text : List ℕ) → HasNoNul text → length text + 1 < 2 ^ 32 → Passed c d (string_fields text) → string_at c ≡ Ok (text, d)
+pub string_reads : (c d : Cursor) (text : List ℕ) → HasNoNul text → length text + 1 < 2 ^ 32 → Spans c d (string_fields text) → string_at c ≡ Ok (text, d)
 unfolding string_at
 string_reads c d text none lt p =
     let few : length (text ++ 0 ∷ []) < 2 ^ 32 = omega (arith, length_push text 0) in
-    let whole : Passed c d (octets_fields (text ++ 0 ∷ [])) = subst (λ (fs : List Field). Passed c d fs) (sym (string_is text)) p in
+    let whole : Spans c d (octets_fields (text ++ 0 ∷ [])) = subst (λ (fs : List Field). Spans c d fs) (sym (string_is text)) p in
     rw (octets_reads c d (text ++ 0 ∷ []) few whole, text_again text none) refl
 
 pub string_fails : (c : Cursor) (f : CdrFault) → AreBytes c.rest → string_at c ≡ Err f → Fails c string f
@@ -115,15 +115,15 @@ string_fails c f fits e =
       | inr h ↦
         let t = octets_takes c h.0 fits h.1 in
         let g = text_err (aligned 4 c.place) h.0.1 (text_before_nul h.0.0) f h.2 in
-        inr (record { bytes = h.0.0; behind = h.0.1; passes = passes_of c h.0.1 (basic.octets h.0.0) t.fits t.passed; bad = text_fails h.0.0 g.0; told = g.1 })
+        inr (record { bytes = h.0.0; behind = h.0.1; passes = passes_of c h.0.1 (basic.octets h.0.0) t.fits t.spans; bad = text_fails h.0.0 g.0; told = g.1 })
     ]
 
 pub string_refuses : (c : Cursor) (f : CdrFault) → Fails c string f → string_at c ≡ Err f
 unfolding string_at
 string_refuses c f (inl h) = rw (octets_refuse c f h) refl
 string_refuses c f (inr h) =
-    let p = passed_of c h.behind (basic.octets h.bytes) h.passes in
-    rw (octets_reads c h.behind h.bytes h.passes.cdr.0 p, text_refuses h.bytes h.bad) (ap Err (sym h.told))
+    let p = h.passes.spans in
+    rw (octets_reads c h.behind h.bytes h.passes.fits p, text_refuses h.bytes h.bad) (ap Err (sym h.told))
 
 -- ---- encapsulations
 
@@ -175,7 +175,7 @@ encap_takes c y fits e =
     let g = inner_ok b.0.1 (entered b.0.0) y b.2 in
     let t = octets_takes c b.0 fits b.1 in
     let h = entered_takes b.0.0 y.0 g.0 in
-    let passes : Passes c b.0.1 (basic.octets b.0.0) = passes_of c b.0.1 (basic.octets b.0.0) t.fits t.passed in
+    let passes : Passes c b.0.1 (basic.octets b.0.0) = passes_of c b.0.1 (basic.octets b.0.0) t.fits t.spans in
     let there : Passes c y.1 (basic.octets b.0.0) = subst (λ (d : Cursor). Passes c d (basic.octets b.0.0)) g.1 passes in
     record { passes = subst (λ (x : List ℕ). Passes c y.1 (basic.octets x)) h.0 there; place = h.1 }
 
@@ -183,8 +183,8 @@ pub encap_reads : (c d inner : Cursor) → Enters c d inner → encap_at c ≡ O
 unfolding encap_at
 encap_reads c d inner h =
     let bytes : List ℕ = order_byte inner.order ∷ inner.rest in
-    let p = passed_of c d (basic.octets bytes) h.passes in
-    rw (octets_reads c d bytes h.passes.cdr.0 p, entered_reads inner.order inner.rest, ← h.place) refl
+    let p = h.passes.spans in
+    rw (octets_reads c d bytes h.passes.fits p, entered_reads inner.order inner.rest, ← h.place) refl
 
 pub encap_fails : (c : Cursor) (f : CdrFault) → AreBytes c.rest → encap_at c ≡ Err f → FailsEncapsulation c f
 unfolding encap_at
@@ -193,12 +193,12 @@ encap_fails c f fits e =
       | inl h ↦ inl (octets_fail c f fits h)
       | inr h ↦
         let t = octets_takes c h.0 fits h.1 in
-        inr (record { bytes = h.0.0; behind = h.0.1; passes = passes_of c h.0.1 (basic.octets h.0.0) t.fits t.passed; bad = entered_fails h.0.0 f (inner_err h.0.1 (entered h.0.0) f h.2) })
+        inr (record { bytes = h.0.0; behind = h.0.1; passes = passes_of c h.0.1 (basic.octets h.0.0) t.fits t.spans; bad = entered_fails h.0.0 f (inner_err h.0.1 (entered h.0.0) f h.2) })
     ]
 
 pub encap_refuses : (c : Cursor) (f : CdrFault) → FailsEncapsulation c f → encap_at c ≡ Err f
 unfolding encap_at
 encap_refuses c f (inl h) = rw (octets_refuse c f h) refl
 encap_refuses c f (inr h) =
-    let p = passed_of c h.behind (basic.octets h.bytes) h.passes in
-    rw (octets_reads c h.behind h.bytes h.passes.cdr.0 p, entered_refuses h.bytes f h.bad) refl
+    let p = h.passes.spans in
+    rw (octets_reads c h.behind h.bytes h.passes.fits p, entered_refuses h.bytes f h.bad) refl

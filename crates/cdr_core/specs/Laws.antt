@@ -2,11 +2,12 @@
 use Rattle.std.specs.Prelude.{◌≡◌, ℕ, ◌+◌, ◌^◌, ◌<◌, List, ◌∷◌, ◌++◌, ◌↔◌, Result, Ok, Err, length}
 use Rattle.orb_base.specs.declared.order.Order.{Order}
 use Rattle.cdr_core.specs.declared.fault.CdrFault.{CdrFault}
+use Rattle.cdr_core.specs.Field.{Field}
 use Rattle.cdr_core.specs.Cursor.{Cursor, cursor, AreBytes, Reads}
 use Rattle.cdr_core.specs.Basic.{BasicType, integer, boolean, octet_sequence, string, BasicValue, unsigned, truth, octets, text, type_of, IsBasic, Fits, Cdr, spell}
 use Rattle.cdr_core.specs.Reading.{number_at, bool_at, octets_at, string_at, encap_at}
-use Rattle.cdr_core.specs.Passing.{Passes, Fails}
-use Rattle.cdr_core.specs.Encapsulation.{order_byte, Enters, FailsEncapsulation}
+use Rattle.cdr_core.specs.Passing.{Spans, Passes, Fails}
+use Rattle.cdr_core.specs.Encapsulation.{order_byte, Encapsulates, Enters, FailsEncapsulation}
 
 -- a value of a basic type
 abbrev pub as_value : {A : Type 0} → (A → BasicValue) → Reads A → Reads BasicValue
@@ -51,3 +52,16 @@ abbrev pub EntersBack : Type 0
 EntersBack = (order : Order) (place : ℕ) (inner : Order) (bytes rest : List ℕ) → length bytes + 1 < 2 ^ 32
     → let spelling = spell order place (octets (order_byte inner ∷ bytes)) in
       encap_at (cursor order place (spelling ++ rest)) ≡ Ok (cursor inner 1 bytes, cursor order (place + length spelling) rest)
+
+-- an inner cursor behind the order byte of these bytes, from which the fields are spelled
+pub record Holds (its_order : Order) (fields : List Field) (bytes : List ℕ) : Type 0 where
+  pub inner : Cursor
+  pub behind : Cursor
+  pub parts : bytes ≡ order_byte its_order ∷ inner.rest
+  pub order : inner.order ≡ its_order
+  pub place : inner.place ≡ 1
+  pub spans : Spans inner behind fields
+
+-- bytes encapsulate the fields exactly where the fields are spelled from where a reader enters
+abbrev pub HoldsWithin : Type 0
+HoldsWithin = (order : Order) (fields : List Field) (bytes : List ℕ) → Encapsulates order fields bytes ↔ Holds order fields bytes

@@ -5,16 +5,23 @@ use Rattle.orb_base.specs.NulFree.{HasNoNul}
 use Rattle.cdr_core.specs.declared.fault.CdrFault.{CdrFault}
 use Rattle.cdr_core.specs.declared.fault.CdrCause.TheVariants.{Short, BadBool, BadString, TooMany}
 use Rattle.cdr_core.specs.Alignment.{pad_len}
+use Rattle.cdr_core.specs.Field.{Field}
+use Rattle.cdr_core.specs.Spelling.{IsSpelled}
 use Rattle.cdr_core.specs.Cursor.{Cursor, fault, aligned}
-use Rattle.cdr_core.specs.Basic.{BasicType, integer, boolean, octet_sequence, string, BasicValue, unsigned, octets, Cdr}
+use Rattle.cdr_core.specs.Basic.{BasicType, integer, boolean, octet_sequence, string, BasicValue, unsigned, octets, Fits, fields_of}
+
+-- the bytes between two cursors spell the fields
+pub record Spans (old new : Cursor) (fields : List Field) : Type 0 where
+  pub spelling : List ℕ
+  pub parts : old.rest ≡ spelling ++ new.rest
+  pub spelled : IsSpelled old.order old.place fields spelling
+  pub order : new.order ≡ old.order
+  pub place : new.place ≡ old.place + length spelling
 
 -- the bytes between two cursors spell the value
 pub record Passes (old new : Cursor) (v : BasicValue) : Type 0 where
-  pub spelling : List ℕ
-  pub parts : old.rest ≡ spelling ++ new.rest
-  pub cdr : Cdr old.order old.place v spelling
-  pub order : new.order ≡ old.order
-  pub place : new.place ≡ old.place + length spelling
+  pub fits : Fits v
+  pub spans : Spans old new (fields_of v)
 
 -- the bytes of the size, or the pad before them, are not all there
 abbrev pub IsShort : ℕ → Cursor → CdrFault → Type 0

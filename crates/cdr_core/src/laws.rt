@@ -1,5 +1,5 @@
 //! Laws of the representation, each the contract of a call that does nothing.
-ghost use Rattle.cdr_core.specs.Laws.{ReadsExactly, ReadsBack, ReadsOneWay, EncapsulationsAreExact, EntersBack};
+ghost use Rattle.cdr_core.specs.Laws.{ReadsExactly, ReadsBack, ReadsOneWay, EncapsulationsAreExact, EntersBack, HoldsWithin};
 
 /// A basic type has a reading exactly where its bytes spell a value of it, and else the first fault.
 #[tactic(auto, using(crate::proofs::LawProofs::reads_exactly_law))]
@@ -33,5 +33,11 @@ pub fn enters_exactly()
 #[tactic(auto, using(crate::proofs::LawProofs::enters_back_law))]
 pub fn enters_back()
     ensures { EntersBack }
+{
+}
+
+/// Bytes encapsulate fields exactly where the fields are spelled from where a reader enters.
+pub fn holds_within()
+    ensures { HoldsWithin }
 {
 }

@@ -7,6 +7,7 @@
 mod fault;
 pub mod laws;
 mod number;
+mod piece;
 mod reader;
 mod writer;
 

@@ -10,6 +10,7 @@ ghost use Rattle.cdr_core.specs.Reading.{piece_at, number_at, bool_at, count_at,
 ghost use Rattle.orb_base.specs.NulFree.{nul_at};
 
 use crate::fault::{CdrCause, CdrFault};
+use crate::piece::{cut, pad, text_of};
 use crate::number::{u8_of, u16_of, u32_of, u64_of};
 use orb_base::limits::MAX_MESSAGE;
 use orb_base::Order;
@@ -159,7 +160,7 @@ impl<'a> Reader<'a> {
     }
 
     /// The bytes of an octet sequence.
-    #[tactic(auto, using(crate::proofs::Exact::octets_found), unfolding(crate::specs::Reading::octets_at))]
+    #[tactic(auto, unfolding(crate::specs::Reading::octets_at))]
     pub fn take_octets(&mut self) -> Result<&'a [u8], CdrFault>
         ensures found { IfOk result (λ bytes. Passes self.old self.new (octets bytes.now)) }
         ensures fails { IfErr result (Fails self.old octet_sequence) }
@@ -174,7 +175,7 @@ impl<'a> Reader<'a> {
     }
 
     /// The bytes of a string, without the NUL.
-    #[tactic(auto, using(crate::proofs::Exact::string_found, crate::proofs::Exact::string_bad, crate::proofs::Exact::string_short), unfolding(crate::specs::Reading::string_at))]
+    #[tactic(auto, using(crate::proofs::Exact::string_bad, crate::proofs::Exact::string_short), unfolding(crate::specs::Reading::string_at))]
     pub fn take_string(&mut self) -> Result<&'a [u8], CdrFault>
         ensures found { IfOk result (λ bytes. Passes self.old self.new (text bytes.now)) }
         ensures fails { IfErr result (Fails self.old string) }
@@ -196,7 +197,7 @@ impl<'a> Reader<'a> {
     }
 
     /// Enters an encapsulation: a reader behind its order byte, whose places count from that byte.
-    #[tactic(auto, using(crate::proofs::Exact::encap_found, crate::proofs::Exact::encap_bad, crate::proofs::Exact::encap_short), unfolding(crate::specs::Reading::encap_at))]
+    #[tactic(auto, using(crate::proofs::Exact::encap_bad, crate::proofs::Exact::encap_short), unfolding(crate::specs::Reading::encap_at))]
     pub fn enter_encap(&mut self) -> Result<Reader<'a>, CdrFault>
         ensures found { IfOk result (λ inner. Enters self.old self.new inner) }
         ensures fails { IfErr result (FailsEncapsulation self.old) }
@@ -261,51 +262,6 @@ impl<'a> Reader<'a> {
             }
         }
     }
-}
-
-/// How many bytes of pad bring a place to a multiple of the size.
-pub(crate) fn pad(size: usize, place: usize) -> usize
-    requires { 0 < size }
-    ensures value { result ≡ pad_len size place }
-    ensures few { result < size }
-{
-    (size - place % size) % size
-}
-
-/// As many bytes as the size behind a pad, and those behind them.
-fn cut(bytes: &[u8], pad: usize, size: usize) -> Option<(&[u8], &[u8])>
-    requires pad { pad ≤ 8 }
-    requires size { size ≤ 8 }
-    ensures none { IfNone result (length bytes.now < pad + size) }
-    ensures room { OnSome result (pad + size ≤ length bytes.now) }
-    ensures piece { IfSome result (λ x. x.0.now ≡ take size (drop pad bytes.now)) }
-    ensures rest { IfSome result (λ x. x.1.now ≡ drop size (drop pad bytes.now)) }
-    ensures bytes { AreBytes bytes.now }
-{
-    if bytes.len() < pad + size {
-        return None;
-    }
-    let (_, here) = bytes.split_at(pad);
-    Some(here.split_at(size))
-}
-
-/// The bytes before the NUL at the end, where no other NUL stands before it.
-#[tactic(auto, unfolding(crate::specs::Reading::text_before_nul))]
-fn text_of(octets: &[u8]) -> Option<&[u8]>
-    ensures { option_map (λ text. text.now) result ≡ text_before_nul octets.now }
-{
-    match first_nul(octets) {
-        Some(at) if at + 1 == octets.len() => Some(&octets[..at]),
-        _ => None,
-    }
-}
-
-/// The index of the first NUL.
-fn first_nul(octets: &[u8]) -> Option<usize>
-    ensures found { result ≡ nul_at octets.now }
-    ensures within { IfSome result (λ at. at < length octets.now) }
-{
-    octets.iter().position(|b| *b == 0)
 }
 
 /// A reader over an encapsulation of these bytes.

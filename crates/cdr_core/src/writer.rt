@@ -5,7 +5,7 @@ ghost use Rattle.cdr_core.specs.Field.{number, run, string_fields, octets_fields
 ghost use Rattle.cdr_core.specs.Writing.{Puts, extended};
 
 use crate::number::{bytes_of_u8, bytes_of_u16, bytes_of_u32, bytes_of_u64};
-use crate::reader::pad;
+use crate::piece::pad;
 use orb_base::limits::MAX_MESSAGE;
 use orb_base::{NoMemory, Octets, Order, Text};
 use std::alloc::Global;
