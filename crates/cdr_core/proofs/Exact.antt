@@ -1,6 +1,6 @@
 -- What the calls of a reader answer, each by what the call under it answered.
-use Rattle.std.proofs.Common.{◌≡◌, ℕ, ◌+◌, ◌^◌, ◌<◌, ◌≤◌, eqb, List, [], ◌∷◌, length, take, Option, Some, None, Result, Ok, Err, refl, sym, ap, subst, ◌∙◌, arith, inl, inr}
-use Rattle.std.specs.Int.{Width, w8, w32, byte_len, from_bool}
+use Rattle.std.proofs.Common.{◌≡◌, ℕ, ◌+◌, ◌^◌, ◌<◌, ◌≤◌, eqb, List, [], ◌∷◌, length, take, Some, None, Ok, Err, refl, ap, subst, ◌∙◌, arith, inl, inr}
+use Rattle.std.specs.Int.{Width, w8, w32, byte_len}
 use Rattle.std.proofs.lemmas.List.{length-take, length_push}
 use Rattle.cdr_core.specs.declared.fault.CdrFault.{CdrFault}
 use Rattle.cdr_core.specs.declared.fault.CdrCause.TheVariants.{BadBool, BadString, TooMany}
@@ -44,7 +44,7 @@ octets_found c d n room p =
     let len : n ≡ length bytes = omega (arith, length-take n d.rest) in
     let fits : length bytes < 2 ^ 32 = omega (arith, p.fits) in
     let both : Spans c (ahead n d) (number w32 n ∷ run 1 bytes ∷ []) =
-      spans_then c d (ahead n d) (number w32 n ∷ []) (run 1 bytes ∷ []) p.spans (run_spans d n room) in
+    spans_then c d (ahead n d) (number w32 n ∷ []) (run 1 bytes ∷ []) p.spans (run_spans d n room) in
     passes_of c (ahead n d) (octets bytes) fits (subst (λ (k : ℕ). Spans c (ahead n d) (number w32 k ∷ run 1 bytes ∷ [])) len both)
 
 pub string_found : (c d : Cursor) (bytes t : List ℕ) → text_before_nul bytes ≡ Some t → Passes c d (octets bytes) → Passes c d (text t)

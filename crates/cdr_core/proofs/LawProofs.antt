@@ -1,17 +1,15 @@
 -- The laws, by cases over the basic types.
-use Rattle.std.proofs.Common.{◌≡◌, ℕ, ◌+◌, ◌<◌, Bool, List, [], ◌∷◌, ◌++◌, length, Result, Ok, Err, refl, sym, ap, subst, ◌∙◌, arith}
-use Rattle.std.specs.Int.{Width, byte_len}
+use Rattle.std.proofs.Common.{◌≡◌, ℕ, ◌+◌, List, ◌∷◌, ◌++◌, length, Ok, Err, refl, sym, ap, subst, ◌∙◌, arith}
 use Rattle.std.proofs.lemmas.List.{append_cancel_right}
 use Rattle.orb_base.specs.declared.order.Order.{Order}
 use Rattle.cdr_core.specs.declared.fault.CdrFault.{CdrFault}
-use Rattle.cdr_core.specs.Field.{Field}
 use Rattle.cdr_core.specs.Cursor.{Cursor, cursor, AreBytes, Reads}
 use Rattle.cdr_core.specs.Spelling.{IsSpelled}
-use Rattle.cdr_core.specs.Reading.{number_at, bool_at, octets_at, string_at, encap_at}
-use Rattle.cdr_core.specs.Basic.{BasicType, integer, boolean, octet_sequence, string, BasicValue, unsigned, truth, octets, text, type_of, IsBasic, Fits, fields_of, Cdr, spell}
-use Rattle.cdr_core.specs.Passing.{Spans, Passes, Fails}
-use Rattle.cdr_core.specs.Encapsulation.{order_byte, Encapsulates, Enters}
-use Rattle.cdr_core.specs.Laws.{as_value, read, IsExact, ReadsExactly, ReadsBack, ReadsOneWay, EncapsulationsAreExact, EntersBack, Holds, HoldsWithin}
+use Rattle.cdr_core.specs.Reading.{number_at, bool_at, octets_at, string_at}
+use Rattle.cdr_core.specs.Basic.{BasicType, integer, boolean, octet_sequence, string, BasicValue, unsigned, truth, octets, text, type_of, IsBasic, fields_of, Cdr, spell}
+use Rattle.cdr_core.specs.Passing.{Passes, Fails}
+use Rattle.cdr_core.specs.Encapsulation.{order_byte, Encapsulates}
+use Rattle.cdr_core.specs.Laws.{as_value, read, ReadsExactly, ReadsBack, ReadsOneWay, EncapsulationsAreExact, EntersBack, Holds, HoldsWithin}
 use Rattle.cdr_core.proofs.Binding.{ok_is}
 use Rattle.cdr_core.proofs.Spelled.{spelled_zeros}
 use Rattle.cdr_core.proofs.Parts.{number_takes, number_fails, number_refuses, number_reads}
@@ -65,9 +63,9 @@ refuses string c f h = rw (string_refuses c f h) refl
 
 pub reads_exactly_law : ReadsExactly
 reads_exactly_law kind c basic fits = record {
-    found = λ v d. (λ e. takes kind c (v, d) basic fits e, λ h. subst (λ (k : BasicType). read k c ≡ Ok (v, d)) h.0 (reads v c d (subst IsBasic (sym h.0) basic) h.1));
-    fails = λ f. (λ e. fails kind c f fits e, λ h. refuses kind c f h)
-  }
+  found = λ v d. (λ e. takes kind c (v, d) basic fits e, λ h. subst (λ (k : BasicType). read k c ≡ Ok (v, d)) h.0 (reads v c d (subst IsBasic (sym h.0) basic) h.1));
+  fails = λ f. (λ e. fails kind c f fits e, λ h. refuses kind c f h);
+}
 
 -- a spelling with any pads stands between two cursors
 between : (order : Order) (place : ℕ) (v : BasicValue) (x rest : List ℕ) → Cdr order place v x
@@ -78,30 +76,30 @@ pub reads_back_law : ReadsBack
 reads_back_law order place v rest basic fits =
     let spelling : List ℕ = spell order place v in
     reads v (cursor order place (spelling ++ rest)) (cursor order (place + length spelling) rest) basic
-      (between order place v spelling rest (fits, spelled_zeros order place (fields_of v)))
+    (between order place v spelling rest (fits, spelled_zeros order place (fields_of v)))
 
 pub reads_one_way_law : ReadsOneWay
 reads_one_way_law order place v w x y bx by basic kinds cx cy same =
     let first = reads v _ _ basic (between order place v x bx cx) in
     let second = reads w _ _ (subst IsBasic kinds basic) (between order place w y by cy) in
     let both : read (type_of v) (cursor order place (x ++ bx)) ≡ Ok (w, cursor order (place + length y) by) =
-      rw (same, kinds) second in
+    rw (same, kinds) second in
     let h = ok_is (v, cursor order (place + length x) bx) (w, cursor order (place + length y) by) (sym first ∙ both) in
     let behind : bx ≡ by = ap (λ (p : BasicValue × Cursor). p.1.rest) h in
     (ap (λ (p : BasicValue × Cursor). p.0) h, append_cancel_right x y by (rw behind at same))
 
 pub encapsulations_are_exact : EncapsulationsAreExact
 encapsulations_are_exact c fits = record {
-    found = λ inner d. (λ e. encap_takes c (inner, d) fits e, λ h. encap_reads c d inner h);
-    fails = λ f. (λ e. encap_fails c f fits e, λ h. encap_refuses c f h)
-  }
+  found = λ inner d. (λ e. encap_takes c (inner, d) fits e, λ h. encap_reads c d inner h);
+  fails = λ f. (λ e. encap_fails c f fits e, λ h. encap_refuses c f h);
+}
 
 pub enters_back_law : EntersBack
 enters_back_law order place inner bytes rest lt =
     let v : BasicValue = octets (order_byte inner ∷ bytes) in
     let spelling : List ℕ = spell order place v in
     encap_reads (cursor order place (spelling ++ rest)) (cursor order (place + length spelling) rest) (cursor inner 1 bytes)
-      (record { passes = between order place v spelling rest (omega arith, spelled_zeros order place (fields_of v)); place = refl })
+    (record { passes = between order place v spelling rest (omega arith, spelled_zeros order place (fields_of v)); place = refl })
 
 pub holds_within_law : HoldsWithin
 holds_within_law order fields bytes = (λ h. holds h, λ h. encapsulates h)
@@ -113,14 +111,15 @@ holds_within_law order fields bytes = (λ h. holds h, λ h. encapsulates h)
       parts = h.parts;
       order = refl;
       place = refl;
-      spans = record { spelling = h.spelling; parts = refl; spelled = h.spelled; order = refl; place = refl }
+      spans = record { spelling = h.spelling; parts = refl; spelled = h.spelled; order = refl; place = refl };
     }
+
     encapsulates : Holds order fields bytes → Encapsulates order fields bytes
     encapsulates h =
-      let spelled : IsSpelled order h.inner.place fields h.spans.spelling = subst (λ (o : Order). IsSpelled o h.inner.place fields h.spans.spelling) h.order h.spans.spelled in
-      record {
-        spelling = h.spans.spelling;
-        behind = h.behind.rest;
-        parts = h.parts ∙ ap (λ (x : List ℕ). order_byte order ∷ x) h.spans.parts;
-        spelled = subst (λ (n : ℕ). IsSpelled order n fields h.spans.spelling) h.place spelled
-      }
+        let spelled : IsSpelled order h.inner.place fields h.spans.spelling = subst (λ (o : Order). IsSpelled o h.inner.place fields h.spans.spelling) h.order h.spans.spelled in
+        record {
+          spelling = h.spans.spelling;
+          behind = h.behind.rest;
+          parts = h.parts ∙ ap (λ (x : List ℕ). order_byte order ∷ x) h.spans.parts;
+          spelled = subst (λ (n : ℕ). IsSpelled order n fields h.spans.spelling) h.place spelled;
+        }

@@ -9,7 +9,7 @@ use Rattle.std.specs.Int.{Width, byte_len}
 use Rattle.cdr_core.specs.Field.{Field, number, run, number_bytes, fields_end}
 use Rattle.cdr_core.specs.Spelling.{fields_bytes}
 use Rattle.cdr_core.proofs.Spelled.{length-number_bytes, fields_end-append, fields_bytes-append, fields_end-is, pad_one}
-use Rattle.cdr_core.specs.Writing.{Page, page, written, extended, HasFront, Puts}
+use Rattle.cdr_core.specs.Writing.{Page, page, written, HasFront, Puts}
 
 same_page : (order : Order) (p q : ℕ) (x y : List ℕ) → p ≡ q → x ≡ y → page order p x ≡ page order q y
 same_page order p q x y e f = rw (e, f) refl
@@ -34,15 +34,15 @@ piece_put (Err f) order at size pad held zeros padded piece final p z e ok err =
       front = zeros;
       missing = piece;
       parts = rw (← p, ← z) parts;
-      page = same_page order _ _ _ _ (rw same (omega (arith, length-append held zeros))) same
+      page = same_page order _ _ _ _ (rw same (omega (arith, length-append held zeros))) same;
     }
 
 written-then : (p : Page) (a b : List Field) → written (written p a) b ≡ written p (a ++ b)
 unfolding written
 written-then p a b =
     same_page p.order _ _ _ _ (sym (fields_end-append p.place a b))
-      (append_assoc p.bytes (fields_bytes p.order p.place a) (fields_bytes p.order (fields_end p.place a) b)
-       ∙ ap (λ (x : List ℕ). p.bytes ++ x) (sym (fields_bytes-append p.order p.place a b)))
+    (append_assoc p.bytes (fields_bytes p.order p.place a) (fields_bytes p.order (fields_end p.place a) b)
+    ∙ ap (λ (x : List ℕ). p.bytes ++ x) (sym (fields_bytes-append p.order p.place a b)))
 
 front_behind : (old new : Page) (a b : List Field) → HasFront (written old a) new b → HasFront old new (a ++ b)
 unfolding written
@@ -53,8 +53,8 @@ front_behind old new a b h =
       missing = h.missing;
       parts = fields_bytes-append old.order old.place a b ∙ ap (λ (x : List ℕ). first ++ x) h.parts ∙ sym (append_assoc first h.front h.missing);
       page = h.page ∙ same_page old.order _ _ _ _
-        (omega (arith, fields_end-is old.order old.place a, length-append first h.front))
-        (append_assoc old.bytes first h.front)
+          (omega (arith, fields_end-is old.order old.place a, length-append first h.front))
+          (append_assoc old.bytes first h.front);
     }
 
 -- the same bytes and the same end, from other fields
@@ -73,9 +73,9 @@ pub number_put : (r : Result (Unit {0}) NoMemory) (old new : Page) (w : Width) (
     → size ≡ byte_len w → piece ≡ number_bytes old.order w n → Puts r old new (run size piece ∷ []) → Puts r old new (number w n ∷ [])
 number_put r old new w n size piece e f puts =
     puts_same r old new (run size piece ∷ []) (number w n ∷ [])
-      (rw (e, f) refl)
-      (let len = length-number_bytes old.order w n in rw (e, f) (omega (arith, len)))
-      puts
+    (rw (e, f) refl)
+    (let len = length-number_bytes old.order w n in rw (e, f) (omega (arith, len)))
+    puts
 
 -- what follows is spelled behind what was written
 pub puts_then : (r : Result (Unit {0}) NoMemory) (old middle new : Page) (a b : List Field) → middle ≡ written old a → Puts r middle new b → Puts r old new (a ++ b)
@@ -87,16 +87,16 @@ puts_then (Err f) old middle new a b e puts =
 -- a front of what comes first is a front of all
 pub puts_first : (old new : Page) (a b : List Field) → HasFront old new a → HasFront old new (a ++ b)
 puts_first old new a b h = record {
-    front = h.front;
-    missing = h.missing ++ fields_bytes old.order (fields_end old.place a) b;
-    parts = fields_bytes-append old.order old.place a b ∙ ap (λ (x : List ℕ). x ++ fields_bytes old.order (fields_end old.place a) b) h.parts ∙ append_assoc h.front h.missing (fields_bytes old.order (fields_end old.place a) b);
-    page = h.page
-  }
+  front = h.front;
+  missing = h.missing ++ fields_bytes old.order (fields_end old.place a) b;
+  parts = fields_bytes-append old.order old.place a b ∙ ap (λ (x : List ℕ). x ++ fields_bytes old.order (fields_end old.place a) b) h.parts ∙ append_assoc h.front h.missing (fields_bytes old.order (fields_end old.place a) b);
+  page = h.page;
+}
 
 -- two runs that are not aligned are one
 pub runs_join : (r : Result (Unit {0}) NoMemory) (old new : Page) (a b : List ℕ) → Puts r old new (run 1 a ∷ run 1 b ∷ []) → Puts r old new (run 1 (a ++ b) ∷ [])
 runs_join r old new a b puts =
     puts_same r old new (run 1 a ∷ run 1 b ∷ []) (run 1 (a ++ b) ∷ [])
-      (simp (pad_one, append_assoc))
-      (omega (arith, length-append a b, pad_one old.place, pad_one (old.place + pad_len 1 old.place + length a)))
-      puts
+    (simp (pad_one, append_assoc))
+    (omega (arith, length-append a b, pad_one old.place, pad_one (old.place + pad_len 1 old.place + length a)))
+    puts

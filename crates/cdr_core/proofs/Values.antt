@@ -7,13 +7,13 @@ use Rattle.orb_base.specs.NulFree.{HasNoNul}
 use Rattle.orb_base.specs.declared.order.Order.{Order}
 use Rattle.orb_base.specs.declared.order.Order.TheVariants.{Big, Little}
 use Rattle.cdr_core.specs.declared.fault.CdrFault.{CdrFault}
-use Rattle.cdr_core.specs.declared.fault.CdrCause.TheVariants.{Short, BadBool, BadString}
+use Rattle.cdr_core.specs.declared.fault.CdrCause.TheVariants.{BadBool, BadString}
 use Rattle.cdr_core.specs.Field.{Field, number, run, string_fields, octets_fields}
-use Rattle.cdr_core.specs.Cursor.{Cursor, AreBytes, cursor, aligned, fault, Reads, ◌>>=◌}
+use Rattle.cdr_core.specs.Cursor.{Cursor, AreBytes, cursor, aligned, fault, Reads}
 use Rattle.cdr_core.specs.Reading.{number_at, bool_at, octets_at, as_text, text_before_nul, string_at, entered, as_inner, encap_at}
 use Rattle.cdr_core.specs.Basic.{BasicValue, Fits, fields_of, boolean, string}
 use Rattle.cdr_core.specs.Basic as basic
-use Rattle.cdr_core.specs.Passing.{Spans, Passes, Fails, FailsCount}
+use Rattle.cdr_core.specs.Passing.{Spans, Passes, Fails}
 use Rattle.cdr_core.specs.Encapsulation.{order_byte, Enters, IsUnordered, FailsEncapsulation}
 use Rattle.cdr_core.proofs.Binding.{bind_ok, bind_err, guard_ok, guard_err, ok_is}
 use Rattle.cdr_core.proofs.Texts.{text_takes, text_again, text_fails, text_refuses}
@@ -59,10 +59,10 @@ bool_fails c f fits e =
     elim (bind_err (number_at w8 c) (bool_step c) f e) [
       | inl h ↦ inl (number_fails w8 c f h)
       | inr h ↦
-        let t = number_takes w8 c h.0 (omega arith) fits h.1 in
-        let g = guard_err (ltb 1 h.0.0) (fault BadBool c.place) (eqb h.0.0 1, h.0.1) f h.2 in
-        let high : 1 < h.0.0 = ltb-true _ _ g.0 in
-        inr (record { octet = h.0.0; behind = h.0.1; passes = passes_of c h.0.1 (basic.unsigned w8 h.0.0) t.fits t.spans; high = high; told = sym g.1 })
+          let t = number_takes w8 c h.0 (omega arith) fits h.1 in
+          let g = guard_err (ltb 1 h.0.0) (fault BadBool c.place) (eqb h.0.0 1, h.0.1) f h.2 in
+          let high : 1 < h.0.0 = ltb-true _ _ g.0 in
+          inr (record { octet = h.0.0; behind = h.0.1; passes = passes_of c h.0.1 (basic.unsigned w8 h.0.0) t.fits t.spans; high = high; told = sym g.1 })
     ]
 
 pub bool_refuses : (c : Cursor) (f : CdrFault) → Fails c boolean f → bool_at c ≡ Err f
@@ -113,9 +113,9 @@ string_fails c f fits e =
     elim (bind_err (octets_at c) (text_step c) f e) [
       | inl h ↦ inl (octets_fail c f fits h)
       | inr h ↦
-        let t = octets_takes c h.0 fits h.1 in
-        let g = text_err (aligned 4 c.place) h.0.1 (text_before_nul h.0.0) f h.2 in
-        inr (record { bytes = h.0.0; behind = h.0.1; passes = passes_of c h.0.1 (basic.octets h.0.0) t.fits t.spans; bad = text_fails h.0.0 g.0; told = g.1 })
+          let t = octets_takes c h.0 fits h.1 in
+          let g = text_err (aligned 4 c.place) h.0.1 (text_before_nul h.0.0) f h.2 in
+          inr (record { bytes = h.0.0; behind = h.0.1; passes = passes_of c h.0.1 (basic.octets h.0.0) t.fits t.spans; bad = text_fails h.0.0 g.0; told = g.1 })
     ]
 
 pub string_refuses : (c : Cursor) (f : CdrFault) → Fails c string f → string_at c ≡ Err f
@@ -192,8 +192,8 @@ encap_fails c f fits e =
     elim (bind_err (octets_at c) inner_step f e) [
       | inl h ↦ inl (octets_fail c f fits h)
       | inr h ↦
-        let t = octets_takes c h.0 fits h.1 in
-        inr (record { bytes = h.0.0; behind = h.0.1; passes = passes_of c h.0.1 (basic.octets h.0.0) t.fits t.spans; bad = entered_fails h.0.0 f (inner_err h.0.1 (entered h.0.0) f h.2) })
+          let t = octets_takes c h.0 fits h.1 in
+          inr (record { bytes = h.0.0; behind = h.0.1; passes = passes_of c h.0.1 (basic.octets h.0.0) t.fits t.spans; bad = entered_fails h.0.0 f (inner_err h.0.1 (entered h.0.0) f h.2) })
     ]
 
 pub encap_refuses : (c : Cursor) (f : CdrFault) → FailsEncapsulation c f → encap_at c ≡ Err f

@@ -1,5 +1,5 @@
 -- What readings and spellings have to do with each other: CORBA 3.0.3, section 15.3.
-use Rattle.std.specs.Prelude.{◌≡◌, ℕ, ◌+◌, ◌^◌, ◌<◌, List, ◌∷◌, ◌++◌, ◌↔◌, Result, Ok, Err, length}
+use Rattle.std.specs.Prelude.{◌≡◌, ℕ, ◌+◌, ◌^◌, ◌<◌, List, ◌∷◌, ◌++◌, ◌↔◌, Ok, Err, length}
 use Rattle.orb_base.specs.declared.order.Order.{Order}
 use Rattle.cdr_core.specs.declared.fault.CdrFault.{CdrFault}
 use Rattle.cdr_core.specs.Field.{Field}
@@ -33,7 +33,7 @@ ReadsExactly = (kind : BasicType) (c : Cursor) → IsBasic kind → AreBytes c.r
 abbrev pub ReadsBack : Type 0
 ReadsBack = (order : Order) (place : ℕ) (v : BasicValue) (rest : List ℕ) → IsBasic (type_of v) → Fits v
     → let spelling = spell order place v in
-      read (type_of v) (cursor order place (spelling ++ rest)) ≡ Ok (v, cursor order (place + length spelling) rest)
+    read (type_of v) (cursor order place (spelling ++ rest)) ≡ Ok (v, cursor order (place + length spelling) rest)
 
 -- in one order, at one place and of one type at most one value is spelled by a front of the bytes, and one front spells it
 abbrev pub ReadsOneWay : Type 0
@@ -51,7 +51,7 @@ EncapsulationsAreExact = (c : Cursor) → AreBytes c.rest → EntersExactly c
 abbrev pub EntersBack : Type 0
 EntersBack = (order : Order) (place : ℕ) (inner : Order) (bytes rest : List ℕ) → length bytes + 1 < 2 ^ 32
     → let spelling = spell order place (octets (order_byte inner ∷ bytes)) in
-      encap_at (cursor order place (spelling ++ rest)) ≡ Ok (cursor inner 1 bytes, cursor order (place + length spelling) rest)
+    encap_at (cursor order place (spelling ++ rest)) ≡ Ok (cursor inner 1 bytes, cursor order (place + length spelling) rest)
 
 -- an inner cursor behind the order byte of these bytes, from which the fields are spelled
 pub record Holds (its_order : Order) (fields : List Field) (bytes : List ℕ) : Type 0 where

@@ -14,3 +14,6 @@ mod writer;
 pub use fault::{CdrCause, CdrFault};
 pub use reader::Reader;
 pub use writer::Writer;
+
+#[cfg(test)]
+mod tests;

@@ -1,24 +1,23 @@
 //! A reader of CDR over borrowed bytes: CORBA 3.0.3, section 15.3.
-ghost use Rattle.std.specs.Prelude.{◌≡◌, ◌+◌, ◌<◌, ◌≤◌, length, take, drop, Some, None, IfOk, IfErr, OnErr, IfNone, OnSome, IfSome, option_map};
+ghost use Rattle.std.specs.Prelude.{◌≡◌, ◌<◌, ◌≤◌, length, take, IfOk, IfErr, OnErr};
 ghost use Rattle.std.specs.Int.{w8, w16, w32, w64};
-ghost use Rattle.cdr_core.specs.Alignment.{pad_len};
 ghost use Rattle.cdr_core.specs.Basic.{unsigned, truth, octets, text, integer, boolean, octet_sequence, string};
+ghost use Rattle.cdr_core.specs.Cursor.{AreBytes, ahead, aligned, Takes};
 ghost use Rattle.cdr_core.specs.Passing.{Passes, IsShort, Fails, FailsCount};
 ghost use Rattle.cdr_core.specs.Encapsulation.{Enters, FailsEncapsulation};
-ghost use Rattle.cdr_core.specs.Cursor.{AreBytes, ahead, aligned, Takes};
-ghost use Rattle.cdr_core.specs.Reading.{piece_at, number_at, bool_at, count_at, octets_at, string_at, encap_at, entered, text_before_nul};
-ghost use Rattle.orb_base.specs.NulFree.{nul_at};
+ghost use Rattle.cdr_core.specs.Reading.{piece_at, number_at, bool_at, count_at, octets_at, string_at, encap_at, entered};
 
 use crate::fault::{CdrCause, CdrFault};
-use crate::piece::{cut, pad, text_of};
 use crate::number::{u8_of, u16_of, u32_of, u64_of};
-use orb_base::limits::MAX_MESSAGE;
+use crate::piece::{cut, pad, text_of};
 use orb_base::Order;
+use orb_base::limits::MAX_MESSAGE;
 use std::marker::Model;
 
-/// Stands in bytes at a place, and reads one value after another. A reader that refuses stands where it stood.
-/// Takes no memory; each call is constant work beside the bytes that it passes.
-#[derive(Drop)]
+/// Stands in bytes at a place, and takes one value after another, each aligned by its place; pads may have any
+/// content. A call that refuses tells the first fault, in the order Short, TooMany, BadString, and leaves the reader
+/// where it stood. Takes no memory; each call is constant work beside the bytes of a string.
+#[derive(Debug, Drop)]
 pub struct Reader<'a> {
     order: Order,
     place: usize,
@@ -27,10 +26,7 @@ pub struct Reader<'a> {
 
 impl<'a> Model for Reader<'a> {
     ghost use Rattle.std.specs.Prelude.{◌+◌, ◌<◌, ◌^◌, length};
-    ghost use Rattle.cdr_core.specs.Basic.{unsigned, truth, octets, text, integer, boolean, octet_sequence, string};
-ghost use Rattle.cdr_core.specs.Passing.{Passes, IsShort, Fails, FailsCount};
-ghost use Rattle.cdr_core.specs.Encapsulation.{Enters, FailsEncapsulation};
-ghost use Rattle.cdr_core.specs.Cursor.{Cursor};
+    ghost use Rattle.cdr_core.specs.Cursor.{Cursor};
 
     ghost Value = { Cursor };
 
@@ -66,7 +62,7 @@ impl<'a> Reader<'a> {
         self.rest.len()
     }
 
-    /// An octet. Short where no byte is left.
+    /// Takes an octet: one byte.
     #[tactic(auto, using(crate::proofs::Exact::number_found, crate::proofs::Exact::number_fails), unfolding(crate::specs::Reading::number_at))]
     pub fn take_u8(&mut self) -> Result<u8, CdrFault>
         ensures found { IfOk result (λ n. Passes self.old self.new (unsigned w8 n)) }
@@ -79,7 +75,7 @@ impl<'a> Reader<'a> {
         Ok(u8_of(order, piece))
     }
 
-    /// An unsigned short, aligned on 2.
+    /// Takes an unsigned short: 2 bytes, aligned on 2.
     #[tactic(auto, using(crate::proofs::Exact::number_found, crate::proofs::Exact::number_fails), unfolding(crate::specs::Reading::number_at))]
     pub fn take_u16(&mut self) -> Result<u16, CdrFault>
         ensures found { IfOk result (λ n. Passes self.old self.new (unsigned w16 n)) }
@@ -92,7 +88,7 @@ impl<'a> Reader<'a> {
         Ok(u16_of(order, piece))
     }
 
-    /// An unsigned long, aligned on 4.
+    /// Takes an unsigned long: 4 bytes, aligned on 4.
     #[tactic(auto, using(crate::proofs::Exact::number_found, crate::proofs::Exact::number_fails), unfolding(crate::specs::Reading::number_at))]
     pub fn take_u32(&mut self) -> Result<u32, CdrFault>
         ensures found { IfOk result (λ n. Passes self.old self.new (unsigned w32 n)) }
@@ -105,7 +101,7 @@ impl<'a> Reader<'a> {
         Ok(u32_of(order, piece))
     }
 
-    /// An unsigned long long, aligned on 8.
+    /// Takes an unsigned long long: 8 bytes, aligned on 8.
     #[tactic(auto, using(crate::proofs::Exact::number_found, crate::proofs::Exact::number_fails), unfolding(crate::specs::Reading::number_at))]
     pub fn take_u64(&mut self) -> Result<u64, CdrFault>
         ensures found { IfOk result (λ n. Passes self.old self.new (unsigned w64 n)) }
@@ -118,7 +114,7 @@ impl<'a> Reader<'a> {
         Ok(u64_of(order, piece))
     }
 
-    /// A boolean. A byte above 1 is BadBool.
+    /// Takes a boolean: one byte, 0 or 1.
     #[tactic(auto, using(crate::proofs::Exact::bool_found, crate::proofs::Exact::bool_high, crate::proofs::Exact::bool_short), unfolding(crate::specs::Reading::bool_at))]
     pub fn take_bool(&mut self) -> Result<bool, CdrFault>
         ensures found { IfOk result (λ b. Passes self.old self.new (truth b)) }
@@ -138,7 +134,7 @@ impl<'a> Reader<'a> {
         Ok(byte == 1)
     }
 
-    /// The count of what stands behind it. A count greater than the number of bytes behind it is TooMany.
+    /// Takes a count, an unsigned long, of what stands behind it: at most as many as there are bytes behind it.
     #[tactic(auto, using(crate::proofs::Exact::count_many, crate::proofs::Exact::count_short), unfolding(crate::specs::Reading::count_at))]
     pub fn take_count(&mut self) -> Result<u32, CdrFault>
         ensures found { IfOk result (λ n. Passes self.old self.new (unsigned w32 n)) }
@@ -159,7 +155,7 @@ impl<'a> Reader<'a> {
         Ok(count)
     }
 
-    /// The bytes of an octet sequence.
+    /// Takes an octet sequence, and gives its bytes.
     #[tactic(auto, unfolding(crate::specs::Reading::octets_at))]
     pub fn take_octets(&mut self) -> Result<&'a [u8], CdrFault>
         ensures found { IfOk result (λ bytes. Passes self.old self.new (octets bytes.now)) }
@@ -174,7 +170,7 @@ impl<'a> Reader<'a> {
         Ok(octets)
     }
 
-    /// The bytes of a string, without the NUL.
+    /// Takes a string, and gives its bytes without the NUL. One pass over them.
     #[tactic(auto, using(crate::proofs::Exact::string_bad, crate::proofs::Exact::string_short), unfolding(crate::specs::Reading::string_at))]
     pub fn take_string(&mut self) -> Result<&'a [u8], CdrFault>
         ensures found { IfOk result (λ bytes. Passes self.old self.new (text bytes.now)) }
@@ -196,7 +192,8 @@ impl<'a> Reader<'a> {
         }
     }
 
-    /// Enters an encapsulation: a reader behind its order byte, whose places count from that byte.
+    /// Takes an encapsulation, and gives a reader over it that stands behind its order byte, with places that count
+    /// from that byte. Section 15.3.3.
     #[tactic(auto, using(crate::proofs::Exact::encap_bad, crate::proofs::Exact::encap_short), unfolding(crate::specs::Reading::encap_at))]
     pub fn enter_encap(&mut self) -> Result<Reader<'a>, CdrFault>
         ensures found { IfOk result (λ inner. Enters self.old self.new inner) }
@@ -270,10 +267,20 @@ fn enter(octets: &[u8]) -> Result<Reader<'_>, CdrFault>
     ensures { result ≡ entered octets.now }
 {
     let (order, rest) = match octets {
-        [] => return Err(CdrFault { cause: CdrCause::Short, place: 0 }),
+        [] => return Err(CdrFault {
+            cause: CdrCause::Short,
+            place: 0,
+        }),
         [0, rest @ ..] => (Order::Big, rest),
         [1, rest @ ..] => (Order::Little, rest),
-        [_, ..] => return Err(CdrFault { cause: CdrCause::BadBool, place: 0 }),
+        [_, ..] => return Err(CdrFault {
+            cause: CdrCause::BadBool,
+            place: 0,
+        }),
     };
-    Ok(Reader { order, place: 1, rest })
+    Ok(Reader {
+        order,
+        place: 1,
+        rest,
+    })
 }

@@ -1,8 +1,8 @@
 //! A writer of CDR into memory: CORBA 3.0.3, section 15.3.
-ghost use Rattle.std.specs.Prelude.{◌≡◌, ◌+◌, ◌<◌, ◌≤◌, ◌^◌, [], ◌∷◌, ◌++◌, length, replicate, OnOk};
+ghost use Rattle.std.specs.Prelude.{◌≡◌, ◌+◌, ◌<◌, ◌≤◌, ◌^◌, [], ◌∷◌, ◌++◌, length, replicate};
 ghost use Rattle.std.specs.Int.{w8, w16, w32, w64, from_bool};
 ghost use Rattle.cdr_core.specs.Field.{number, run, string_fields, octets_fields, number_bytes};
-ghost use Rattle.cdr_core.specs.Writing.{Puts, extended};
+ghost use Rattle.cdr_core.specs.Writing.{Puts};
 
 use crate::number::{bytes_of_u8, bytes_of_u16, bytes_of_u32, bytes_of_u64};
 use crate::piece::pad;
@@ -13,8 +13,8 @@ use std::marker::Model;
 
 const PADS: [u8; 8] = [0; 8];
 
-/// Spells one value after another, aligned by their places, with pads of 0. After want of memory it holds a front
-/// of what it would. Each call is constant work beside the bytes that it moves.
+/// Spells one value after another, each aligned by its place, with pads of 0. After want of memory it holds a front
+/// of what it would hold. Each call is constant work, on average, beside the bytes that it moves.
 #[derive(Debug, Drop)]
 pub struct Writer {
     order: Order,
@@ -46,7 +46,7 @@ impl Writer {
         }
     }
 
-    /// An octet.
+    /// Puts an octet: one byte.
     #[tactic(auto, using(crate::proofs::Pages::number_put))]
     pub fn put_u8(&mut self, v: u8) -> Result<(), NoMemory>
         ensures { Puts result self.old self.new (number w8 v ∷ []) }
@@ -55,7 +55,7 @@ impl Writer {
         self.put_piece(1, &piece)
     }
 
-    /// An unsigned short, aligned on 2.
+    /// Puts an unsigned short: 2 bytes, aligned on 2.
     #[tactic(auto, using(crate::proofs::Pages::number_put))]
     pub fn put_u16(&mut self, v: u16) -> Result<(), NoMemory>
         ensures { Puts result self.old self.new (number w16 v ∷ []) }
@@ -64,7 +64,7 @@ impl Writer {
         self.put_piece(2, &piece)
     }
 
-    /// An unsigned long, aligned on 4.
+    /// Puts an unsigned long: 4 bytes, aligned on 4.
     #[tactic(auto, using(crate::proofs::Pages::number_put))]
     pub fn put_u32(&mut self, v: u32) -> Result<(), NoMemory>
         ensures { Puts result self.old self.new (number w32 v ∷ []) }
@@ -73,7 +73,7 @@ impl Writer {
         self.put_piece(4, &piece)
     }
 
-    /// An unsigned long long, aligned on 8.
+    /// Puts an unsigned long long: 8 bytes, aligned on 8.
     #[tactic(auto, using(crate::proofs::Pages::number_put))]
     pub fn put_u64(&mut self, v: u64) -> Result<(), NoMemory>
         ensures { Puts result self.old self.new (number w64 v ∷ []) }
@@ -82,14 +82,14 @@ impl Writer {
         self.put_piece(8, &piece)
     }
 
-    /// A boolean: one byte, 0 or 1.
+    /// Puts a boolean: one byte, 0 or 1.
     pub fn put_bool(&mut self, v: bool) -> Result<(), NoMemory>
         ensures { Puts result self.old self.new (number w8 (from_bool v) ∷ []) }
     {
         self.put_u8(v as u8)
     }
 
-    /// A string: its length with the NUL, its bytes, the NUL.
+    /// Puts a string: its length with the NUL, its bytes, the NUL.
     pub fn put_string(&mut self, s: &Text) -> Result<(), NoMemory>
         requires { length s.now + 1 < 2 ^ 32 }
         ensures { Puts result self.old self.new (string_fields s.now) }
@@ -98,7 +98,7 @@ impl Writer {
         self.put_text(s.as_slice())
     }
 
-    /// An octet sequence: its length, its bytes.
+    /// Puts an octet sequence: its length, its bytes.
     pub fn put_octets(&mut self, s: &[u8]) -> Result<(), NoMemory>
         requires { length s.now < 2 ^ 32 }
         ensures { Puts result self.old self.new (octets_fields s.now) }
@@ -114,7 +114,7 @@ impl Writer {
         self.put_piece(1, &[0])
     }
 
-    /// The bytes that it holds. Takes no memory.
+    /// Gives the bytes that it holds. Takes no memory.
     pub fn finish(self) -> Octets
         ensures { result.items ≡ self.bytes }
     {
