@@ -9,9 +9,9 @@ use Rattle.cdr_core.specs.Reading.{number_at, bool_at, octets_at, string_at}
 use Rattle.cdr_core.specs.Basic.{BasicType, integer, boolean, octet_sequence, string, BasicValue, unsigned, truth, octets, text, type_of, IsBasic, fields_of, Cdr, spell}
 use Rattle.cdr_core.specs.Passing.{Passes, Fails}
 use Rattle.cdr_core.specs.Encapsulation.{order_byte, Encapsulates}
-use Rattle.cdr_core.specs.Laws.{as_value, read, ReadsExactly, ReadsBack, ReadsOneWay, EncapsulationsAreExact, EntersBack, Holds, HoldsWithin}
+use Rattle.cdr_core.specs.Laws.{SpellsFields, as_value, read, ReadsExactly, ReadsBack, ReadsOneWay, EncapsulationsAreExact, EntersBack, Holds, HoldsWithin}
 use Rattle.cdr_core.proofs.Binding.{ok_is}
-use Rattle.cdr_core.proofs.Spelled.{spelled_zeros}
+use Rattle.cdr_core.proofs.Spelled.{spelled_zeros, length-spelled}
 use Rattle.cdr_core.proofs.Parts.{number_takes, number_fails, number_refuses, number_reads}
 use Rattle.cdr_core.proofs.Counts.{passes_of, octets_takes, octets_reads, octets_fail, octets_refuse}
 use Rattle.cdr_core.proofs.Values.{bool_takes, bool_reads, bool_fails, bool_refuses, string_takes, string_reads, string_fails, string_refuses, encap_takes, encap_reads, encap_fails, encap_refuses}
@@ -123,3 +123,6 @@ holds_within_law order fields bytes = (λ h. holds h, λ h. encapsulates h)
           parts = h.parts ∙ ap (λ (x : List ℕ). order_byte order ∷ x) h.spans.parts;
           spelled = subst (λ (n : ℕ). IsSpelled order n fields h.spans.spelling) h.place spelled;
         }
+
+pub spells_fields_law : SpellsFields
+spells_fields_law order place fields = record { zeros = spelled_zeros order place fields; len = λ bytes p. length-spelled order place fields bytes p }

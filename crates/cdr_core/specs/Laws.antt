@@ -2,12 +2,21 @@
 use Rattle.std.specs.Prelude.{◌≡◌, ℕ, ◌+◌, ◌^◌, ◌<◌, List, ◌∷◌, ◌++◌, ◌↔◌, Ok, Err, length}
 use Rattle.orb_base.specs.declared.order.Order.{Order}
 use Rattle.cdr_core.specs.declared.fault.CdrFault.{CdrFault}
-use Rattle.cdr_core.specs.Field.{Field}
+use Rattle.cdr_core.specs.Field.{Field, fields_end}
+use Rattle.cdr_core.specs.Spelling.{IsSpelled, fields_bytes}
 use Rattle.cdr_core.specs.Cursor.{Cursor, cursor, AreBytes, Reads}
 use Rattle.cdr_core.specs.Basic.{BasicType, integer, boolean, octet_sequence, string, BasicValue, unsigned, truth, octets, text, type_of, IsBasic, Fits, Cdr, spell}
 use Rattle.cdr_core.specs.Reading.{number_at, bool_at, octets_at, string_at, encap_at}
 use Rattle.cdr_core.specs.Passing.{Spans, Passes, Fails}
 use Rattle.cdr_core.specs.Encapsulation.{order_byte, Encapsulates, Enters, FailsEncapsulation}
+
+-- the bytes with pads of 0 are a spelling of the fields, and each spelling of them is as long as their places say
+pub record AreSpelled (order : Order) (place : ℕ) (fields : List Field) : Type 0 where
+  pub zeros : IsSpelled order place fields (fields_bytes order place fields)
+  pub len : (bytes : List ℕ) → IsSpelled order place fields bytes → fields_end place fields ≡ place + length bytes
+
+abbrev pub SpellsFields : Type 0
+SpellsFields = (order : Order) (place : ℕ) (fields : List Field) → AreSpelled order place fields
 
 -- a value of a basic type
 abbrev pub as_value : {A : Type 0} → (A → BasicValue) → Reads A → Reads BasicValue

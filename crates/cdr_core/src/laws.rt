@@ -1,5 +1,10 @@
 //! Laws of the representation, each the contract of a call that does nothing.
-ghost use Rattle.cdr_core.specs.Laws.{ReadsExactly, ReadsBack, ReadsOneWay, EncapsulationsAreExact, EntersBack, HoldsWithin};
+ghost use Rattle.cdr_core.specs.Laws.{SpellsFields, ReadsExactly, ReadsBack, ReadsOneWay, EncapsulationsAreExact, EntersBack, HoldsWithin};
+
+/// Fields with pads of 0 are spelled, and each spelling is as long as their places say.
+pub fn spells_fields()
+    ensures { SpellsFields }
+{}
 
 /// A basic type has a reading exactly where its bytes spell a value of it, and else the first fault.
 #[tactic(auto, using(crate::proofs::LawProofs::reads_exactly_law))]
