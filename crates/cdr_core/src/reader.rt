@@ -32,6 +32,7 @@ impl<'a> Model for Reader<'a> {
 
     ghost view = { λ r. record { order = r.order; place = r.place; rest = r.rest.now } };
 
+    // A slice has fewer than 2^63 bytes, and the place before them is at most 262144.
     ghost invariant = { λ r. r.place + length r.rest.now < 2 ^ 63 + 2 ^ 19 };
 }
 

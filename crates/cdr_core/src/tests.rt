@@ -305,6 +305,24 @@ fn places_of_an_encapsulation_count_from_its_order_byte(rt: HostRuntime) -> Resu
 }
 
 #[test]
+fn an_encapsulation_is_spelled_by_a_writer_of_its_own(rt: HostRuntime) -> Result<(), Fail> {
+    for (order, byte, want) in [
+        (Order::Big, 0, [0, 0, 0, 4, 0, 0, 0, 100]),
+        (Order::Little, 1, [0, 0, 0, 4, 1, 0, 100, 0]),
+    ] {
+        let mut inner = Writer::new(rt.alloc(), order, 0);
+        inner.put_u8(byte)?;
+        inner.put_u16(100)?;
+        let inner = inner.finish();
+        assert!(rt; inner.len() == 4);
+        let mut outer = Writer::new(rt.alloc(), Order::Big, 8);
+        outer.put_octets(inner.as_slice())?;
+        assert_eq!(rt; outer.finish().as_slice(), want.as_slice());
+    }
+    Ok(())
+}
+
+#[test]
 fn an_encapsulation_begins_with_its_order(rt: HostRuntime) {
     let mut reader = Reader::new(Order::Big, 8, &[0, 0, 0, 0]);
     assert!(rt;

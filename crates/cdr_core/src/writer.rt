@@ -1,7 +1,7 @@
 //! A writer of CDR into memory: CORBA 3.0.3, section 15.3.
 ghost use Rattle.std.specs.Prelude.{◌≡◌, ◌+◌, ◌<◌, ◌≤◌, ◌^◌, [], ◌∷◌, ◌++◌, length, replicate};
 ghost use Rattle.std.specs.Int.{w8, w16, w32, w64, from_bool};
-ghost use Rattle.cdr_core.specs.Field.{number, run, string_fields, octets_fields, number_bytes};
+ghost use Rattle.cdr_core.specs.Field.{number, run, string_fields, octets_fields};
 ghost use Rattle.cdr_core.specs.Writing.{Puts};
 
 use crate::number::{bytes_of_u8, bytes_of_u16, bytes_of_u32, bytes_of_u64};
@@ -15,6 +15,9 @@ const PADS: [u8; 8] = [0; 8];
 
 /// Spells one value after another, each aligned by its place, with pads of 0. After want of memory it holds a front
 /// of what it would hold. Each call is constant work, on average, beside the bytes that it moves.
+///
+/// An encapsulation is spelled by a writer of its own at place 0, which puts the order first, 0 for big and 1 for
+/// little, and its bytes are put as an octet sequence.
 #[derive(Debug, Drop)]
 pub struct Writer {
     order: Order,
@@ -24,13 +27,14 @@ pub struct Writer {
 
 impl Model for Writer {
     ghost use Rattle.std.specs.Prelude.{◌+◌, ◌≤◌, length};
+    ghost use Rattle.orb_base.specs.declared.limits.TheConstants.{MAX_MESSAGE};
     ghost use Rattle.cdr_core.specs.Writing.{Page};
 
     ghost Value = { Page };
 
     ghost view = { λ w. record { order = w.order; place = w.at + length w.bytes.items; bytes = w.bytes.items } };
 
-    ghost invariant = { λ w. w.at ≤ 262144 };
+    ghost invariant = { λ w. w.at ≤ MAX_MESSAGE };
 }
 
 impl Writer {
