@@ -8,7 +8,7 @@ use Rattle.orb_base.specs.declared.order.Order.TheVariants.{Big, Little}
 use Rattle.cdr_core.specs.Alignment.{pad_len}
 use Rattle.cdr_core.specs.Field.{fields_end}
 use Rattle.cdr_core.specs.Spelling.{fields_bytes}
-use Rattle.cdr_core.proofs.SpellingLaws.{length-fields, fields_spell, fields-append}
+use Rattle.cdr_core.proofs.CallerLemmas.{spelled_zeros, fields_bytes-append, fields_end-is}
 use Rattle.giop_messages.specs.Message.{Message, request, reply, close, error, kind_of, Fits, FitsRequest, FitContexts}
 use Rattle.giop_messages.specs.Layout.{order_flag, named_fields, body_fields, body_of}
 use Rattle.giop_messages.specs.Spelling.{all_fields, framed, spelled}
@@ -48,7 +48,7 @@ spelled_reads order message fits size =
     let names = named_fields (0 ∷ 0 ∷ 0 ∷ []) message in
     let named = fields_bytes order 12 names in
     let rest = fields_bytes order (fields_end 12 names) (body_fields (body_of message)) in
-    let both : fields_bytes order 12 (all_fields message) ≡ named ++ rest = fields-append order 12 names (body_fields (body_of message)) in
+    let both : fields_bytes order 12 (all_fields message) ≡ named ++ rest = fields_bytes-append order 12 names (body_fields (body_of message)) in
     record {
       flags = order_flag order;
       reserved = 0 ∷ 0 ∷ 0 ∷ [];
@@ -60,8 +60,8 @@ spelled_reads order message fits size =
       three = refl;
       size = omega (arith, size, ap length both);
       parts = ap (framed order (kind_of message)) both;
-      fields = fields_spell order 12 names;
-      body = has_body order message (12 + length named) (fields_end 12 names) (length-fields order 12 names);
+      fields = spelled_zeros order 12 names;
+      body = has_body order message (12 + length named) (fields_end 12 names) (sym (fields_end-is order 12 names));
       fits = fits;
     }
 

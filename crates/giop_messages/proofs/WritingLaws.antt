@@ -7,7 +7,7 @@ use Rattle.orb_base.specs.declared.system.Sys.{Sys}
 use Rattle.cdr_core.specs.Alignment.{pad_len}
 use Rattle.cdr_core.specs.Field.{number, number_bytes, string_fields}
 use Rattle.cdr_core.specs.Spelling.{fields_bytes}
-use Rattle.cdr_core.proofs.SpellingLaws.{length-fields}
+use Rattle.cdr_core.proofs.CallerLemmas.{fields_end-is}
 use Rattle.giop_messages.specs.Message.{reply}
 use Rattle.giop_messages.specs.Layout.{body_fields}
 use Rattle.giop_messages.specs.Spelling.{spelled}
@@ -72,7 +72,7 @@ exception_is text minor code =
 
 length-exception : (text : List ℕ) (minor code : ℕ) → length text ≤ 64 → length (exception_text text minor code) ≤ 1024
 length-exception text minor code short =
-    omega (arith, length-fields Big 24 (string_fields text ++ number w32 minor ∷ number w32 code ∷ []), length-append text (0 ∷ []))
+    omega (arith, fields_end-is Big 24 (string_fields text ++ number w32 minor ∷ number w32 code ∷ []), length-append text (0 ∷ []))
 
 pub exception_written : (system : Sys) (text : List ℕ) (code : ℕ) (items : List ℕ) → text ≡ exception_id system.name → length text ≤ 64 → code ≡ completion system.completed
     → items ≡ exception_parts text system.minor code → (items ≡ exception_body Big system) × (length items ≤ 1024)
