@@ -15,6 +15,7 @@ pub record AreSpelled (order : Order) (place : ℕ) (fields : List Field) : Type
   pub zeros : IsSpelled order place fields (fields_bytes order place fields)
   pub len : (bytes : List ℕ) → IsSpelled order place fields bytes → fields_end place fields ≡ place + length bytes
 
+-- pads of 0 are pads, and a spelling ends where its fields say
 abbrev pub SpellsFields : Type 0
 SpellsFields = (order : Order) (place : ℕ) (fields : List Field) → AreSpelled order place fields
 
@@ -35,6 +36,7 @@ pub record IsExact (kind : BasicType) (c : Cursor) : Type 0 where
   pub found : (v : BasicValue) (d : Cursor) → (read kind c ≡ Ok (v, d)) ↔ ((type_of v ≡ kind) × Passes c d v)
   pub fails : (f : CdrFault) → (read kind c ≡ Err f) ↔ Fails c kind f
 
+-- a reading gives a value exactly where the bytes spell it, and a fault exactly where they fail so
 abbrev pub ReadsExactly : Type 0
 ReadsExactly = (kind : BasicType) (c : Cursor) → IsBasic kind → AreBytes c.rest → IsExact kind c
 
@@ -54,9 +56,11 @@ pub record EntersExactly (c : Cursor) : Type 0 where
   pub found : (inner d : Cursor) → (encap_at c ≡ Ok (inner, d)) ↔ Enters c d inner
   pub fails : (f : CdrFault) → (encap_at c ≡ Err f) ↔ FailsEncapsulation c f
 
+-- the same of encapsulations
 abbrev pub EncapsulationsAreExact : Type 0
 EncapsulationsAreExact = (c : Cursor) → AreBytes c.rest → EntersExactly c
 
+-- what an encapsulation was spelled as is entered again, whatever follows
 abbrev pub EntersBack : Type 0
 EntersBack = (order : Order) (place : ℕ) (inner : Order) (bytes rest : List ℕ) → length bytes + 1 < 2 ^ 32
     → let spelling = spell order place (octets (order_byte inner ∷ bytes)) in

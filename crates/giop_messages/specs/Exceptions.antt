@@ -25,11 +25,13 @@ exception_name NoMemory = codes "NO_MEMORY"
 abbrev pub exception_id : SysName → List ℕ
 exception_id name = codes "IDL:omg.org/CORBA/" ++ exception_name name ++ codes ":1.0"
 
+-- the number of a completion status
 abbrev pub completion : Completed → ℕ
 completion Yes = 0
 completion No = 1
 completion Maybe = 2
 
+-- the repository id, the minor code and the completion status
 abbrev pub exception_fields : Sys → List Field
 exception_fields system = string_fields (exception_id system.name) ++ number w32 system.minor ∷ number w32 (completion system.completed) ∷ []
 

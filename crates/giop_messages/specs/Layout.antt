@@ -24,9 +24,11 @@ header order flags kind size = magic ++ 1 ∷ 2 ∷ flags ∷ kind ∷ [] ++ num
 abbrev pub target_fields : Target → List Field
 target_fields (key bytes) = number w16 0 ∷ octets_fields bytes
 
+-- a service context: its id and its bytes
 abbrev pub context_fields : Context → List Field
 context_fields context = number w32 context.id ∷ octets_fields context.bytes
 
+-- the service contexts behind their number
 abbrev pub contexts_fields : List Context → List Field
 contexts_fields contexts = number w32 (length contexts) ∷ flat_map context_fields contexts
 

@@ -11,6 +11,7 @@ pub record Context : Type 0 where
 pub data Target : Type 0 where
   key : List ℕ → Target
 
+-- a request: section 15.4.2
 pub record Request : Type 0 where
   pub id : ℕ
   pub flags : ℕ
@@ -19,6 +20,7 @@ pub record Request : Type 0 where
   pub contexts : List Context
   pub body : List ℕ
 
+-- a reply: section 15.4.3
 pub record Reply : Type 0 where
   pub id : ℕ
   pub status : ℕ
@@ -43,10 +45,12 @@ kind_of error = 6
 abbrev pub FitsTarget : Target → Type 0
 FitsTarget (key bytes) = length bytes < 2 ^ 32
 
+-- service contexts that the widths can hold
 pub record FitContexts (contexts : List Context) : Type 0 where
   pub few : length contexts < 2 ^ 32
   pub each : All (λ context. (context.id < 2 ^ 32) × (length context.bytes < 2 ^ 32)) contexts
 
+-- a request that the widths can hold
 pub record FitsRequest (request : Request) : Type 0 where
   pub id : request.id < 2 ^ 32
   pub flags : request.flags < 2 ^ 8
@@ -55,11 +59,13 @@ pub record FitsRequest (request : Request) : Type 0 where
   pub operation : length request.operation + 1 < 2 ^ 32
   pub contexts : FitContexts request.contexts
 
+-- a reply that the widths can hold, of one of the six statuses
 pub record FitsReply (reply : Reply) : Type 0 where
   pub id : reply.id < 2 ^ 32
   pub status : reply.status ≤ 5
   pub contexts : FitContexts reply.contexts
 
+-- a message that the widths can hold
 abbrev pub Fits : Message → Type 0
 Fits (request r) = FitsRequest r
 Fits (reply r) = FitsReply r

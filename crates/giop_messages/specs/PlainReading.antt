@@ -6,6 +6,7 @@ use Rattle.std.specs.Str.{bytes_eq}
 use Rattle.cdr_core.specs.Alignment.{pad_len}
 
 infixl 10 ◌>>=◌
+-- one step behind another; a step that finds nothing ends both
 abbrev pub ◌>>=◌ : {A B : Type 0} → Option A → (A → Option B) → Option B
 (Some x) >>= f = f x
 None >>= f = None

@@ -15,5 +15,6 @@ all_fields message = named_fields (0 ∷ 0 ∷ 0 ∷ []) message ++ body_fields 
 abbrev pub framed : Order → ℕ → List ℕ → List ℕ
 framed order kind inner = header order (order_flag order) kind (length inner) ++ inner
 
+-- the spelling of a message
 abbrev pub spelled : Order → Message → List ℕ
 spelled order message = framed order (kind_of message) (fields_bytes order 12 (all_fields message))

@@ -41,6 +41,7 @@ can_go_on s (Given _) = true
 can_go_on s Free = all_left s
 can_go_on s (Busy _) = false
 
+-- the thread of this number can take
 abbrev pub can_take : State → Option Thread → Bool
 can_take s (Some thread) = can_go_on s thread.doing
 can_take s None = false

@@ -1,5 +1,5 @@
 //! A source over a reader of the standard library.
-ghost use Rattle.std.specs.Prelude.{None};
+ghost use Rattle.std.specs.Prelude.{◌≡◌, None};
 
 use orb_base::{Got, Source};
 use std::io::Read;
@@ -13,7 +13,11 @@ pub struct StdSource<R: Read + Drop> {
 }
 
 impl<R: Read + Drop> StdSource<R> {
-    pub fn new(reader: R) -> StdSource<R> {
+    /// A source over the reader, with its counts at 0.
+    pub fn new(reader: R) -> StdSource<R>
+        ensures faults { ⟦<StdSource<R> as Source>⟧.faults result ≡ 0 }
+        ensures ends { ⟦<StdSource<R> as Source>⟧.ends result ≡ 0 }
+    {
         StdSource {
             reader,
             faults: 0,

@@ -32,6 +32,7 @@ note_of_ends read.ReadFault _ = ReadFault
 note_of_ends read.Ended write.WriteFault = WriteFault
 note_of_ends read.Stopped _ = WriteFault
 
+-- the note of a run, or of the reason why there was none
 abbrev pub note_of : Result Piped PipeFault → Note
 note_of (Ok piped) = note_of_ends piped.read piped.write
 note_of (Err fault.NotBuilt) = NotBuilt

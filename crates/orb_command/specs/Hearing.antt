@@ -8,6 +8,7 @@ use Rattle.orb_command.specs.declared.heard.Heard.{Heard}
 use Rattle.orb_command.specs.declared.heard.Heard.TheVariants.{Nothing, Ping, Other}
 use Rattle.orb_command.specs.Built.{IsBuilt}
 
+-- nothing, the request of this id, or an input that is not built
 abbrev pub HeardAs : Heard → List ℕ → Type 0
 HeardAs Nothing input = input ≡ []
 HeardAs (Ping id) input = (id < 2 ^ 32) × (input ≡ spelled Big (request (plain id (codes "ping"))))

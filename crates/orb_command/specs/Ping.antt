@@ -8,6 +8,7 @@ use Rattle.orb_base.specs.declared.outcome.Outcome.{Outcome}
 use Rattle.orb_base.specs.declared.outcome.Outcome.TheVariants.{Returned}
 use Rattle.cdr_core.specs.Field.{number_bytes}
 
+-- the priority of the job, as a short in its byte order
 abbrev pub ping_outcome : List ℕ → JobRecord → Outcome
 ping_outcome interface job =
     if bytes_eq job.operation (codes "current") then Returned (number_bytes job.order w16 job.priority) else bad_operation

@@ -36,12 +36,15 @@ with_thread doing bytes = record opened {
 abbrev pub given_state : JobRecord → State
 given_state job = with_thread (Given job) 48
 
+-- the thread runs the request
 abbrev pub busy_state : JobRecord → State
 busy_state job = with_thread (Busy job) 48
 
+-- the thread has answered, and the answer is owed
 abbrev pub answered_state : JobRecord → Outcome → State
 answered_state job outcome = record (with_thread Free (48 + body_len outcome)) { out = Answered (record { job = job; outcome = outcome }) ∷ [] }
 
+-- the answer was collected
 abbrev pub idle_state : Outcome → State
 idle_state outcome = with_thread Free (48 + body_len outcome)
 

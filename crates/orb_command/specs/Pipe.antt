@@ -40,6 +40,7 @@ Wrote read.Ended write.WriteFault outcome input held held' writes = ⊥
 Wrote read.Stopped write.Done outcome input held held' writes = ⊥
 Wrote read.ReadFault _ outcome input held held' writes = ⊥
 
+-- what answering this whole input came to
 abbrev pub Replies : Result Piped PipeFault → (List ℕ → JobRecord → Outcome) → List ℕ → Told → Told → ℕ × ℕ → Type 0
 Replies (Ok piped) outcome input held held' writes = Wrote piped.read piped.write outcome input held held' writes
 Replies (Err NotBuilt) outcome input held held' writes = (¬ IsBuilt input) × (held' ≡ held)
@@ -57,6 +58,7 @@ PipesTo read.ReadFault write.WriteFault outcome left held held' reads ends write
 PipesTo read.Ended write.WriteFault outcome left held held' reads ends writes = ⊥
 PipesTo read.Stopped write.Done outcome left held held' reads ends writes = ⊥
 
+-- the same for every answer of the pipe, with its cause
 abbrev pub Pipes : Result Piped PipeFault → (List ℕ → JobRecord → Outcome) → Told → Told → Told → ℕ × ℕ → ℕ × ℕ → ℕ × ℕ → Type 0
 Pipes (Ok piped) outcome left held held' reads ends writes = PipesTo piped.read piped.write outcome left held held' reads ends writes
 Pipes (Err NotBuilt) outcome left held held' reads ends writes = IfSome left (λ input. ¬ IsBuilt input) × (held' ≡ held)
@@ -71,6 +73,7 @@ WritesTo read.Ended write.WriteFault output held held' writes = ⊥
 WritesTo read.Stopped write.Done output held held' writes = ⊥
 WritesTo read.ReadFault _ output held held' writes = ⊥
 
+-- the same at want of memory, which came when all was written
 abbrev pub Writes : {E : Type 0} → Result Piped E → List ℕ → Told → Told → ℕ × ℕ → Type 0
 Writes (Ok piped) output held held' writes = WritesTo piped.read piped.write output held held' writes
 Writes (Err _) output held held' writes = held' ≡ option_map (λ h. h ++ output) held

@@ -40,6 +40,7 @@ is_given (Given _) = true
 is_given Free = false
 is_given (Busy _) = false
 
+-- the thread of smallest number among them
 abbrev pub first_given : State → Option ℕ
 first_given s = position (λ thread. is_given thread.doing) s.threads
 
@@ -48,10 +49,12 @@ abbrev pub finished_by : (JobRecord → Outcome) → Run → ℕ → LaneReply �
 finished_by servant run t (reply.Given job) = applied run (Finish t (record { job = job; outcome = servant job }))
 finished_by servant run t _ = run
 
+-- a turn of the thread of this number, if there is one
 abbrev pub turned : (JobRecord → Outcome) → Run → Option ℕ → Run
 turned servant run (Some t) = finished_by servant (applied run (Take t)) t (step run.state (Take t)).1
 turned servant run None = run
 
+-- so many turns, or fewer where no task is given any more
 abbrev pub rested_after : (JobRecord → Outcome) → ℕ → Run → Run
 rested_after servant zero run = run
 rested_after servant (suc turns) run = rested_after servant turns (turned servant run (first_given run.state))
@@ -60,6 +63,7 @@ rested_after servant (suc turns) run = rested_after servant turns (turned servan
 abbrev pub in_hand : State → ℕ
 in_hand s = length s.waiting + count_by (λ thread. not (is_free thread.doing)) s.threads
 
+-- turns until no task is given
 abbrev pub rested : (JobRecord → Outcome) → Run → Run
 rested servant run = rested_after servant (in_hand run.state) run
 
@@ -68,10 +72,12 @@ abbrev pub collected : ConnId → Run → Option ℕ → Run
 collected conn run (Some _) = applied run (Collect conn)
 collected conn run None = run
 
+-- so many items are collected, or fewer where none is left
 abbrev pub emptied_after : ConnId → ℕ → Run → Run
 emptied_after conn zero run = run
 emptied_after conn (suc items) run = emptied_after conn items (collected conn run (item_place run.state conn))
 
+-- all items of the connection are collected
 abbrev pub emptied : ConnId → Run → Run
 emptied conn run = emptied_after conn (length run.state.out) run
 
@@ -84,12 +90,15 @@ settled servant run = emptied pipe_conn (rested servant run)
 abbrev pub before_call : (JobRecord → Outcome) → Run → LaneCall → Run
 before_call servant run call = if is_ready run.state call then run else settled servant run
 
+-- how many calls more fit into the group behind this call
 abbrev pub room_behind : ℕ → ℕ → Run → LaneCall → ℕ
 room_behind batch room run call = (if is_ready run.state call then room else batch) - 1
 
+-- the group ends behind a call for which it had no more room
 abbrev pub behind_call : (JobRecord → Outcome) → ℕ → Run → Run
 behind_call servant room run = if room == 0 then settled servant run else run
 
+-- the calls in their groups; once the run is closing no further call is made
 abbrev pub grouped : (JobRecord → Outcome) → ℕ → ℕ → Run → List LaneCall → Run
 grouped servant batch room run [] = settled servant run
 grouped servant batch room run (call ∷ calls) =

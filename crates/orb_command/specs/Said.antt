@@ -29,6 +29,7 @@ reply_status (Returned _) = 0
 reply_status (User _) = 1
 reply_status (System _) = 2
 
+-- the body of a reply
 abbrev pub reply_body : Order → Outcome → List ℕ
 reply_body order (Returned body) = body
 reply_body order (User body) = body
@@ -60,5 +61,6 @@ call_bytes conn (Take _) r = []
 call_bytes conn (Finish _ _) r = []
 call_bytes conn (End _ _) r = []
 
+-- what a history wrote to the connection
 abbrev pub said : ConnId → History → List ℕ
 said conn h = flat_map (λ e. call_bytes conn e.call e.reply) h

@@ -13,6 +13,7 @@ pub record Object : Type 0 where
   pub model : PriorityModel
   pub server : ℕ
 
+-- a pool, how many connections it serves, and its objects
 pub record Setup : Type 0 where
   pub pool : Pool
   pub slots : ℕ
@@ -32,6 +33,7 @@ built_in_pool = record {
   run_bytes = MAX_RUN_BYTES;
 }
 
+-- the setup without a configuration
 abbrev pub built_in : Setup
 built_in = record {
   pool = built_in_pool;
@@ -45,6 +47,7 @@ abbrev pub interface_at : Option Object → List ℕ
 interface_at (Some object) = object.interface
 interface_at None = []
 
+-- the interface of the object of this number
 abbrev pub interface_of : Setup → ℕ → List ℕ
 interface_of setup target = interface_at (slice_get setup.objects target)
 

@@ -18,6 +18,7 @@ pub struct Ping {
 }
 
 impl Ping {
+    /// The servant, which takes memory for its answers from this allocator.
     pub fn new(alloc: Global) -> Ping {
         Ping { alloc }
     }
