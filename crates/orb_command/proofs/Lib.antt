@@ -5,3 +5,4 @@ pub mod BuiltInput
 pub mod Turns
 pub mod PipedLaws
 pub mod CommandLaws
+pub mod Replays

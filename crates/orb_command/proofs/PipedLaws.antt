@@ -16,7 +16,7 @@ use Rattle.giop_messages.specs.Plain.{plain}
 use Rattle.giop_messages.proofs.ReadingLaws.{plain_reads}
 use Rattle.lane_machine.specs.declared.call.LaneCall.TheVariants.{Offer}
 use Rattle.orb_command.specs.Setup.{built_in, pipe_conn}
-use Rattle.orb_command.specs.Heard.{job_of, IsOffered, nothing, one}
+use Rattle.orb_command.specs.Heard.{bind_operation, job_of, IsOffered, nothing, one}
 use Rattle.orb_command.specs.Said.{item_bytes}
 use Rattle.orb_command.specs.PingRun.{ping_job, IsAnswerTo}
 use Rattle.orb_command.specs.Built.{IsBuilt, IsPiped}
@@ -40,6 +40,9 @@ pub ping_size : (id : ℕ) → length (ping_bytes id) ≡ 48
 unfolding number_bytes
 ping_size id = refl
 
+another_name : codes "current" ≡ bind_operation → ⊥
+another_name same = let longer : ◌≡◌ {A = ℕ} 7 19 = ap length same in omega (arith, longer)
+
 is_offered : (id : ℕ) → IsOffered built_in pipe_conn 0 Big (length (ping_bytes id)) (plain id (codes "ping")) (Offer (ping_job id))
 is_offered id = record {
   target = 0;
@@ -48,6 +51,7 @@ is_offered id = record {
   known = refl;
   addressed = refl;
   plain = refl;
+  no_bind = another_name;
   placed = refl;
   meant = ap (λ (size : ℕ). Offer (job_of pipe_conn 0 Big size (plain id (codes "ping")) 0 100 0)) (sym (ping_size id));
 }

@@ -1,6 +1,6 @@
 -- What the bytes of a connection mean to the lane machine. So far they are nothing, or one request that is offered;
 -- later pieces add cases.
-use Rattle.std.specs.Prelude.{◌≡◌, ℕ, ◌==◌, ◌%◌, if◌then◌else◌, List, [], ◌∷◌, Some, None, length, slice_get}
+use Rattle.std.specs.Prelude.{◌≡◌, ℕ, ◌==◌, ◌%◌, if◌then◌else◌, List, [], ◌∷◌, Some, None, length, slice_get, codes}
 use Rattle.orb_base.specs.Priorities.{mandated, lane_of}
 use Rattle.orb_base.specs.JobRecord.{JobRecord}
 use Rattle.orb_base.specs.declared.conn_id.ConnId.{ConnId}
@@ -35,8 +35,12 @@ job_of conn serial order size r target level lane = record {
   body = r.body;
 }
 
+-- the operation by which a client binds a band, which is no request to a servant
+abbrev pub bind_operation : List ℕ
+bind_operation = codes "_bind_priority_band"
+
 -- the request passes every judgement, and means this call. Its key is that of an object; it has no contexts, so that no
--- priority was sent and no band is bound; and a lane takes its mandated priority.
+-- priority was sent; it binds no band, and none is bound; and a lane takes its mandated priority.
 pub record IsOffered (setup : Setup) (conn : ConnId) (serial : ℕ) (order : Order) (size : ℕ) (r : Request) (call : LaneCall) : Type 0 where
   pub target : ℕ
   pub object : Object
@@ -44,6 +48,7 @@ pub record IsOffered (setup : Setup) (conn : ConnId) (serial : ℕ) (order : Ord
   pub known : slice_get setup.objects target ≡ Some object
   pub addressed : r.target ≡ key object.object_key
   pub plain : r.contexts ≡ []
+  pub no_bind : ¬ (r.operation ≡ bind_operation)
   pub placed : lane_of setup.pool (mandated object.model object.server None) ≡ Some lane
   pub meant : call ≡ Offer (job_of conn serial order size r target (mandated object.model object.server None) lane)
 

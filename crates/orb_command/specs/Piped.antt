@@ -1,6 +1,6 @@
 -- What the pipe answers: one connection, whose calls are applied in groups. Behind each group, and behind the end, the
 -- threads are run to rest and all items are collected; behind the end the connection collects once more. Own profile.
-use Rattle.std.specs.Prelude.{ℕ, zero, suc, ◌+◌, ◌-◌, ◌==◌, Bool, true, false, not, if◌then◌else◌, List, [], ◌∷◌, ◌++◌, Option, Some, None, length, position, count_by}
+use Rattle.std.specs.Prelude.{◌≡◌, ℕ, zero, suc, ◌+◌, ◌-◌, ◌==◌, Bool, true, false, not, if◌then◌else◌, List, [], ◌∷◌, ◌++◌, Option, Some, None, length, position, count_by}
 use Rattle.std.specs.List.{list_any}
 use Rattle.orb_base.specs.Outcomes.{no_memory}
 use Rattle.orb_base.specs.JobRecord.{JobRecord}
@@ -18,7 +18,7 @@ use Rattle.lane_machine.specs.State.{State, opening}
 use Rattle.lane_machine.specs.Choice.{is_free}
 use Rattle.lane_machine.specs.Machine.{step, item_place}
 use Rattle.lane_machine.specs.Readiness.{is_ready}
-use Rattle.lane_machine.specs.Histories.{History}
+use Rattle.lane_machine.specs.Histories.{History, replay}
 use Rattle.orb_command.specs.Setup.{Setup, interface_of, pipe_conn}
 use Rattle.orb_command.specs.Said.{said}
 
@@ -26,6 +26,10 @@ use Rattle.orb_command.specs.Said.{said}
 pub record Run : Type 0 where
   pub state : State
   pub history : History
+
+-- the run stands where its history leads from this state
+abbrev pub IsReplayed : State → Run → Type 0
+IsReplayed s run = run.state ≡ replay s run.history
 
 -- one more call of the one caller, number 0
 abbrev pub applied : Run → LaneCall → Run
