@@ -9,7 +9,7 @@ use Rattle.cdr_core.specs.Alignment.{pad_len}
 use Rattle.cdr_core.specs.Field.{fields_end}
 use Rattle.cdr_core.specs.Spelling.{fields_bytes}
 use Rattle.cdr_core.proofs.CallerLemmas.{spelled_zeros, fields_bytes-append, fields_end-is}
-use Rattle.giop_messages.specs.Message.{Message, request, reply, close, error, kind_of, Fits, FitsRequest, FitContexts}
+use Rattle.giop_messages.specs.Message.{Message, request, reply, cancel, locate, located, close, error, kind_of, Fits, FitsRequest, FitContexts}
 use Rattle.giop_messages.specs.Layout.{order_flag, named_fields, body_fields, body_of}
 use Rattle.giop_messages.specs.Spelling.{all_fields, framed, spelled}
 use Rattle.giop_messages.specs.Reading.{HasBody, ReadsIn}
@@ -40,6 +40,9 @@ behind_pad order here place (b ∷ body) same =
 has_body : (order : Order) (message : Message) (here place : ℕ) → here ≡ place → HasBody message here (fields_bytes order place (body_fields (body_of message)))
 has_body order (request r) here place same = behind_pad order here place r.body same
 has_body order (reply r) here place same = behind_pad order here place r.body same
+has_body order (cancel id) here place same = tt
+has_body order (locate l) here place same = tt
+has_body order (located l) here place same = tt
 has_body order close here place same = tt
 has_body order error here place same = tt
 
@@ -66,15 +69,14 @@ spelled_reads order message fits size =
     }
 
 no_contexts : FitContexts []
-no_contexts = record { few = lit< tt; each = All-nil _ }
+no_contexts = record { few = lit< tt; each = tt }
 
 fits_plain : (id : ℕ) (key : List ℕ) → id < 2 ^ 32 → length key < 2 ^ 31 → FitsRequest (plain id key)
 fits_plain id key id_fits key_fits = record {
   id = id_fits;
   flags = lit< tt;
   target = omega arith;
-  no_nul = refl;
-  operation = lit< tt;
+  operation = record { no_nul = refl; short = lit< tt };
   contexts = no_contexts;
 }
 

@@ -5,7 +5,7 @@ use Rattle.orb_base.specs.declared.order.Order.TheVariants.{Big, Little}
 use Rattle.orb_base.specs.declared.system.SysName.TheVariants.{ObjectNotExist}
 use Rattle.orb_base.specs.declared.system.Completed.TheVariants.{No}
 use Rattle.cdr_core.specs.Field.{number_bytes}
-use Rattle.giop_messages.specs.Message.{request, reply, error}
+use Rattle.giop_messages.specs.Message.{cancel, close, error, key, locate, located, reply, request}
 use Rattle.giop_messages.specs.Spelling.{spelled}
 use Rattle.giop_messages.specs.Exceptions.{exception_body}
 use Rattle.giop_messages.specs.Plain.{plain, bare}
@@ -51,3 +51,38 @@ exception_reply = refl
 error_alone : spelled Big error ≡ 71 ∷ 73 ∷ 79 ∷ 80 ∷ 1 ∷ 2 ∷ 0 ∷ 6 ∷ 0 ∷ 0 ∷ 0 ∷ 0 ∷ []
 unfolding number_bytes
 error_alone = refl
+
+-- the request that binds the band 100 to 200
+bind_band_request : spelled Big (request (record { id = 1; flags = 3; target = key (codes "ping"); operation = codes "_bind_priority_band"; contexts = record { id = 11; bytes = 0 ∷ 0 ∷ 0 ∷ 100 ∷ 0 ∷ 200 ∷ [] } ∷ []; body = [] })) ≡ 71 ∷ 73 ∷ 79 ∷ 80 ∷ 1 ∷ 2 ∷ 0 ∷ 0 ∷ 0 ∷ 0 ∷ 0 ∷ 62 ∷ 0 ∷ 0 ∷ 0 ∷ 1 ∷ 3 ∷ 0 ∷ 0 ∷ 0 ∷ 0 ∷ 0 ∷ 0 ∷ 0 ∷ 0 ∷ 0 ∷ 0 ∷ 4 ∷ 112 ∷ 105 ∷ 110 ∷ 103 ∷ 0 ∷ 0 ∷ 0 ∷ 20 ∷ 95 ∷ 98 ∷ 105 ∷ 110 ∷ 100 ∷ 95 ∷ 112 ∷ 114 ∷ 105 ∷ 111 ∷ 114 ∷ 105 ∷ 116 ∷ 121 ∷ 95 ∷ 98 ∷ 97 ∷ 110 ∷ 100 ∷ 0 ∷ 0 ∷ 0 ∷ 0 ∷ 1 ∷ 0 ∷ 0 ∷ 0 ∷ 11 ∷ 0 ∷ 0 ∷ 0 ∷ 6 ∷ 0 ∷ 0 ∷ 0 ∷ 100 ∷ 0 ∷ 200 ∷ []
+unfolding number_bytes
+bind_band_request = refl
+
+-- the little-endian ping with the priority 7
+little_endian_ping : spelled Little (request (record { id = 1; flags = 3; target = key (codes "ping"); operation = codes "current"; contexts = record { id = 10; bytes = 1 ∷ 0 ∷ 7 ∷ 0 ∷ [] } ∷ []; body = [] })) ≡ 71 ∷ 73 ∷ 79 ∷ 80 ∷ 1 ∷ 2 ∷ 1 ∷ 0 ∷ 48 ∷ 0 ∷ 0 ∷ 0 ∷ 1 ∷ 0 ∷ 0 ∷ 0 ∷ 3 ∷ 0 ∷ 0 ∷ 0 ∷ 0 ∷ 0 ∷ 0 ∷ 0 ∷ 4 ∷ 0 ∷ 0 ∷ 0 ∷ 112 ∷ 105 ∷ 110 ∷ 103 ∷ 8 ∷ 0 ∷ 0 ∷ 0 ∷ 99 ∷ 117 ∷ 114 ∷ 114 ∷ 101 ∷ 110 ∷ 116 ∷ 0 ∷ 1 ∷ 0 ∷ 0 ∷ 0 ∷ 10 ∷ 0 ∷ 0 ∷ 0 ∷ 4 ∷ 0 ∷ 0 ∷ 0 ∷ 1 ∷ 0 ∷ 7 ∷ 0 ∷ []
+unfolding number_bytes
+little_endian_ping = refl
+
+-- a request with a body
+twice_request : spelled Big (request (record { id = 1; flags = 3; target = key (codes "v"); operation = codes "twice"; contexts = []; body = 0 ∷ 0 ∷ 0 ∷ 21 ∷ [] })) ≡ 71 ∷ 73 ∷ 79 ∷ 80 ∷ 1 ∷ 2 ∷ 0 ∷ 0 ∷ 0 ∷ 0 ∷ 0 ∷ 40 ∷ 0 ∷ 0 ∷ 0 ∷ 1 ∷ 3 ∷ 0 ∷ 0 ∷ 0 ∷ 0 ∷ 0 ∷ 0 ∷ 0 ∷ 0 ∷ 0 ∷ 0 ∷ 1 ∷ 118 ∷ 0 ∷ 0 ∷ 0 ∷ 0 ∷ 0 ∷ 0 ∷ 6 ∷ 116 ∷ 119 ∷ 105 ∷ 99 ∷ 101 ∷ 0 ∷ 0 ∷ 0 ∷ 0 ∷ 0 ∷ 0 ∷ 0 ∷ 0 ∷ 0 ∷ 0 ∷ 21 ∷ []
+unfolding number_bytes
+twice_request = refl
+
+-- the question where `ping` is
+locate_ping : spelled Big (locate (record { id = 5; target = key (codes "ping") })) ≡ 71 ∷ 73 ∷ 79 ∷ 80 ∷ 1 ∷ 2 ∷ 0 ∷ 3 ∷ 0 ∷ 0 ∷ 0 ∷ 16 ∷ 0 ∷ 0 ∷ 0 ∷ 5 ∷ 0 ∷ 0 ∷ 0 ∷ 0 ∷ 0 ∷ 0 ∷ 0 ∷ 4 ∷ 112 ∷ 105 ∷ 110 ∷ 103 ∷ []
+unfolding number_bytes
+locate_ping = refl
+
+-- its answer
+object_here : spelled Big (located (record { id = 5; status = 1 })) ≡ 71 ∷ 73 ∷ 79 ∷ 80 ∷ 1 ∷ 2 ∷ 0 ∷ 4 ∷ 0 ∷ 0 ∷ 0 ∷ 8 ∷ 0 ∷ 0 ∷ 0 ∷ 5 ∷ 0 ∷ 0 ∷ 0 ∷ 1 ∷ []
+unfolding number_bytes
+object_here = refl
+
+-- a CancelRequest
+cancel_request : spelled Big (cancel 9) ≡ 71 ∷ 73 ∷ 79 ∷ 80 ∷ 1 ∷ 2 ∷ 0 ∷ 2 ∷ 0 ∷ 0 ∷ 0 ∷ 4 ∷ 0 ∷ 0 ∷ 0 ∷ 9 ∷ []
+unfolding number_bytes
+cancel_request = refl
+
+-- a CloseConnection
+close_connection : spelled Big (close) ≡ 71 ∷ 73 ∷ 79 ∷ 80 ∷ 1 ∷ 2 ∷ 0 ∷ 5 ∷ 0 ∷ 0 ∷ 0 ∷ 0 ∷ []
+unfolding number_bytes
+close_connection = refl

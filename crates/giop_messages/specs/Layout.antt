@@ -5,7 +5,7 @@ use Rattle.std.specs.Int.{w8, w16, w32}
 use Rattle.orb_base.specs.declared.order.Order.{Order}
 use Rattle.orb_base.specs.declared.order.Order.TheVariants.{Big, Little}
 use Rattle.cdr_core.specs.Field.{Field, number, run, number_bytes, string_fields, octets_fields}
-use Rattle.giop_messages.specs.Message.{Context, Target, key, Message, request, reply, close, error}
+use Rattle.giop_messages.specs.Message.{Context, Tagged, Target, key, profile, addressing, Message, request, reply, cancel, locate, located, close, error}
 
 -- 'GIOP'
 abbrev pub magic : List ℕ
@@ -20,9 +20,16 @@ order_flag Little = 1
 abbrev pub header : Order → ℕ → ℕ → ℕ → List ℕ
 header order flags kind size = magic ++ 1 ∷ 2 ∷ flags ∷ kind ∷ [] ++ number_bytes order w32 size
 
--- a key is addressing form 0
+-- tagged data: its tag and its bytes
+abbrev pub tagged_fields : Tagged → List Field
+tagged_fields t = number w32 t.tag ∷ octets_fields t.bytes
+
+-- a key is form 0, a profile form 1, and a reference form 2
 abbrev pub target_fields : Target → List Field
 target_fields (key bytes) = number w16 0 ∷ octets_fields bytes
+target_fields (profile t) = number w16 1 ∷ tagged_fields t
+target_fields (addressing index type_id profiles) =
+    number w16 2 ∷ number w32 index ∷ string_fields type_id ++ number w32 (length profiles) ∷ flat_map tagged_fields profiles
 
 -- a service context: its id and its bytes
 abbrev pub context_fields : Context → List Field
@@ -37,6 +44,9 @@ abbrev pub named_fields : List ℕ → Message → List Field
 named_fields reserved (request r) =
     number w32 r.id ∷ number w8 r.flags ∷ run 1 reserved ∷ target_fields r.target ++ string_fields r.operation ++ contexts_fields r.contexts
 named_fields reserved (reply r) = number w32 r.id ∷ number w32 r.status ∷ contexts_fields r.contexts
+named_fields reserved (cancel id) = number w32 id ∷ []
+named_fields reserved (locate l) = number w32 l.id ∷ target_fields l.target
+named_fields reserved (located l) = number w32 l.id ∷ number w32 l.status ∷ []
 named_fields reserved close = []
 named_fields reserved error = []
 
@@ -49,5 +59,8 @@ body_fields (byte ∷ bytes) = run 8 (byte ∷ bytes) ∷ []
 abbrev pub body_of : Message → List ℕ
 body_of (request r) = r.body
 body_of (reply r) = r.body
+body_of (cancel id) = []
+body_of (locate l) = []
+body_of (located l) = []
 body_of close = []
 body_of error = []

@@ -1,5 +1,6 @@
 -- The messages of GIOP 1.2 as plain data: CORBA 3.0.3, section 15.4.
-use Rattle.std.specs.Prelude.{◌≤◌, ◌<◌, ◌+◌, ◌^◌, ℕ, List, All, length}
+use Rattle.std.specs.Prelude.{◌≤◌, ◌<◌, ◌+◌, ◌^◌, ℕ, List, length}
+use Rattle.std.specs.List.{AllByRecursion}
 use Rattle.orb_base.specs.NulFree.{HasNoNul}
 
 -- a service context: section 13.7
@@ -7,9 +8,17 @@ pub record Context : Type 0 where
   pub id : ℕ
   pub bytes : List ℕ
 
--- the object that a request is for, by the key of its adapter: section 15.4.2.1
+-- data of a kind that its tag names: a profile or a component of a reference, section 13.6.2
+pub record Tagged : Type 0 where
+  pub tag : ℕ
+  pub bytes : List ℕ
+
+-- the object that a request is for: by the key of its adapter, by a profile, or by a reference of which one profile is
+-- meant. Section 15.4.2.1
 pub data Target : Type 0 where
   key : List ℕ → Target
+  profile : Tagged → Target
+  addressing : ℕ → List ℕ → List Tagged → Target
 
 -- a request: section 15.4.2
 pub record Request : Type 0 where
@@ -27,10 +36,23 @@ pub record Reply : Type 0 where
   pub contexts : List Context
   pub body : List ℕ
 
--- one message; `close` is CloseConnection and `error` MessageError
+-- a question where an object is, and its answer: sections 15.4.5 and 15.4.6
+pub record Locate : Type 0 where
+  pub id : ℕ
+  pub target : Target
+
+pub record Located : Type 0 where
+  pub id : ℕ
+  pub status : ℕ
+
+-- one message; `cancel` is CancelRequest, `locate` LocateRequest, `located` LocateReply, `close` CloseConnection and
+-- `error` MessageError
 pub data Message : Type 0 where
   request : Request → Message
   reply : Reply → Message
+  cancel : ℕ → Message
+  locate : Locate → Message
+  located : Located → Message
   close : Message
   error : Message
 
@@ -38,25 +60,45 @@ pub data Message : Type 0 where
 abbrev pub kind_of : Message → ℕ
 kind_of (request _) = 0
 kind_of (reply _) = 1
+kind_of (cancel _) = 2
+kind_of (locate _) = 3
+kind_of (located _) = 4
 kind_of close = 5
 kind_of error = 6
 
--- what the widths of the fields can hold
+-- data that the widths can hold
+pub record FitsTagged (tagged : Tagged) : Type 0 where
+  pub tag : tagged.tag < 2 ^ 32
+  pub bytes : length tagged.bytes < 2 ^ 32
+
+-- a text that a string can hold
+pub record FitsText (text : List ℕ) : Type 0 where
+  pub no_nul : HasNoNul text
+  pub short : length text + 1 < 2 ^ 32
+
+-- a service context that the widths can hold
+pub record FitsContext (context : Context) : Type 0 where
+  pub id : context.id < 2 ^ 32
+  pub bytes : length context.bytes < 2 ^ 32
+
+-- a target that they can hold
 abbrev pub FitsTarget : Target → Type 0
 FitsTarget (key bytes) = length bytes < 2 ^ 32
+FitsTarget (profile t) = FitsTagged t
+FitsTarget (addressing index type_id profiles) =
+    (index < 2 ^ 32) × FitsText type_id × (length profiles < 2 ^ 32) × AllByRecursion FitsTagged profiles
 
 -- service contexts that the widths can hold
 pub record FitContexts (contexts : List Context) : Type 0 where
   pub few : length contexts < 2 ^ 32
-  pub each : All (λ context. (context.id < 2 ^ 32) × (length context.bytes < 2 ^ 32)) contexts
+  pub each : AllByRecursion FitsContext contexts
 
 -- a request that the widths can hold
 pub record FitsRequest (request : Request) : Type 0 where
   pub id : request.id < 2 ^ 32
   pub flags : request.flags < 2 ^ 8
   pub target : FitsTarget request.target
-  pub no_nul : HasNoNul request.operation
-  pub operation : length request.operation + 1 < 2 ^ 32
+  pub operation : FitsText request.operation
   pub contexts : FitContexts request.contexts
 
 -- a reply that the widths can hold, of one of the six statuses
@@ -65,9 +107,21 @@ pub record FitsReply (reply : Reply) : Type 0 where
   pub status : reply.status ≤ 5
   pub contexts : FitContexts reply.contexts
 
+-- a question and an answer that they can hold
+pub record FitsLocate (locate : Locate) : Type 0 where
+  pub id : locate.id < 2 ^ 32
+  pub target : FitsTarget locate.target
+
+pub record FitsLocated (located : Located) : Type 0 where
+  pub id : located.id < 2 ^ 32
+  pub status : located.status < 2 ^ 32
+
 -- a message that the widths can hold
 abbrev pub Fits : Message → Type 0
 Fits (request r) = FitsRequest r
 Fits (reply r) = FitsReply r
+Fits (cancel id) = id < 2 ^ 32
+Fits (locate l) = FitsLocate l
+Fits (located l) = FitsLocated l
 Fits close = Unit {0}
 Fits error = Unit {0}

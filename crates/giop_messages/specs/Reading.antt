@@ -4,7 +4,7 @@ use Rattle.std.specs.Prelude.{◌≡◌, ◌<◌, ◌+◌, ◌/◌, ◌%◌, ◌
 use Rattle.orb_base.specs.declared.order.Order.{Order}
 use Rattle.cdr_core.specs.Alignment.{pad_len}
 use Rattle.cdr_core.specs.Spelling.{IsSpelled}
-use Rattle.giop_messages.specs.Message.{Message, Fits, request, reply, close, error, kind_of}
+use Rattle.giop_messages.specs.Message.{Message, Fits, request, reply, cancel, locate, located, close, error, kind_of}
 use Rattle.giop_messages.specs.Layout.{header, order_flag, named_fields}
 
 -- the body is what stands from the next multiple of 8 on, or empty where no byte stands there; `place` is that behind
@@ -12,6 +12,9 @@ use Rattle.giop_messages.specs.Layout.{header, order_flag, named_fields}
 abbrev pub HasBody : Message → ℕ → List ℕ → Type 0
 HasBody (request r) place rest = r.body ≡ drop (pad_len 8 place) rest
 HasBody (reply r) place rest = r.body ≡ drop (pad_len 8 place) rest
+HasBody (cancel id) place rest = Unit {0}
+HasBody (locate l) place rest = Unit {0}
+HasBody (located l) place rest = Unit {0}
 HasBody close place rest = Unit {0}
 HasBody error place rest = Unit {0}
 
