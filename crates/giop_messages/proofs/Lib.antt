@@ -3,3 +3,4 @@ pub mod Taking
 pub mod PlainLaws
 pub mod ReadingLaws
 pub mod WritingLaws
+pub mod OneReading

@@ -1,11 +1,11 @@
 //! Laws that tie the definitions of messages to one another.
-ghost use Rattle.std.specs.Prelude.{ℕ, ◌<◌, ◌^◌, List, length};
+ghost use Rattle.std.specs.Prelude.{◌≡◌, ℕ, ◌<◌, ◌^◌, List, length};
 ghost use Rattle.orb_base.specs.declared.order.Order.{Order};
 ghost use Rattle.orb_base.specs.declared.order.Order.TheVariants.{Big};
 ghost use Rattle.cdr_core.specs.Spelling.{fields_bytes};
 ghost use Rattle.giop_messages.specs.Message.{Message, Fits, request};
 ghost use Rattle.giop_messages.specs.Spelling.{spelled, all_fields};
-ghost use Rattle.giop_messages.specs.Reading.{ReadsIn};
+ghost use Rattle.giop_messages.specs.Reading.{ReadsIn, Reads};
 ghost use Rattle.giop_messages.specs.Plain.{plain};
 
 /// What a message is spelled as is read as that message, in either order.
@@ -13,6 +13,11 @@ pub fn spelled_is_read()
     ensures { (order : Order) (message : Message) → Fits message
         → length (fields_bytes order 12 (all_fields message)) < 2 ^ 32
         → ReadsIn order message (spelled order message) }
+{}
+
+/// Whole bytes are read as at most one message.
+pub fn reads_one_way()
+    ensures { (m n : Message) (bytes : List ℕ) → Reads m bytes → Reads n bytes → m ≡ n }
 {}
 
 /// What a plain request is spelled as is read as that request.

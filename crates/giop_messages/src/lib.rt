@@ -9,7 +9,7 @@ mod request;
 mod writer;
 
 pub use exceptions::system_exception_body;
-pub use laws::{plain_request_is_read, spelled_is_read};
+pub use laws::{plain_request_is_read, reads_one_way, spelled_is_read};
 pub use reply::plain_reply;
 pub use request::{PlainRequest, plain_request};
 
