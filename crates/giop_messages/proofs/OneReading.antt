@@ -264,7 +264,7 @@ flag_order Big Big e = refl
 flag_order Little Little e = refl
 flag_order o z e = absurd (omega (arith, e))
 
-order_one : (o z : Order) (m n : Message) (bytes : List ℕ) → ReadsIn o m bytes → ReadsIn z n bytes → z ≡ o
+pub order_one : (o z : Order) (m n : Message) (bytes : List ℕ) → ReadsIn o m bytes → ReadsIn z n bytes → z ≡ o
 order_one o z m n bytes p q =
     let h = heads o z p.flags q.flags (kind_of m) (kind_of n) (length (p.named ++ p.rest)) (length (q.named ++ q.rest)) (p.named ++ p.rest) (q.named ++ q.rest) (sym p.parts ∙ q.parts) in
     flag_order z o (sym q.order_bit ∙ ap (λ (f : ℕ). f % 2) (sym h.flags) ∙ p.order_bit)

@@ -6,3 +6,4 @@ pub mod Turns
 pub mod PipedLaws
 pub mod CommandLaws
 pub mod Replays
+pub mod HeardLaws

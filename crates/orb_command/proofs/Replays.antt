@@ -14,9 +14,8 @@ use Rattle.lane_machine.specs.State.{State, opening}
 use Rattle.lane_machine.specs.Machine.{step, item_place}
 use Rattle.lane_machine.specs.Readiness.{is_ready}
 use Rattle.lane_machine.specs.History.{Entry, replay_by}
-use Rattle.lane_machine.specs.Histories.{replay}
 use Rattle.orb_command.specs.Setup.{Setup, pipe_conn}
-use Rattle.orb_command.specs.Piped.{Run, applied, first_given, finished_by, turned, rested_after, rested, in_hand, collected, emptied_after, emptied, settled, before_call, room_behind, behind_call, grouped, closed_by, answer_of, piped, IsReplayed}
+use Rattle.orb_command.specs.Piped.{Run, applied, first_given, finished_by, turned, rested_after, rested, in_hand, collected, emptied_after, settled, before_call, room_behind, behind_call, grouped, answer_of, piped, IsReplayed}
 
 -- one more entry is one more step
 replay-append : {O C R : Type 0} (one : O → C → O × R) (s : O) (h : List (Entry C R)) (e : Entry C R) → replay_by one s (h ++ e ∷ []) ≡ (one (replay_by one s h) e.call).0

@@ -61,3 +61,7 @@ pub end_ready : (s : State) → IsIdle s → is_ready (step s (End pipe_conn Qui
 end_ready s idle =
     let nothing : owed (step s (End pipe_conn Quiet)).0 pipe_conn ≡ 0 = owed_idle (step s (End pipe_conn Quiet)).0 pipe_conn idle.free idle.nothing_waits idle.nothing_out in
     rw (nothing, idle.nothing_out, idle.none_ended) refl
+
+-- and that ending changes nothing any more
+pub end_collects : (s : State) → IsIdle s → step (step s (End pipe_conn Quiet)).0 (Collect pipe_conn) ≡ ((step s (End pipe_conn Quiet)).0, reply.Done)
+end_collects s idle = rw (idle.nothing_out, idle.none_ended) refl

@@ -1,15 +1,29 @@
 //! Laws on the runs of the pipe.
-ghost use Rattle.std.specs.Prelude.{ℕ, List};
+ghost use Rattle.std.specs.Prelude.{◌≡◌, ℕ, List};
 ghost use Rattle.orb_base.specs.JobRecord.{JobRecord};
+ghost use Rattle.orb_base.specs.declared.conn_id.ConnId.{ConnId};
 ghost use Rattle.orb_base.specs.declared.outcome.Outcome.{Outcome};
 ghost use Rattle.lane_machine.specs.declared.call.How.{How};
 ghost use Rattle.lane_machine.specs.declared.call.LaneCall.{LaneCall};
 ghost use Rattle.lane_machine.specs.State.{opening};
-ghost use Rattle.orb_command.specs.Setup.{Setup};
+ghost use Rattle.orb_command.specs.Setup.{Setup, HasDistinctKeys, built_in};
+ghost use Rattle.orb_command.specs.Heard.{Hears};
 ghost use Rattle.orb_command.specs.Piped.{piped, IsReplayed};
 
 /// A run of the pipe, over any setup, servants, calls and groups, stands where its history leads.
 pub fn piped_is_replayed()
     ensures { (setup : Setup) (outcome : List ℕ → JobRecord → Outcome) (batch : ℕ) (calls : List LaneCall) (how : How)
         (lacks : List ℕ) → IsReplayed (opening setup.pool setup.slots setup.per_slot) (piped setup outcome batch calls how lacks) }
+{}
+
+/// A whole input means one list of calls, with one end, where no two objects have one key.
+pub fn hears_one_way()
+    ensures { (setup : Setup) (conn : ConnId) (bytes : List ℕ) (calls other : List LaneCall) (how ended : How)
+        → HasDistinctKeys setup → Hears setup conn bytes calls how → Hears setup conn bytes other ended
+        → (calls ≡ other) × (how ≡ ended) }
+{}
+
+/// The objects of the built-in setup have different keys.
+pub fn built_in_is_distinct()
+    ensures { HasDistinctKeys built_in }
 {}

@@ -21,7 +21,7 @@ mod write_all;
 pub use answered::Answered;
 pub use command::orb_main;
 pub use ends::{PipeFault, Piped, ReadEnd, WriteEnd};
-pub use laws::piped_is_replayed;
+pub use laws::{built_in_is_distinct, hears_one_way, piped_is_replayed};
 pub use note::Note;
 pub use pipe::pipe_run;
 pub use read_all::MAX_PIPED;

@@ -1,6 +1,8 @@
 //! The run of one request through the lane machine.
 ghost use Rattle.std.specs.Prelude.{◌≡◌, ◌≤◌, ◌⊎◌, true, None, OnOk, IfOk};
 ghost use Rattle.orb_base.specs.Outcomes.{no_memory, body_len};
+ghost use Rattle.lane_machine.specs.declared.call.LaneCall.TheVariants.{End};
+ghost use Rattle.lane_machine.specs.declared.call.How.TheVariants.{Quiet};
 ghost use Rattle.lane_machine.specs.Machine.{step, end_of, item_place};
 ghost use Rattle.lane_machine.specs.Readiness.{is_ready, IsSound, owed};
 ghost use Rattle.orb_command.specs.Setup.{pipe_conn};
@@ -105,6 +107,7 @@ pub fn carry_out<S: Serving>(
 /// Ends the connection, to which nothing is owed, and collects its ending.
 pub fn end(lanes: &mut Lanes) -> Result<(), NoMemory>
     requires { IsIdle lanes.old }
+    ensures { OnOk result (lanes.new ≡ (step lanes.old (End pipe_conn Quiet)).0) }
 {
     advance(
         lanes,

@@ -1,0 +1,56 @@
+-- A whole input means one list of calls.
+use Rattle.std.proofs.Common.{◌≡◌, ℕ, zero, suc, List, [], ◌∷◌, Option, Some, None, length, refl, sym, ap, subst, ◌∙◌}
+use Rattle.std.specs.Prelude.{slice_get}
+use Rattle.orb_base.specs.Priorities.{mandated, lane_of}
+use Rattle.orb_base.specs.declared.conn_id.ConnId.{ConnId}
+use Rattle.orb_base.specs.declared.order.Order.{Order}
+use Rattle.giop_messages.specs.Message.{Request, Message, key, request}
+use Rattle.giop_messages.specs.Reading.{ReadsIn}
+use Rattle.giop_messages.proofs.OneReading.{order_one, reads_one_way}
+use Rattle.lane_machine.specs.declared.call.How.{How}
+use Rattle.lane_machine.specs.declared.call.LaneCall.{LaneCall}
+use Rattle.lane_machine.specs.declared.call.LaneCall.TheVariants.{Offer}
+use Rattle.orb_command.specs.Setup.{Setup, Object, HasDistinctKeys, built_in}
+use Rattle.orb_command.specs.Heard.{job_of, IsOffered, Hears, nothing, one}
+
+some_is : {A : Type 0} (x y : A) → ◌≡◌ {A = Option A} (Some x) (Some y) → x ≡ y
+some_is x y e = cc
+
+key_is : (x y : List ℕ) → key x ≡ key y → x ≡ y
+key_is x y e = cc
+
+request_is : (r s : Request) → request r ≡ request s → r ≡ s
+request_is r s e = cc
+
+one_call : (setup : Setup) (conn : ConnId) (serial : ℕ) (order : Order) (size : ℕ) (r : Request) (call other : LaneCall) → HasDistinctKeys setup → IsOffered setup conn serial order size r call → IsOffered setup conn serial order size r other → call ≡ other
+one_call setup conn serial order size r call other distinct p q =
+    let keys : p.object.object_key ≡ q.object.object_key = key_is _ _ (sym p.addressed ∙ q.addressed) in
+    let targets : p.target ≡ q.target = distinct p.target q.target p.object q.object p.known q.known keys in
+    let objects : p.object ≡ q.object = some_is _ _ (sym p.known ∙ ap (λ (t : ℕ). slice_get setup.objects t) targets ∙ q.known) in
+    let lanes : p.lane ≡ q.lane = some_is _ _ (sym p.placed ∙ ap (λ (o : Object). lane_of setup.pool (mandated o.model o.server None)) objects ∙ q.placed) in
+    p.meant
+    ∙ ap (λ (x : ℕ × Object × ℕ). Offer (job_of conn serial order size r x.0 (mandated x.1.model x.1.server None) x.2)) {x = (p.target, p.object, p.lane)} {y = (q.target, q.object, q.lane)} (λ i. (targets i, objects i, lanes i))
+    ∙ sym q.meant
+
+no_bytes : (order : Order) (m : Message) → ReadsIn order m [] → ⊥
+no_bytes order m reads = let e = reads.parts in cc
+
+pub hears_one_way : (setup : Setup) (conn : ConnId) (bytes : List ℕ) (calls other : List LaneCall) (how how' : How) → HasDistinctKeys setup → Hears setup conn bytes calls how → Hears setup conn bytes other how' → (calls ≡ other) × (how ≡ how')
+hears_one_way setup conn bytes calls other how how' distinct (nothing empty are is) (nothing empty' are' is') = (are ∙ sym are', is ∙ sym is')
+hears_one_way setup conn bytes calls other how how' distinct (nothing empty are is) (one order r call reads offered are' is') =
+    absurd (no_bytes order (request r) (subst (λ (x : List ℕ). ReadsIn order (request r) x) empty reads))
+hears_one_way setup conn bytes calls other how how' distinct (one order r call reads offered are is) (nothing empty are' is') =
+    absurd (no_bytes order (request r) (subst (λ (x : List ℕ). ReadsIn order (request r) x) empty reads))
+hears_one_way setup conn bytes calls other how how' distinct (one order r call reads offered are is) (one order' r' call' reads' offered' are' is') =
+    let orders : order' ≡ order = order_one order order' (request r) (request r') bytes reads reads' in
+    let requests : r ≡ r' = request_is r r' (reads_one_way (request r) (request r') bytes (order, reads) (order', reads')) in
+    let same : call ≡ call' = one_call setup conn 0 order (length bytes) r call call' distinct offered (subst (λ (x : Request). IsOffered setup conn 0 order (length bytes) x call') (sym requests) (subst (λ (o : Order). IsOffered setup conn 0 o (length bytes) r' call') orders offered')) in
+    (are ∙ ap (λ (c : LaneCall). c ∷ []) same ∙ sym are', is ∙ sym is')
+
+past_end : (k : ℕ) (x : Object) → slice_get built_in.objects (suc k) ≡ Some x → ⊥
+past_end k x e = cc
+
+pub built_in_is_distinct : HasDistinctKeys built_in
+built_in_is_distinct zero zero x y is is' same = refl
+built_in_is_distinct zero (suc n) x y is is' same = absurd (past_end n y is')
+built_in_is_distinct (suc m) n x y is is' same = absurd (past_end m x is)
