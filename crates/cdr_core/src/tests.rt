@@ -228,3 +228,13 @@ fn a_fault_prints_its_place_and_cause(rt: HostRuntime) -> Result<(), Fail> {
     assert_eq!(rt; printed.as_str(), "4: TooMany");
     Ok(())
 }
+
+#[test]
+fn runs_are_padded_to_their_alignment(rt: HostRuntime) -> Result<(), Fail> {
+    let mut out = Writer::new(rt.alloc(), Order::Big, 5);
+    assert!(rt; out.put_run(8, b"ab").is_ok());
+    assert!(rt; out.put_run(1, b"c").is_ok());
+    assert!(rt; out.put_run(4, b"").is_ok());
+    assert_eq!(rt; out.finish().as_slice(), b"\0\0\0abc\0".as_slice());
+    Ok(())
+}

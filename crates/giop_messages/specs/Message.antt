@@ -36,11 +36,12 @@ pub record Reply : Type 0 where
   pub contexts : List Context
   pub body : List ℕ
 
--- a question where an object is, and its answer: sections 15.4.5 and 15.4.6
+-- a question where an object is: section 15.4.5
 pub record Locate : Type 0 where
   pub id : ℕ
   pub target : Target
 
+-- the answer to it: section 15.4.6
 pub record Located : Type 0 where
   pub id : ℕ
   pub status : ℕ
@@ -107,11 +108,12 @@ pub record FitsReply (reply : Reply) : Type 0 where
   pub status : reply.status ≤ 5
   pub contexts : FitContexts reply.contexts
 
--- a question and an answer that they can hold
+-- a question that they can hold
 pub record FitsLocate (locate : Locate) : Type 0 where
   pub id : locate.id < 2 ^ 32
   pub target : FitsTarget locate.target
 
+-- an answer that they can hold
 pub record FitsLocated (located : Located) : Type 0 where
   pub id : located.id < 2 ^ 32
   pub status : located.status < 2 ^ 32
