@@ -111,6 +111,15 @@ impl Writer {
         self.put_piece(1, s)
     }
 
+    /// Puts bytes as they stand, aligned on 1, 2, 4 or 8.
+    pub fn put_run(&mut self, alignment: usize, bytes: &[u8]) -> Result<(), NoMemory>
+        requires some { 0 < alignment }
+        requires few { alignment ≤ 8 }
+        ensures { Puts result self.old self.new (run alignment bytes.now ∷ []) }
+    {
+        self.put_piece(alignment, bytes)
+    }
+
     fn put_text(&mut self, text: &[u8]) -> Result<(), NoMemory>
         ensures { Puts result self.old self.new (run 1 (text.now ++ 0 ∷ []) ∷ []) }
     {

@@ -1,4 +1,7 @@
 pub mod Message
+pub mod Flags
+pub mod TargetView
+pub mod Views
 pub mod Layout
 pub mod Spelling
 pub mod Reading
