@@ -4,6 +4,8 @@ pub mod TargetView
 pub mod Views
 pub mod Layout
 pub mod Spelling
+pub mod Lengths
+pub mod Front
 pub mod Reading
 pub mod Exceptions
 pub mod Plain
