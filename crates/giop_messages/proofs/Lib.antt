@@ -6,3 +6,4 @@ pub mod WritingLaws
 pub mod OneReading
 pub mod Pieces
 pub mod LengthLaws
+pub mod PutLaws

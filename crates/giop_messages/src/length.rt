@@ -90,7 +90,9 @@ fn behind_target(place: usize, target: &Target) -> usize
             behind_octets(behind_u32(behind(place, 2, 2)), tagged.bytes.len())
         }
         Target::Addressing {
-            type_id, profiles, ..
+            type_id,
+            profiles,
+            ..
         } => behind_reference(place, type_id.len(), profiles.as_slice()),
     }
 }

@@ -10,10 +10,12 @@ mod length;
 mod locate;
 mod located;
 mod message;
+mod part;
 mod reply;
 mod request;
 mod tagged;
 mod target;
+mod write;
 mod writer;
 
 pub use context::Context;
@@ -28,6 +30,9 @@ pub use reply::{Reply, plain_reply};
 pub use request::{PlainRequest, Request, plain_request};
 pub use tagged::Tagged;
 pub use target::Target;
+pub use write::write_message;
 
+#[cfg(test)]
+mod message_tests;
 #[cfg(test)]
 mod tests;

@@ -14,4 +14,4 @@ loop-context-preserved c =
     ends_next context_fields c.args.place c.loop-context.at c.behind_octets-at.result c.args.list.now c.loop-context.context-index x c.loop-context-test.true c.context-item.is
     c.loop-context.invariant
     (ends_then c.loop-context.at c.behind_u32.result c.behind_octets-at.result (number w32 x.id ∷ []) (octets_fields x.bytes)
-      (c.behind_u32.ensures x.id) (c.behind_octets-at.ensures x.bytes len))
+    (c.behind_u32.ensures x.id) (c.behind_octets-at.ensures x.bytes len))

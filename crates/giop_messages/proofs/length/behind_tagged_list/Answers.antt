@@ -14,4 +14,4 @@ loop-tagged-preserved c =
     ends_next tagged_fields c.args.place c.loop-tagged.at c.behind_octets-at.result c.args.list.now c.loop-tagged.tagged-index x c.loop-tagged-test.true c.tagged-item.is
     c.loop-tagged.invariant
     (ends_then c.loop-tagged.at c.behind_u32.result c.behind_octets-at.result (number w32 x.tag ∷ []) (octets_fields x.bytes)
-      (c.behind_u32.ensures x.tag) (c.behind_octets-at.ensures x.bytes len))
+    (c.behind_u32.ensures x.tag) (c.behind_octets-at.ensures x.bytes len))

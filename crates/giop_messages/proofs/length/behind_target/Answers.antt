@@ -13,7 +13,7 @@ returns-in-Profile c =
     let form = ends_u16 c.args.place c.behind-in-Profile.result 1 c.behind-in-Profile.ensures in
     let tag = ends_then c.args.place c.behind-in-Profile.result c.behind_u32.result (number w16 1 ∷ []) (number w32 t.tag ∷ []) form (c.behind_u32.ensures t.tag) in
     rw c.in-Profile.is (ends_then c.args.place c.behind_u32.result c.behind_octets-in-Profile.result (number w16 1 ∷ number w32 t.tag ∷ []) (octets_fields t.bytes)
-      tag (c.behind_octets-in-Profile.ensures t.bytes len))
+    tag (c.behind_octets-in-Profile.ensures t.bytes len))
 
 pub returns-in-Addressing : goal.returns-in-Addressing
 returns-in-Addressing c =

@@ -17,7 +17,7 @@ pub returns-in-Locate : goal.returns-in-Locate
 returns-in-Locate c order =
     let l = c.in-Locate.locate in
     rw c.in-Locate.is (locate_len order l c.behind_target.result
-      (ends_same 16 c.behind_target.result _ (target_fields l.target) (ap (λ (y : Spec.Locate). target_fields y.target) c.locate.view_is) c.behind_target.ensures))
+    (ends_same 16 c.behind_target.result _ (target_fields l.target) (ap (λ (y : Spec.Locate). target_fields y.target) c.locate.view_is) c.behind_target.ensures))
 
 pub returns-in-Located : goal.returns-in-Located
 returns-in-Located c order = rw c.in-Located.is (located_len order _)
