@@ -4,3 +4,6 @@ pub mod PlainLaws
 pub mod ReadingLaws
 pub mod WritingLaws
 pub mod OneReading
+pub mod Pieces
+pub mod LengthLaws
+pub mod PutLaws

@@ -20,16 +20,24 @@ order_flag Little = 1
 abbrev pub header : Order → ℕ → ℕ → ℕ → List ℕ
 header order flags kind size = magic ++ 1 ∷ 2 ∷ flags ∷ kind ∷ [] ++ number_bytes order w32 size
 
+-- the same as fields at place 0
+abbrev pub header_fields : Order → ℕ → ℕ → List Field
+header_fields order kind size = run 1 (magic ++ 1 ∷ 2 ∷ order_flag order ∷ kind ∷ []) ∷ number w32 size ∷ []
+
 -- tagged data: its tag and its bytes
 abbrev pub tagged_fields : Tagged → List Field
 tagged_fields t = number w32 t.tag ∷ octets_fields t.bytes
+
+-- profiles behind their number
+abbrev pub profiles_fields : List Tagged → List Field
+profiles_fields profiles = number w32 (length profiles) ∷ flat_map tagged_fields profiles
 
 -- a key is form 0, a profile form 1, and a reference form 2
 abbrev pub target_fields : Target → List Field
 target_fields (key bytes) = number w16 0 ∷ octets_fields bytes
 target_fields (profile t) = number w16 1 ∷ tagged_fields t
 target_fields (addressing index type_id profiles) =
-    number w16 2 ∷ number w32 index ∷ string_fields type_id ++ number w32 (length profiles) ∷ flat_map tagged_fields profiles
+    number w16 2 ∷ number w32 index ∷ string_fields type_id ++ profiles_fields profiles
 
 -- a service context: its id and its bytes
 abbrev pub context_fields : Context → List Field

@@ -1,6 +1,11 @@
 pub mod Message
+pub mod Flags
+pub mod TargetView
+pub mod Views
 pub mod Layout
 pub mod Spelling
+pub mod Lengths
+pub mod Front
 pub mod Reading
 pub mod Exceptions
 pub mod Plain

@@ -108,6 +108,16 @@ pub record FitsReply (reply : Reply) : Type 0 where
   pub status : reply.status ≤ 5
   pub contexts : FitContexts reply.contexts
 
+-- no reply but with one of the six statuses
+abbrev pub HasStatus : Message → Type 0
+HasStatus (request _) = Unit {0}
+HasStatus (reply r) = r.status ≤ 5
+HasStatus (cancel _) = Unit {0}
+HasStatus (locate _) = Unit {0}
+HasStatus (located _) = Unit {0}
+HasStatus close = Unit {0}
+HasStatus error = Unit {0}
+
 -- a question that they can hold
 pub record FitsLocate (locate : Locate) : Type 0 where
   pub id : locate.id < 2 ^ 32

@@ -1,17 +1,38 @@
 //! Messages of GIOP 1.2, read and written (CORBA 3.0.3, section 15.4).
 #![tactic(auto)]
 
+mod context;
 mod cursor;
 mod exceptions;
+mod flags;
 mod laws;
+mod length;
+mod locate;
+mod located;
+mod message;
+mod part;
 mod reply;
 mod request;
+mod tagged;
+mod target;
+mod write;
 mod writer;
 
+pub use context::Context;
 pub use exceptions::system_exception_body;
+pub use flags::due_of;
 pub use laws::{plain_request_is_read, reads_one_way, spelled_is_read};
-pub use reply::plain_reply;
-pub use request::{PlainRequest, plain_request};
+pub use length::message_len;
+pub use locate::Locate;
+pub use located::Located;
+pub use message::Message;
+pub use reply::{Reply, plain_reply};
+pub use request::{PlainRequest, Request, plain_request};
+pub use tagged::Tagged;
+pub use target::Target;
+pub use write::write_message;
 
+#[cfg(test)]
+mod message_tests;
 #[cfg(test)]
 mod tests;

@@ -1,14 +1,37 @@
-//! Plain replies: CORBA 3.0.3, section 15.4.3.
+//! Replies, and the writing of plain ones: CORBA 3.0.3, section 15.4.3.
 ghost use Rattle.std.specs.Prelude.{◌≡◌, ◌≤◌, length, IfOk};
 ghost use Rattle.orb_base.specs.declared.order.Order.TheVariants.{Big};
 ghost use Rattle.giop_messages.specs.Message.{reply};
 ghost use Rattle.giop_messages.specs.Spelling.{spelled};
 ghost use Rattle.giop_messages.specs.Plain.{bare};
 
+use crate::context::Context;
 use crate::writer::put_u32;
 use orb_base::limits::MAX_BODY;
 use orb_base::{List, NoMemory, Octets};
 use std::alloc::Global;
+use std::marker::Model;
+
+/// A reply: CORBA 3.0.3, section 15.4.3.
+#[derive(Debug, Drop)]
+pub struct Reply {
+    /// The number of the request.
+    pub id: u32,
+    /// The status, 0 to 5 in a message that is written or was read.
+    pub status: u32,
+    /// The service contexts.
+    pub contexts: List<Context>,
+    /// The result or the exception, which begins at a multiple of 8 of the message.
+    pub body: Octets,
+}
+
+impl Model for Reply {
+    ghost use Rattle.giop_messages.specs.Message as Spec;
+
+    ghost Value = { Spec.Reply };
+
+    ghost view = { λ r. record { id = r.id; status = r.status; contexts = r.contexts.items; body = r.body.items } };
+}
 
 /// 'GIOP', version 1.2, the flags of a whole big-endian message, and the kind of a reply.
 const HEAD: [u8; 8] = *b"GIOP\x01\x02\0\x01";

@@ -1,4 +1,4 @@
-//! Plain requests: CORBA 3.0.3, section 15.4.2.
+//! Requests, and the reading of plain ones: CORBA 3.0.3, section 15.4.2.
 ghost use Rattle.std.specs.Prelude.{◌≡◌, ℕ, ◌<◌, ◌^◌, List, length, Some, IfSome};
 ghost use Rattle.std.specs.Option.{option_map};
 ghost use Rattle.orb_base.specs.declared.order.Order.TheVariants.{Big};
@@ -7,7 +7,44 @@ ghost use Rattle.giop_messages.specs.Spelling.{spelled};
 ghost use Rattle.giop_messages.specs.Plain.{plain};
 ghost use Rattle.giop_messages.specs.PlainReading.{inner_at, id_at, key_at, named_at, plain_at};
 
+use crate::context::Context;
 use crate::cursor::{take_exactly, take_octets, take_u32};
+use crate::target::Target;
+use orb_base::{Octets, Text};
+use std::marker::Model;
+
+/// A request: CORBA 3.0.3, section 15.4.2.
+#[derive(Debug, Drop)]
+pub struct Request {
+    /// The number that its reply carries.
+    pub id: u32,
+    /// The response flags.
+    pub flags: u8,
+    /// The object.
+    pub target: Target,
+    /// The operation's name.
+    pub operation: Text,
+    /// The service contexts.
+    pub contexts: orb_base::List<Context>,
+    /// The arguments, which begin at a multiple of 8 of the message.
+    pub body: Octets,
+}
+
+impl Model for Request {
+    ghost use Rattle.giop_messages.specs.Message as Spec;
+    ghost use Rattle.giop_messages.specs.TargetView.{target_of};
+
+    ghost Value = { Spec.Request };
+
+    ghost view = { λ r. record {
+      id = r.id;
+      flags = r.flags;
+      target = target_of r.target;
+      operation = r.operation;
+      contexts = r.contexts.items;
+      body = r.body.items;
+    } };
+}
 
 /// What a plain request asks.
 #[derive(Clone, Copy, Debug, PartialEq, Eq, Hash)]

@@ -1,0 +1,159 @@
+-- Parts put one behind the other, and the room that they want.
+use Rattle.std.proofs.Common.{◌≡◌, ℕ, ◌+◌, ◌^◌, ◌<◌, ◌≤◌, List, [], ◌∷◌, ◌++◌, length, take, drop, get_or, Result, Ok, Err, OnOk, OnErr, refl, sym, ap, subst, ◌∙◌, ◌-◌, arith, length-append}
+use Rattle.std.specs.List.{flat_map}
+use Rattle.std.proofs.lemmas.List.{append-nil}
+use Rattle.orb_base.specs.declared.no_memory.NoMemory.{NoMemory}
+use Rattle.std.specs.Int.{w32}
+use Rattle.orb_base.specs.declared.order.Order.{Order}
+use Rattle.cdr_core.specs.Field.{Field, field_end, fields_end, string_fields, number_bytes}
+use Rattle.cdr_core.specs.Spelling.{fields_bytes}
+use Rattle.cdr_core.specs.Writing.{Page, page, written, HasFront, Puts}
+use Rattle.cdr_core.proofs.CallerLemmas.{fields_end-append, written-then, puts_then, puts_first, length-number_bytes}
+use Rattle.giop_messages.specs.Message.{Message, Context, Tagged, kind_of}
+use Rattle.giop_messages.specs.Layout.{header_fields, tagged_fields, context_fields, body_fields}
+use Rattle.giop_messages.specs.Spelling.{all_fields, spelled}
+use Rattle.giop_messages.specs.Lengths.{held}
+use Rattle.giop_messages.specs.Front.{IsFront}
+use Rattle.giop_messages.proofs.Pieces.{one_more, around, all_of}
+use Rattle.giop_messages.proofs.LengthLaws.{length-spelled_message}
+
+pub written_none : (p : Page) → p ≡ written p []
+unfolding written
+written_none p = ap (λ (x : List ℕ). page p.order p.place x) (sym (append-nil p.bytes))
+
+pub written_both : (old mid new : Page) (a b : List Field) → mid ≡ written old a → new ≡ written mid b → new ≡ written old (a ++ b)
+written_both old mid new a b e f = f ∙ ap (λ (p : Page). written p b) e ∙ written-then old a b
+
+pub front_then : (e : NoMemory) (old mid new : Page) (a b rest : List Field) → mid ≡ written old a → HasFront mid new b → HasFront old new (a ++ b ++ rest)
+front_then e old mid new a b rest m h = puts_first old new (a ++ b) rest (puts_then (Err e) old mid new a b m h)
+
+place_of : (old mid : Page) (a : List Field) → mid ≡ written old a → mid.place ≡ fields_end old.place a
+unfolding written
+place_of old mid a e = ap (λ (p : Page). p.place) e
+
+end_rises : (place : ℕ) (a : List Field) → place ≤ fields_end place a
+end_rises place [] = omega arith
+end_rises place (f ∷ a) = omega (arith, end_rises (field_end place f) a)
+
+-- room for the whole is room for its front, and for what is behind it
+pub room_first : (place : ℕ) (a b : List Field) → fields_end place (a ++ b) < 2 ^ 32 → fields_end place a < 2 ^ 32
+room_first place a b h =
+    let rises : fields_end place a ≤ fields_end (fields_end place a) b = end_rises (fields_end place a) b in
+    let both : fields_end place (a ++ b) ≡ fields_end (fields_end place a) b = fields_end-append place a b in
+    omega arith
+
+pub room_then : (old mid : Page) (a b : List Field) → mid ≡ written old a → fields_end old.place (a ++ b) < 2 ^ 32 → fields_end mid.place b < 2 ^ 32
+room_then old mid a b e h =
+    let whole : fields_end mid.place b ≡ fields_end old.place (a ++ b) =
+    ap (λ (p : ℕ). fields_end p b) (place_of old mid a e) ∙ sym (fields_end-append old.place a b) in
+    subst (λ (n : ℕ). n < 2 ^ 32) (sym whole) h
+
+pub puts_nil : (r : Result (Unit {0}) NoMemory) (old new : Page) (a : List Field) → Puts r old new a → Puts r old new (a ++ [])
+puts_nil r old new a puts = let P : List Field → Type 0 = λ fs. Puts r old new fs in subst P (sym (append-nil a)) puts
+
+-- ---- lists, item by item
+
+pub list_next : {X : Type 0} (f : X → List Field) (old mid new : Page) (xs : List X) (i : ℕ) (x : X) → i < length xs → x ≡ get_or xs i x
+    → mid ≡ written old (flat_map f (take i xs)) → new ≡ written mid (f x) → new ≡ written old (flat_map f (take (i + 1) xs))
+list_next f old mid new xs i x h is m n =
+    written_both old mid new (flat_map f (take i xs)) (f x) m n ∙ ap (λ (fs : List Field). written old fs) (sym (one_more f xs i x h is))
+
+pub list_front : {X : Type 0} (f : X → List Field) (e : NoMemory) (old mid new : Page) (xs : List X) (i : ℕ) (x : X) → i < length xs → x ≡ get_or xs i x
+    → mid ≡ written old (flat_map f (take i xs)) → HasFront mid new (f x) → HasFront old new (flat_map f xs)
+list_front f e old mid new xs i x h is m n =
+    let P : List Field → Type 0 = λ fs. HasFront old new fs in
+    subst P (sym (around f xs i x h is)) (front_then e old mid new (flat_map f (take i xs)) (f x) (flat_map f (drop (i + 1) xs)) m n)
+
+pub list_room : {X : Type 0} (f : X → List Field) (old mid : Page) (xs : List X) (i : ℕ) (x : X) → i < length xs → x ≡ get_or xs i x
+    → mid ≡ written old (flat_map f (take i xs)) → fields_end old.place (flat_map f xs) < 2 ^ 32 → fields_end mid.place (f x) < 2 ^ 32
+list_room f old mid xs i x h is m room =
+    let first = flat_map f (take i xs) in
+    let rest = flat_map f (drop (i + 1) xs) in
+    let P : List Field → Type 0 = λ fs. fields_end old.place fs < 2 ^ 32 in
+    room_then old mid first (f x) m (room_first old.place (first ++ f x) rest (subst P (around f xs i x h is) room))
+
+pub list_done : {X : Type 0} (f : X → List Field) (old new : Page) (xs : List X) (i : ℕ) → length xs ≤ i → i ≤ length xs
+    → new ≡ written old (flat_map f (take i xs)) → new ≡ written old (flat_map f xs)
+list_done f old new xs i low high e = e ∙ ap (λ (fs : List Field). written old fs) (all_of f xs i low high)
+
+-- each item takes a place at least, so that few stand in little room
+pub few_tagged : (place : ℕ) (xs : List Tagged) → length xs + place ≤ fields_end place (flat_map tagged_fields xs)
+few_tagged place [] = omega arith
+few_tagged place (x ∷ xs) =
+    let next = fields_end place (tagged_fields x) in
+    omega (arith, few_tagged next xs, fields_end-append place (tagged_fields x) (flat_map tagged_fields xs))
+
+pub few_contexts : (place : ℕ) (xs : List Context) → length xs + place ≤ fields_end place (flat_map context_fields xs)
+few_contexts place [] = omega arith
+few_contexts place (x ∷ xs) =
+    let next = fields_end place (context_fields x) in
+    omega (arith, few_contexts next xs, fields_end-append place (context_fields x) (flat_map context_fields xs))
+
+pub room_between : (old mid : Page) (a b rest : List Field) → mid ≡ written old a → fields_end old.place (a ++ b ++ rest) < 2 ^ 32 → fields_end mid.place b < 2 ^ 32
+room_between old mid a b rest e h = room_then old mid a b e (room_first old.place (a ++ b) rest h)
+
+-- a text that is spelled in little room is short
+pub text_fits : (place : ℕ) (a : List Field) (text : List ℕ) (rest : List Field) → fields_end place (a ++ string_fields text ++ rest) < 2 ^ 32 → length text + 1 < 2 ^ 32
+text_fits place a text rest h =
+    let here = fields_end place a in
+    let room = room_first place (a ++ string_fields text) rest h in
+    omega (arith, room, fields_end-append place a (string_fields text), length-append text (0 ∷ []))
+
+-- an empty body has no fields
+pub no_body : (p : Page) (body : List ℕ) → length body ≡ 0 → p ≡ written p (body_fields body)
+no_body p [] e = written_none p
+no_body p (b ∷ body) e = absurd (omega arith)
+
+-- ---- whole messages
+
+pub length_known : (order : Order) (message : Message) (n : ℕ) → n ≡ held (length (spelled order message)) → length (spelled order message) ≤ 262144
+    → n - 12 ≡ length (fields_bytes order 12 (all_fields message))
+length_known order message n e short =
+    let inner : List ℕ = fields_bytes order 12 (all_fields message) in
+    let size : List ℕ = number_bytes order w32 (length inner) in
+    omega (arith, length-append size inner, length-number_bytes order w32 (length inner))
+
+pub length_least : (order : Order) (message : Message) (n : ℕ) → n ≡ held (length (spelled order message)) → 12 ≤ n
+length_least order message n e = omega (arith, length-spelled_message order message, end_rises 12 (all_fields message))
+
+spelled_is : (order : Order) (message : Message) (size : ℕ) → size ≡ length (fields_bytes order 12 (all_fields message))
+    → fields_bytes order 0 (header_fields order (kind_of message) size ++ all_fields message) ≡ spelled order message
+spelled_is order message size e = ap (λ (n : ℕ). fields_bytes order 0 (header_fields order (kind_of message) n ++ all_fields message)) e
+
+empty_end : (order : Order) (old mid : Page) (kind size : ℕ) → old ≡ page order 0 [] → mid ≡ written old (header_fields order kind size) → mid.place ≡ 12
+empty_end order old mid kind size e m = place_of old mid (header_fields order kind size) m ∙ ap (λ (p : Page). fields_end p.place (header_fields order kind size)) e
+
+pub message_room : (order : Order) (message : Message) (old mid : Page) (kind size : ℕ) → old ≡ page order 0 [] → mid ≡ written old (header_fields order kind size)
+    → length (spelled order message) ≤ 262144 → fields_end mid.place (all_fields message) < 2 ^ 32
+message_room order message old mid kind size e m short =
+    let same : fields_end mid.place (all_fields message) ≡ length (spelled order message) =
+    ap (λ (n : ℕ). fields_end n (all_fields message)) (empty_end order old mid kind size e m) ∙ sym (length-spelled_message order message) in
+    omega arith
+
+-- fields put on an empty page are its bytes, or a front of them
+fields_on_empty : (r : Result (Unit {0}) NoMemory) (order : Order) (old new : Page) (fields : List Field) (whole : List ℕ) → old ≡ page order 0 []
+    → fields_bytes order 0 fields ≡ whole → Puts r old new fields → OnOk r (new.bytes ≡ whole) × OnErr r (IsFront new.bytes whole)
+unfolding written
+fields_on_empty (Ok x) order old new fields whole e is puts =
+    (ap (λ (p : Page). p.bytes) puts ∙ ap (λ (p : Page). p.bytes ++ fields_bytes p.order p.place fields) e ∙ is, tt)
+fields_on_empty (Err x) order old new fields whole e is puts =
+    let front : new.bytes ≡ puts.front = ap (λ (p : Page). p.bytes) puts.page ∙ ap (λ (p : Page). p.bytes ++ puts.front) e in
+    let parts : whole ≡ puts.front ++ puts.missing = sym is ∙ ap (λ (p : Page). fields_bytes p.order p.place fields) (sym e) ∙ puts.parts in
+    (tt, record { missing = puts.missing; parts = parts ∙ ap (λ (b : List ℕ). b ++ puts.missing) (sym front) })
+
+pub message_put : (r : Result (Unit {0}) NoMemory) (order : Order) (message : Message) (size : ℕ) (old mid new : Page) → old ≡ page order 0 []
+    → size ≡ length (fields_bytes order 12 (all_fields message))
+    → mid ≡ written old (header_fields order (kind_of message) size) → Puts r mid new (all_fields message)
+    → OnOk r (new.bytes ≡ spelled order message) × OnErr r (IsFront new.bytes (spelled order message))
+message_put r order message size old mid new e len m puts =
+    let head = header_fields order (kind_of message) size in
+    fields_on_empty r order old new (head ++ all_fields message) (spelled order message) e (spelled_is order message size len)
+    (puts_then r old mid new head (all_fields message) m puts)
+
+pub header_front : (x : NoMemory) (order : Order) (message : Message) (size : ℕ) (old new : Page) → old ≡ page order 0 []
+    → size ≡ length (fields_bytes order 12 (all_fields message))
+    → HasFront old new (header_fields order (kind_of message) size) → IsFront new.bytes (spelled order message)
+header_front x order message size old new e len h =
+    let head = header_fields order (kind_of message) size in
+    (fields_on_empty (Err x) order old new (head ++ all_fields message) (spelled order message) e (spelled_is order message size len)
+    (puts_first old new head (all_fields message) h)).1

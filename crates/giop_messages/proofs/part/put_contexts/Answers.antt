@@ -1,0 +1,35 @@
+use Rattle.std.proofs.Common.{◌≡◌, ◌+◌, ◌-◌, ◌∷◌, ◌++◌, [], length, take, Err, sym, ap, ◌∙◌, arith, inl, inr}
+use Rattle.std.proofs.lemmas.Grind.{common_steps}
+use Rattle.std.proofs.lemmas.List.{append-nil}
+use Rattle.std.proofs.lemmas.Result.{err_from_is_err_and}
+use Rattle.std.specs.Int.{w8, w16, w32}
+use Rattle.std.specs.List.{flat_map}
+use Rattle.cdr_core.specs.Field.{Field, field_end, number, run, string_fields, octets_fields}
+use Rattle.cdr_core.proofs.CallerLemmas.{puts_then, puts_first}
+use Rattle.giop_messages.specs.Message as Spec
+use Rattle.giop_messages.specs.Layout.{magic, order_flag, tagged_fields, target_fields, context_fields, contexts_fields, profiles_fields, body_fields}
+use Rattle.giop_messages.specs.TargetView.{target_of}
+use Rattle.giop_messages.specs.Views.{message_of}
+use Rattle.giop_messages.proofs.PutLaws.{written_none, written_both, front_then, room_first, room_then, room_between, list_next, list_front, list_room, list_done, few_tagged, few_contexts, text_fits, no_body, length_known, length_least, message_room, message_put, header_front}
+use Rattle.giop_messages.proofs.part.put_contexts.Goals as goal
+
+pub overflow_cast-contexts : goal.overflow_cast-contexts
+overflow_cast-contexts c =
+    let xs = c.args.contexts.now in
+    omega (arith, c.requires, few_contexts (field_end c.args.into.now.place (number w32 (length xs))) xs)
+
+pub returns-in_err-put_u32 : goal.returns-in_err-put_u32
+returns-in_err-put_u32 c =
+    let p = err_from_is_err_and c.from_residual.result c.from_residual.ensures.1 in
+    rw p.1 (puts_first c.args.into.now c.put_u32.new.self (number w32 (length c.args.contexts.now) ∷ []) (flat_map context_fields c.args.contexts.now)
+    c.in_err-put_u32.ensures)
+
+pub put_context_list-requires : goal.put_context_list-requires
+put_context_list-requires c =
+    room_then c.args.into.now c.put_u32.new.self (number w32 (length c.args.contexts.now) ∷ []) (flat_map context_fields c.args.contexts.now)
+    c.in_ok-put_u32.ensures c.requires
+
+pub returns : goal.returns
+returns c =
+    puts_then c.put_context_list.result c.args.into.now c.put_u32.new.self c.put_context_list.new.into (number w32 (length c.args.contexts.now) ∷ []) (flat_map context_fields c.args.contexts.now)
+    c.in_ok-put_u32.ensures c.put_context_list.ensures

@@ -1,0 +1,11 @@
+-- Where the fields of a message end, in numbers that stand still at 2^64 - 1.
+use Rattle.std.specs.Prelude.{◌≡◌, ℕ, ◌-◌, ◌^◌, List, min}
+use Rattle.cdr_core.specs.Field.{Field, fields_end}
+
+-- the place, or the greatest number of 64 bits
+abbrev pub held : ℕ → ℕ
+held place = min place (2 ^ 64 - 1)
+
+-- from the held place before the fields to the held place behind them
+abbrev pub Ends : ℕ → List Field → ℕ → Type 0
+Ends from fields to = (place : ℕ) → from ≡ held place → to ≡ held (fields_end place fields)

@@ -1,0 +1,209 @@
+//! Messages as they are written, against octets that were spelled out by hand from CORBA 3.0.3, section 15.4.
+ghost use Rattle.std.specs.Prelude.{IfOk};
+ghost use Rattle.giop_messages.specs.Message as Spec;
+ghost use Rattle.giop_messages.specs.Views.{message_of};
+
+use super::*;
+use cdr_core::Writer;
+use orb_base::limits::MAX_MESSAGE;
+use orb_base::{Due, List, Octets, Order, Text};
+use std::alloc::Global;
+use std::test::*;
+
+/// A request for `current` of the object `ping`.
+const PING: &[u8] =
+    b"GIOP\x01\x02\0\0\0\0\0$\0\0\0\x01\x03\0\0\0\0\0\0\0\0\0\0\x04ping\0\0\0\x08current\0\0\0\0\0";
+
+/// The same in the little order, with a service context.
+const LITTLE_PING: &[u8] =
+    b"GIOP\x01\x02\x01\00\0\0\0\x01\0\0\0\x03\0\0\0\0\0\0\0\x04\0\0\0ping\x08\0\0\0current\0\x01\0\0\0\x0a\0\0\0\x04\0\0\0\x01\0\x07\0";
+
+/// A request that binds a band: its context carries the low and the high end.
+const BIND: &[u8] =
+    b"GIOP\x01\x02\0\0\0\0\0>\0\0\0\x01\x03\0\0\0\0\0\0\0\0\0\0\x04ping\0\0\0\x14_bind_priority_band\0\0\0\0\x01\0\0\0\x0b\0\0\0\x06\0\0\0d\0\xc8";
+
+/// A request with a body behind a pad.
+const TWICE: &[u8] =
+    b"GIOP\x01\x02\0\0\0\0\0(\0\0\0\x01\x03\0\0\0\0\0\0\0\0\0\0\x01v\0\0\0\0\0\0\x06twice\0\0\0\0\0\0\0\0\0\0\x15";
+
+/// A reply with a body of a short.
+const SHORT_REPLY: &[u8] = b"GIOP\x01\x02\0\x01\0\0\0\x0e\0\0\0\x01\0\0\0\0\0\0\0\0\0d";
+
+/// The same in the little order.
+const LITTLE_REPLY: &[u8] = b"GIOP\x01\x02\x01\x01\x0e\0\0\0\x01\0\0\0\0\0\0\0\0\0\0\0\x07\0";
+
+/// A LocateRequest by key.
+const BY_KEY: &[u8] = b"GIOP\x01\x02\0\x03\0\0\0\x10\0\0\0\x05\0\0\0\0\0\0\0\x04ping";
+
+/// A LocateRequest by a profile of the tag 7.
+const BY_PROFILE: &[u8] =
+    b"GIOP\x01\x02\0\x03\0\0\0\x13\0\0\0\x05\0\x01\0\0\0\0\0\x07\0\0\0\x03abc";
+
+/// A LocateRequest by the second profile of a reference of the type `T`.
+const BY_REFERENCE: &[u8] =
+    b"GIOP\x01\x02\0\x03\0\0\0,\0\0\0\x05\0\x02\0\0\0\0\0\x01\0\0\0\x02T\0\0\0\0\0\0\x02\0\0\0\0\0\0\0\x01a\0\0\0\0\0\0\x01\0\0\0\0";
+
+/// A LocateReply.
+const HERE: &[u8] = b"GIOP\x01\x02\0\x04\0\0\0\x08\0\0\0\x05\0\0\0\x01";
+
+/// A CancelRequest.
+const CANCEL: &[u8] = b"GIOP\x01\x02\0\x02\0\0\0\x04\0\0\0\x05";
+
+/// A CloseConnection.
+const CLOSE: &[u8] = b"GIOP\x01\x02\0\x05\0\0\0\0";
+
+/// A MessageError.
+const ERROR: &[u8] = b"GIOP\x01\x02\0\x06\0\0\0\0";
+
+/// Whether the message has this length and is written so.
+fn spells(alloc: Global, order: Order, message: &Message, bytes: &[u8]) -> bool
+    requires { Spec.HasStatus (message_of message.now) }
+{
+    let len = message_len(message);
+    if len != bytes.len() || len > MAX_MESSAGE {
+        return false;
+    }
+    let mut writer = Writer::new(alloc, order, 0);
+    match write_message(order, message, &mut writer) {
+        Ok(()) => writer.finish().as_slice() == bytes,
+        Err(_) => false,
+    }
+}
+
+fn octets(alloc: Global, bytes: &[u8]) -> Result<Octets, Fail> {
+    let vec = Vec::from_slice(alloc, bytes).ok().ok_or("memory is left")?;
+    Ok(List::from_vec(vec))
+}
+
+fn text(alloc: Global, bytes: &[u8]) -> Result<Text, Fail> {
+    Ok(Text::new(alloc, bytes).ok().ok_or("a text without NUL")?)
+}
+
+fn contexts(alloc: Global, id: u32, bytes: &[u8]) -> Result<List<Context>, Fail> {
+    let mut list = List::new(alloc);
+    let bytes = octets(alloc, bytes)?;
+    list.push(Context { id, bytes })
+        .ok()
+        .ok_or("memory is left")?;
+    Ok(list)
+}
+
+/// A request with the number 1, of which a reply is due.
+fn request(
+    alloc: Global,
+    key: &[u8],
+    operation: &[u8],
+    contexts: List<Context>,
+    body: &[u8],
+) -> Result<Message, Fail>
+    ensures { IfOk result (λ m. Spec.HasStatus (message_of m)) }
+{
+    let target = Target::Key(octets(alloc, key)?);
+    let operation = text(alloc, operation)?;
+    let body = octets(alloc, body)?;
+    Ok(Message::Request(Request {
+        id: 1,
+        flags: 3,
+        target,
+        operation,
+        contexts,
+        body,
+    }))
+}
+
+/// A reply of the request 1.
+fn reply(alloc: Global, body: &[u8]) -> Result<Message, Fail>
+    ensures { IfOk result (λ m. Spec.HasStatus (message_of m)) }
+{
+    let body = octets(alloc, body)?;
+    Ok(Message::Reply(Reply {
+        id: 1,
+        status: 0,
+        contexts: List::new(alloc),
+        body,
+    }))
+}
+
+/// A question with the number 5.
+fn locate(target: Target) -> Message
+    ensures { Spec.HasStatus (message_of result) }
+{
+    Message::Locate(Locate { id: 5, target })
+}
+
+#[test]
+fn writes_requests(rt: HostRuntime) -> Result<(), Fail> {
+    let alloc = rt.alloc();
+    let ping = request(alloc, b"ping", b"current", List::new(alloc), b"")?;
+    assert!(rt; spells(alloc, Order::Big, &ping, PING));
+    let sent = contexts(alloc, 10, &[1, 0, 7, 0])?;
+    let little = request(alloc, b"ping", b"current", sent, b"")?;
+    assert!(rt; spells(alloc, Order::Little, &little, LITTLE_PING));
+    let ends = contexts(alloc, 11, &[0, 0, 0, 100, 0, 200])?;
+    let bind = request(alloc, b"ping", b"_bind_priority_band", ends, b"")?;
+    assert!(rt; spells(alloc, Order::Big, &bind, BIND));
+    let twice = request(alloc, b"v", b"twice", List::new(alloc), &[0, 0, 0, 21])?;
+    assert!(rt; spells(alloc, Order::Big, &twice, TWICE));
+    Ok(())
+}
+
+#[test]
+fn writes_replies(rt: HostRuntime) -> Result<(), Fail> {
+    let alloc = rt.alloc();
+    assert!(rt; spells(alloc, Order::Big, &reply(alloc, &[0, 100])?, SHORT_REPLY));
+    assert!(rt; spells(alloc, Order::Little, &reply(alloc, &[7, 0])?, LITTLE_REPLY));
+    Ok(())
+}
+
+#[test]
+fn writes_each_form_of_target(rt: HostRuntime) -> Result<(), Fail> {
+    let alloc = rt.alloc();
+    let key = locate(Target::Key(octets(alloc, b"ping")?));
+    assert!(rt; spells(alloc, Order::Big, &key, BY_KEY));
+    let bytes = octets(alloc, b"abc")?;
+    let profile = locate(Target::Profile(Tagged { tag: 7, bytes }));
+    assert!(rt; spells(alloc, Order::Big, &profile, BY_PROFILE));
+    let mut profiles = List::new(alloc);
+    let bytes = octets(alloc, b"a")?;
+    profiles
+        .push(Tagged { tag: 0, bytes })
+        .ok()
+        .ok_or("memory is left")?;
+    let bytes = octets(alloc, b"")?;
+    profiles
+        .push(Tagged { tag: 1, bytes })
+        .ok()
+        .ok_or("memory is left")?;
+    let type_id = text(alloc, b"T")?;
+    let reference = locate(Target::Addressing {
+        index: 1,
+        type_id,
+        profiles,
+    });
+    assert!(rt; spells(alloc, Order::Big, &reference, BY_REFERENCE));
+    Ok(())
+}
+
+#[test]
+fn writes_the_other_kinds(rt: HostRuntime) {
+    let alloc = rt.alloc();
+    let here = Message::Located(Located { id: 5, status: 1 });
+    assert!(rt; spells(alloc, Order::Big, &here, HERE));
+    assert!(rt; spells(alloc, Order::Big, &Message::Cancel(5), CANCEL));
+    assert!(rt; spells(alloc, Order::Big, &Message::Close, CLOSE));
+    assert!(rt; spells(alloc, Order::Big, &Message::Error, ERROR));
+}
+
+#[test]
+fn reads_response_flags(rt: HostRuntime) {
+    for (flags, due) in [
+        (0, Due::Nothing),
+        (1, Due::Early),
+        (2, Due::Nothing),
+        (3, Due::Late),
+        (5, Due::Late),
+        (255, Due::Late),
+    ] {
+        assert_eq!(rt; due_of(flags), due);
+    }
+}

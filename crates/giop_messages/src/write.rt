@@ -1,0 +1,135 @@
+//! Whole messages, written.
+ghost use Rattle.std.specs.Prelude.{◌≡◌, ◌≤◌, ◌<◌, ◌+◌, ◌^◌, ℕ, [], ◌∷◌, ◌++◌, length, OnOk, OnErr};
+ghost use Rattle.std.specs.Int.{w8, w32};
+ghost use Rattle.cdr_core.specs.Field.{number, run, fields_end};
+ghost use Rattle.cdr_core.specs.Writing.{Puts};
+ghost use Rattle.giop_messages.specs.Message as Spec;
+ghost use Rattle.giop_messages.specs.Layout.{order_flag, header_fields};
+ghost use Rattle.giop_messages.specs.Spelling.{all_fields, spelled};
+ghost use Rattle.giop_messages.specs.Views.{message_of};
+ghost use Rattle.giop_messages.specs.Front.{IsFront};
+
+use crate::length::message_len;
+use crate::locate::Locate;
+use crate::located::Located;
+use crate::message::Message;
+use crate::part::{put_body, put_contexts, put_target};
+use crate::reply::Reply;
+use crate::request::Request;
+use cdr_core::Writer;
+use orb_base::limits::MAX_MESSAGE;
+use orb_base::{NoMemory, Order};
+
+/// Bit 0 of the flags.
+fn flag(order: Order) -> u8
+    ensures { result ≡ order_flag order }
+{
+    match order {
+        Order::Big => 0,
+        Order::Little => 1,
+    }
+}
+
+/// The number of a message's kind.
+fn kind(message: &Message) -> u8
+    ensures { result ≡ Spec.kind_of (message_of message.now) }
+{
+    match message {
+        Message::Request(_) => 0,
+        Message::Reply(_) => 1,
+        Message::Cancel(_) => 2,
+        Message::Locate(_) => 3,
+        Message::Located(_) => 4,
+        Message::Close => 5,
+        Message::Error => 6,
+    }
+}
+
+/// Puts the header.
+fn put_header(into: &mut Writer, order: Order, kind: u8, size: u32) -> Result<(), NoMemory>
+    ensures { Puts result into.old into.new (header_fields order kind size) }
+{
+    let head = [b'G', b'I', b'O', b'P', 1, 2, flag(order), kind];
+    into.put_run(1, &head)?;
+    into.put_u32(size)
+}
+
+/// Puts the id and the flags of a request, and the reserved octets.
+fn put_request_head(into: &mut Writer, id: u32, flags: u8) -> Result<(), NoMemory>
+    ensures { Puts result into.old into.new
+        (number w32 id ∷ number w8 flags ∷ run 1 (0 ∷ 0 ∷ 0 ∷ []) ∷ []) }
+{
+    into.put_u32(id)?;
+    into.put_u8(flags)?;
+    into.put_run(1, &[0, 0, 0])
+}
+
+/// Puts a request behind its header.
+fn put_request(into: &mut Writer, request: &Request) -> Result<(), NoMemory>
+    requires { fields_end into.old.place (all_fields (Spec.request request.now)) < 2 ^ 32 }
+    ensures { Puts result into.old into.new (all_fields (Spec.request request.now)) }
+{
+    put_request_head(into, request.id, request.flags)?;
+    put_target(into, &request.target)?;
+    into.put_string(&request.operation)?;
+    put_contexts(into, request.contexts.as_slice())?;
+    put_body(into, request.body.as_slice())
+}
+
+/// Puts a reply behind its header.
+fn put_reply(into: &mut Writer, reply: &Reply) -> Result<(), NoMemory>
+    requires { fields_end into.old.place (all_fields (Spec.reply reply.now)) < 2 ^ 32 }
+    ensures { Puts result into.old into.new (all_fields (Spec.reply reply.now)) }
+{
+    into.put_u32(reply.id)?;
+    into.put_u32(reply.status)?;
+    put_contexts(into, reply.contexts.as_slice())?;
+    put_body(into, reply.body.as_slice())
+}
+
+/// Puts a question behind its header.
+fn put_locate(into: &mut Writer, locate: &Locate) -> Result<(), NoMemory>
+    requires { fields_end into.old.place (all_fields (Spec.locate locate.now)) < 2 ^ 32 }
+    ensures { Puts result into.old into.new (all_fields (Spec.locate locate.now)) }
+{
+    into.put_u32(locate.id)?;
+    put_target(into, &locate.target)
+}
+
+/// Puts an answer behind its header.
+fn put_located(into: &mut Writer, located: Located) -> Result<(), NoMemory>
+    ensures { Puts result into.old into.new (number w32 located.id ∷ number w32 located.status ∷ []) }
+{
+    into.put_u32(located.id)?;
+    into.put_u32(located.status)
+}
+
+/// Puts a message behind its header.
+fn put_fields(into: &mut Writer, message: &Message) -> Result<(), NoMemory>
+    requires { fields_end into.old.place (all_fields (message_of message.now)) < 2 ^ 32 }
+    ensures { Puts result into.old into.new (all_fields (message_of message.now)) }
+{
+    match message {
+        Message::Request(request) => put_request(into, request),
+        Message::Reply(reply) => put_reply(into, reply),
+        Message::Cancel(id) => into.put_u32(*id),
+        Message::Locate(locate) => put_locate(into, locate),
+        Message::Located(located) => put_located(into, *located),
+        Message::Close | Message::Error => Ok(()),
+    }
+}
+
+/// Writes a message as it is spelled, in this order, into an empty writer at place 0. Pads, the reserved
+/// octets and all flag bits but that of the order are 0. After want of memory the writer holds a front
+/// of it. Work grows with the message's length. CORBA 3.0.3, section 15.4.
+pub fn write_message(order: Order, message: &Message, into: &mut Writer) -> Result<(), NoMemory>
+    requires empty { into.old ≡ record { order = order; place = 0; bytes = [] } }
+    requires len { length (spelled order (message_of message.now)) ≤ MAX_MESSAGE }
+    requires status { Spec.HasStatus (message_of message.now) }
+    ensures ok { OnOk result (into.new.bytes ≡ spelled order (message_of message.now)) }
+    ensures memory { OnErr result (IsFront into.new.bytes (spelled order (message_of message.now))) }
+{
+    let size = message_len(message) - 12;
+    put_header(into, order, kind(message), size as u32)?;
+    put_fields(into, message)
+}
