@@ -1,0 +1,5 @@
+pub mod Pieces
+pub mod Messages
+pub mod Stream
+pub mod Feeds
+pub mod Running

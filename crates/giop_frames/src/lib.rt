@@ -1,0 +1,9 @@
+//! GIOP framing: the messages of a stream of bytes that comes in any pieces (CORBA 3.0.3, section 15.4).
+#![tactic(auto)]
+
+mod fault;
+mod told;
+mod whole;
+
+pub use fault::{FeedFault, FrameCause, FrameFault};
+pub use whole::Whole;
