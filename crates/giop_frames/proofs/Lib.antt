@@ -1,1 +1,10 @@
 pub mod Walks
+pub mod Growing
+pub mod Places
+pub mod Ahead
+pub mod Effects
+pub mod Deeds
+pub mod Sealing
+pub mod Soundness
+pub mod Joins
+pub mod Following

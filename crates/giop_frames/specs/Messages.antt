@@ -16,11 +16,11 @@ opens bytes = has_more bytes && not (is_fragment bytes)
 
 -- a Fragment of this id
 unfoldable pub continues : ℕ → List ℕ → Bool
-continues id bytes = is_fragment bytes && (id_of bytes == id)
+continues id bytes = is_fragment bytes && (id == id_of bytes)
 
 -- a CancelRequest of this id
 unfoldable pub cancels : ℕ → List ℕ → Bool
-cancels id bytes = (kind_of bytes == 2) && (nat_le 16 (length bytes) && (id_of bytes == id))
+cancels id bytes = (kind_of bytes == 2) && (nat_le 16 (length bytes) && (id == id_of bytes))
 
 -- the last Fragment or a CancelRequest of this id
 unfoldable pub ends : ℕ → List ℕ → Bool

@@ -2,8 +2,15 @@
 #![tactic(auto)]
 
 mod fault;
+mod framer;
+mod header;
+mod joiner;
+mod partials;
+mod rules;
 mod told;
+mod unfinished;
 mod whole;
 
 pub use fault::{FeedFault, FrameCause, FrameFault};
+pub use framer::Framer;
 pub use whole::Whole;
