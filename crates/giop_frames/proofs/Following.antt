@@ -133,16 +133,17 @@ tells_err (Frame e) limit fed bytes whole whole' s s' f m =
       },
       d.on,
     )
-tells_err NoMemory limit fed bytes whole whole' s s' f m = (
-  refl,
-  (λ _. record {
-    new = m.told;
-    left = m.left [];
-    says_new = ap (λ (x : Said). x.messages) (fed_now limit fed bytes s f) ∙ ap (λ (x : List Message). (stream limit fed).messages ++ x) (m.front []);
-    gives = m.gives;
-  }),
-  λ h. absurd (cc),
-)
+tells_err NoMemory limit fed bytes whole whole' s s' f m =
+    (
+      refl,
+      (λ _. record {
+        new = m.told;
+        left = m.left;
+        says_new = λ more. ap (λ (x : Said). x.messages) (fed_more limit fed bytes more s f) ∙ ap (λ (x : List Message). (stream limit fed).messages ++ x) (m.front more);
+        gives = m.gives;
+      }),
+      λ h. absurd (cc),
+    )
 
 pub tells_kept : (fault : FeedFault) (limit : ℕ) (fed bytes : List ℕ) (whole : List Message) (s : State) → IsFramed limit fed s (Some fault)
     → Tells (Err fault) (feed_of limit fed (lacks (Some fault))) (feed_of limit (fed ++ bytes) (lacks (Some fault))) whole whole

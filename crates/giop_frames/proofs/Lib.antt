@@ -8,3 +8,4 @@ pub mod Sealing
 pub mod Soundness
 pub mod Joins
 pub mod Following
+pub mod Feedings

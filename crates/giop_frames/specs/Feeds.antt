@@ -1,5 +1,6 @@
 -- What a feed answers, by all that was fed so far.
-use Rattle.std.specs.Prelude.{ℕ, ◌≡◌, Bool, true, false, List, ◌++◌, Option, Some, None, Result, Ok, Err}
+use Rattle.std.specs.Prelude.{ℕ, ◌≡◌, Bool, true, false, List, ◌++◌, Option, Some, None, Result, Ok, Err, flat_map}
+use Rattle.orb_base.specs.Room.{Room}
 use Rattle.giop_frames.specs.declared.fault.FeedFault.{FeedFault}
 use Rattle.giop_frames.specs.declared.fault.FeedFault.TheVariants.{Frame, NoMemory}
 use Rattle.giop_frames.specs.Messages.{Message}
@@ -21,11 +22,11 @@ pub record Adds (f f' : Feed) (whole whole' : List Message) : Type 0 where
   pub says_new : (said f').messages ≡ (said f).messages ++ new
   pub gives : whole' ≡ whole ++ new
 
--- a front of these messages was appended
+-- a front of these messages was appended, whatever follows
 pub record AddsFront (f f' : Feed) (whole whole' : List Message) : Type 0 where
   pub new : List Message
-  pub left : List Message
-  pub says_new : (said f').messages ≡ (said f).messages ++ (new ++ left)
+  pub left : List ℕ → List Message
+  pub says_new : (more : List ℕ) → (stream f'.limit (f'.fed ++ more)).messages ≡ (said f).messages ++ (new ++ left more)
   pub gives : whole' ≡ whole ++ new
 
 -- whatever is fed from now on, the stream says the same
@@ -40,8 +41,27 @@ Tells (Err (Frame e)) f f' whole whole' =
 Tells (Err NoMemory) f f' whole whole' =
     (f'.lacked ≡ true) × (f.lacked ≡ false → AddsFront f f' whole whole') × (f.lacked ≡ true → whole' ≡ whole)
 
--- what was read of a whole list of feeds: the stream of all of them joined
+-- a front of these messages was appended
+pub record GivesFront (messages whole whole' : List Message) : Type 0 where
+  pub new : List Message
+  pub left : List Message
+  pub says_new : messages ≡ new ++ left
+  pub gives : whole' ≡ whole ++ new
+
+-- what was read of a whole list of feeds: the stream of all of them joined, however they cut it
 abbrev pub ReadsStream : Result (Option ℕ) FeedFault → Said → List Message → List Message → Type 0
 ReadsStream (Ok rest) s whole whole' = (whole' ≡ whole ++ s.messages) × (s.bad ≡ None) × (rest ≡ s.rest)
 ReadsStream (Err (Frame e)) s whole whole' = (whole' ≡ whole ++ s.messages) × (s.bad ≡ Some e)
-ReadsStream (Err NoMemory) s whole whole' = (front : List Message) × (left : List Message) × (s.messages ≡ front ++ left) × (whole' ≡ whole ++ front)
+ReadsStream (Err NoMemory) s whole whole' = GivesFront s.messages whole whole'
+
+-- pieces of a stream joined
+abbrev pub joined_feeds : List (Room ℕ) → List ℕ
+joined_feeds pieces = flat_map (λ p. p.items) pieces
+
+-- a framer behind the first feeds
+pub record FedSoFar (limit : ℕ) (fed : List ℕ) (whole : List Message) (f : Feed) (whole' : List Message) : Type 0 where
+  pub limit_is : f.limit ≡ limit
+  pub fed_is : f.fed ≡ fed
+  pub enough : f.lacked ≡ false
+  pub sound : (said f).bad ≡ None
+  pub gives : whole' ≡ whole ++ (said f).messages

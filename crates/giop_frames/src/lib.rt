@@ -7,10 +7,12 @@ mod header;
 mod joiner;
 mod partials;
 mod rules;
+mod stream;
 mod told;
 mod unfinished;
 mod whole;
 
 pub use fault::{FeedFault, FrameCause, FrameFault};
 pub use framer::Framer;
+pub use stream::read_stream;
 pub use whole::Whole;
