@@ -1,13 +1,11 @@
 -- What bytes say ahead: a whole piece at their front, less than a piece, or a header that breaks a rule.
-use Rattle.std.proofs.Common.{◌≡◌, ℕ, zero, suc, ◌+◌, ◌-◌, ◌*◌, ◌<◌, ◌≤◌, Bool, true, false, cond, not, ◌&&◌, ◌==◌, List, [], ◌∷◌, ◌++◌, length, take, drop, get_or, Option, Some, None, refl, ap, sym, ◌∙◌, arith, nat_le, nat_lt, length-append, length-drop, subst}
+use Rattle.std.proofs.Common.{◌≡◌, ℕ, zero, suc, ◌+◌, ◌-◌, ◌<◌, ◌≤◌, Bool, true, false, cond, List, [], ◌++◌, length, take, drop, get_or, Option, Some, None, refl, ap, sym, ◌∙◌, arith, nat_le, length-append, length-drop}
 use Rattle.std.specs.Int.{w32}
 use Rattle.std.proofs.lemmas.List.{take-append-le, drop-append-le, get_or_append_left, length-take-le, take-append-drop}
 use Rattle.std.proofs.Math.Seq.{take-append_seam, drop-append_seam}
 use Rattle.orb_base.specs.declared.order.Order.{Order}
-use Rattle.orb_base.specs.declared.order.Order.TheVariants.{Big, Little}
 use Rattle.cdr_core.specs.Reading.{number_of}
 use Rattle.giop_frames.specs.declared.fault.FrameCause.{FrameCause}
-use Rattle.giop_frames.specs.declared.fault.FrameCause.TheVariants.{BadMagic, BadVersion, BadType, TooLong}
 use Rattle.giop_frames.specs.Pieces.{Piece, Cut, order_of, kind_of, piece_len, is_whole, cut, with_piece}
 use Rattle.giop_frames.specs.Messages.{Partial}
 use Rattle.giop_frames.specs.Stream.{Said, has_magic, has_version, header_cause, piece_cause, or_else, cause_of, tail_cause, at_end, or_stopped, stopped}

@@ -1,15 +1,15 @@
 -- What the four kinds of whole pieces do, as the code does it.
-use Rattle.std.proofs.Common.{◌≡◌, ℕ, suc, ◌+◌, ◌-◌, ◌^◌, ◌≤◌, ◌<◌, Bool, true, false, cond, not, ◌&&◌, ◌==◌, List, [], ◌∷◌, ◌++◌, length, Option, Some, None, refl, ap, sym, ◌∙◌, subst, arith, nat_le, take, drop, length-append, length-drop, get_or}
+use Rattle.std.proofs.Common.{◌≡◌, ℕ, suc, ◌+◌, ◌-◌, ◌^◌, ◌≤◌, ◌<◌, Bool, true, false, cond, ◌&&◌, ◌==◌, List, [], ◌∷◌, ◌++◌, length, Option, Some, None, refl, ap, sym, ◌∙◌, subst, arith, nat_le, take, drop, length-append, length-drop, get_or}
 use Rattle.std.specs.Prelude.{slice_get, slice_set, remove, option_to_list, option_map, Result, Ok, Err, OnOk}
 use Rattle.std.proofs.lemmas.List.{append-nil}
-use Rattle.std.proofs.Math.Seq.{take-length, get_or-append_seam, take-append_seam, drop-append_seam, set-append_seam}
+use Rattle.std.proofs.Math.Seq.{take-length, get_or-append_seam, take-append_seam, set-append_seam}
 use Rattle.orb_base.specs.declared.order.Order.{Order}
 use Rattle.giop_frames.specs.Pieces.{Piece, order_of, has_more, kind_of, id_of}
-use Rattle.giop_frames.specs.Messages.{Partial, Message, is_fragment, opens, ends, added, open_at, completed, joined, lone}
+use Rattle.giop_frames.specs.Messages.{Partial, Message, is_fragment, opens, ends, open_at, completed, joined, lone}
 use Rattle.giop_frames.specs.Running.{stepped}
 use Rattle.giop_frames.specs.Steps.{Found, IsDistinct, IsSound, JoinFits, StepsBy, GrowsAt, Does}
-use Rattle.giop_frames.proofs.Places.{after_none, open_behind, same}
-use Rattle.giop_frames.proofs.Effects.{fragment_opens_none, last_opens_none, opens_is, fragment_continues, middle_ends, last_ends, cancel_ends, idle_ends, step_idle, step_opens, step_none, step_ends, step_grows}
+use Rattle.giop_frames.proofs.Places.{after_none, open_behind}
+use Rattle.giop_frames.proofs.Effects.{fragment_opens_none, last_opens_none, fragment_continues, middle_ends, last_ends, cancel_ends, idle_ends, step_idle, step_opens, step_none, step_ends, step_grows}
 
 pub found_as : (n m i : ℕ) (vs us : List Partial) → n ≡ m → vs ≡ us → Found n vs i → Found m us i
 found_as n m i vs us e p f = let P : ℕ → Type 0 = λ k. Found k us i in let Q : List Partial → Type 0 = λ ws. Found n ws i in subst P e (subst Q p f)

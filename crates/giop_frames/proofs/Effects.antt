@@ -1,11 +1,10 @@
 -- What a whole piece does to the unfinished messages, by its kind and its fragment bit.
-use Rattle.std.proofs.Common.{◌≡◌, ℕ, ◌+◌, ◌-◌, ◌≤◌, ◌<◌, Bool, true, false, cond, not, ◌&&◌, ◌||◌, ◌==◌, List, [], ◌∷◌, ◌++◌, length, Option, Some, None, refl, ap, sym, ◌∙◌, arith, map, filter, nat_le}
+use Rattle.std.proofs.Common.{◌≡◌, ℕ, ◌≤◌, Bool, true, false, cond, not, ◌&&◌, ◌||◌, ◌==◌, List, [], ◌∷◌, ◌++◌, length, None, refl, ap, sym, ◌∙◌, arith, map, filter, nat_le}
 use Rattle.std.proofs.lemmas.List.{append-nil, map-append}
 use Rattle.std.proofs.lemmas.List.Elements.{filter-append}
 use Rattle.giop_frames.specs.Pieces.{Piece, order_of, has_more, kind_of, id_of}
 use Rattle.giop_frames.specs.Messages.{Partial, is_fragment, opens, continues, cancels, ends, added, begun, open_at}
 use Rattle.giop_frames.specs.Running.{grown, opened, stepped}
-use Rattle.giop_frames.specs.Steps.{IsDistinct}
 use Rattle.giop_frames.proofs.Places.{filter_quiet, map_quiet, same}
 
 pub and_false : (b : Bool) → (b && false) ≡ false

@@ -1,18 +1,16 @@
 -- A list of feeds, by the clauses of one.
-use Rattle.std.proofs.Common.{◌≡◌, ℕ, suc, ◌+◌, ◌^◌, ◌<◌, ◌≤◌, Bool, true, false, List, [], ◌∷◌, ◌++◌, length, take, drop, get_or, Option, Some, None, Result, Ok, Err, refl, ap, sym, ◌∙◌, subst, arith, append_assoc, length-append}
-use Rattle.std.specs.Prelude.{flat_map}
+use Rattle.std.proofs.Common.{◌≡◌, ℕ, ◌+◌, ◌^◌, ◌<◌, ◌≤◌, false, List, [], ◌∷◌, ◌++◌, length, take, drop, get_or, Option, None, Ok, Err, refl, ap, sym, ◌∙◌, arith, append_assoc, length-append}
 use Rattle.std.proofs.lemmas.List.{append-nil, take-append-drop, take_more}
 use Rattle.std.proofs.Math.ListN.{drop_of_length-le}
 use Rattle.std.proofs.lemmas.Grind.{flat_map-append}
 use Rattle.orb_base.specs.Room.{Room}
-use Rattle.giop_frames.specs.declared.fault.FrameFault.{FrameFault}
 use Rattle.giop_frames.specs.declared.fault.FeedFault.{FeedFault}
 use Rattle.giop_frames.specs.declared.fault.FeedFault.TheVariants.{Frame, NoMemory}
 use Rattle.giop_frames.specs.Messages.{Message}
 use Rattle.giop_frames.specs.Pieces.{cut}
 use Rattle.giop_frames.specs.Messages.{unfinished}
 use Rattle.giop_frames.specs.Stream.{Said, stream, said_behind, rest_with, tail_rest}
-use Rattle.giop_frames.specs.Feeds.{Feed, said, Adds, AddsFront, IsFinal, Tells, GivesFront, ReadsStream, joined_feeds, FedSoFar}
+use Rattle.giop_frames.specs.Feeds.{Feed, said, Adds, AddsFront, Tells, ReadsStream, joined_feeds, FedSoFar}
 
 -- the feeds with one more
 joined_more : (i : ℕ) (pieces : List (Room ℕ)) (p : Room ℕ) → i < length pieces → p ≡ get_or pieces i p
@@ -29,7 +27,7 @@ empty_said : (limit : ℕ) → (stream limit [] ≡ record { messages = []; rest
 unfolding stream cut said_behind unfinished rest_with tail_rest
 empty_said limit = refl
 
-pub fed_start : (limit : ℕ) (pieces : List (Room ℕ)) (whole : List Message) (f : Feed) → f ≡ record { limit = limit; fed = []; lacked = false }
+pub fed_start : (limit : ℕ) (pieces : List (Room ℕ)) (whole : List Message) (f : Feed) → f ≡ record { limit = limit; fed = []; lacked = false; kept = 0 }
     → FedSoFar limit (joined_feeds (take 0 pieces)) whole f whole
 fed_start limit pieces whole f e =
     let s : said f ≡ record { messages = []; rest = None; bad = None } = ap said e ∙ empty_said limit in
@@ -44,8 +42,15 @@ fed_start limit pieces whole f e =
 pub fed_room : (limit i : ℕ) (pieces : List (Room ℕ)) (p : Room ℕ) (bytes : List ℕ) (whole whole' : List Message) (f : Feed) → FedSoFar limit (joined_feeds (take i pieces)) whole f whole' → i < length pieces
     → p ≡ get_or pieces i p → bytes ≡ p.items → length (joined_feeds pieces) < 2 ^ 64 → length f.fed + length bytes < 2 ^ 64
 fed_room limit i pieces p bytes whole whole' f s lt e b room =
-    omega (arith, ap length b, ap length s.fed_is, ap length (joined_more i pieces p lt e), length-append (joined_feeds (take i pieces)) p.items,
-      ap length (joined_left (i + 1) pieces), length-append (joined_feeds (take (i + 1) pieces)) (joined_feeds (drop (i + 1) pieces)))
+    omega (
+      arith,
+      ap length b,
+      ap length s.fed_is,
+      ap length (joined_more i pieces p lt e),
+      length-append (joined_feeds (take i pieces)) p.items,
+      ap length (joined_left (i + 1) pieces),
+      length-append (joined_feeds (take (i + 1) pieces)) (joined_feeds (drop (i + 1) pieces)),
+    )
 
 fed_next : (limit i : ℕ) (pieces : List (Room ℕ)) (p : Room ℕ) (bytes : List ℕ) (whole mid : List Message) (f f' : Feed) → FedSoFar limit (joined_feeds (take i pieces)) whole f mid → i < length pieces
     → p ≡ get_or pieces i p → bytes ≡ p.items → f'.fed ≡ f.fed ++ bytes → f'.fed ≡ joined_feeds (take (i + 1) pieces)
@@ -77,10 +82,9 @@ pub fed_err : (fault : FeedFault) (limit i : ℕ) (pieces : List (Room ℕ)) (p 
 fed_err (Frame e) limit i pieces p bytes whole mid whole' f f' s lt h b l fed t =
     let a : Adds f f' mid whole' = t.3 in
     let more : List ℕ = joined_feeds (drop (i + 1) pieces) in
-    let all : stream limit (joined_feeds pieces) ≡ said f' = all_of limit (i + 1) pieces f' (l ∙ s.limit_is) (fed_next limit i pieces p bytes whole mid f f' s lt h b fed) ∙ t.4 more in
-    (
+    let all : stream limit (joined_feeds pieces) ≡ said f' = all_of limit (i + 1) pieces f' (l ∙ s.limit_is) (fed_next limit i pieces p bytes whole mid f f' s lt h b fed) ∙ t.4 more in (
       a.gives ∙ ap (λ (y : List Message). y ++ a.new) s.gives ∙ append_assoc whole (said f).messages a.new ∙ ap (λ (y : List Message). whole ++ y) (sym a.says_new)
-      ∙ ap (λ (y : Said). whole ++ y.messages) (sym all),
+          ∙ ap (λ (y : Said). whole ++ y.messages) (sym all),
       ap (λ (y : Said). y.bad) all ∙ t.2,
     )
 fed_err NoMemory limit i pieces p bytes whole mid whole' f f' s lt h b l fed t =
@@ -90,7 +94,7 @@ fed_err NoMemory limit i pieces p bytes whole mid whole' f f' s lt h b l fed t =
       new = (said f).messages ++ a.new;
       left = a.left more;
       says_new = ap (λ (y : Said). y.messages) (all_of limit (i + 1) pieces f' (l ∙ s.limit_is) (fed_next limit i pieces p bytes whole mid f f' s lt h b fed))
-        ∙ a.says_new more ∙ sym (append_assoc (said f).messages a.new (a.left more));
+          ∙ a.says_new more ∙ sym (append_assoc (said f).messages a.new (a.left more));
       gives = a.gives ∙ ap (λ (y : List Message). y ++ a.new) s.gives ∙ append_assoc whole (said f).messages a.new;
     }
 
@@ -99,7 +103,7 @@ pub fed_all : (limit i : ℕ) (pieces : List (Room ℕ)) (whole whole' : List Me
 fed_all limit i pieces whole whole' f rest s h r =
     let none : joined_feeds (drop i pieces) ≡ [] = ap joined_feeds (drop_of_length-le pieces h) in
     let all : stream limit (joined_feeds pieces) ≡ said f =
-      all_of limit i pieces f s.limit_is s.fed_is ∙ ap (λ (y : List ℕ). stream f.limit (f.fed ++ y)) none ∙ ap (stream f.limit) (append-nil f.fed) in
+    all_of limit i pieces f s.limit_is s.fed_is ∙ ap (λ (y : List ℕ). stream f.limit (f.fed ++ y)) none ∙ ap (stream f.limit) (append-nil f.fed) in
     (s.gives ∙ ap (λ (y : Said). whole ++ y.messages) (sym all), ap (λ (y : Said). y.bad) all ∙ s.sound, r s.enough ∙ ap (λ (y : Said). y.rest) (sym all))
 
 pub fed_none : (s : Said) (whole : List Message) → ReadsStream (Err NoMemory) s whole whole

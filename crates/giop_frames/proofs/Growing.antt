@@ -1,13 +1,13 @@
 -- The unfinished messages behind one more piece are those behind the pieces before it, stepped by it.
-use Rattle.std.proofs.Common.{◌≡◌, ℕ, ◌+◌, Bool, true, false, cond, not, ◌&&◌, ◌||◌, ◌==◌, List, [], ◌∷◌, ◌++◌, refl, ap, sym, ◌∙◌, append_assoc, map, filter}
+use Rattle.std.proofs.Common.{◌≡◌, ℕ, Bool, true, false, cond, not, ◌&&◌, ◌||◌, List, [], ◌∷◌, ◌++◌, refl, ap, sym, ◌∙◌, append_assoc, map, filter}
 use Rattle.std.specs.Prelude.{flat_map}
 use Rattle.std.specs.List.{list_any}
 use Rattle.std.proofs.lemmas.List.{append-nil}
 use Rattle.std.proofs.lemmas.List.Elements.{filter-append}
 use Rattle.std.proofs.lemmas.Grind.{flat_map-append}
-use Rattle.giop_frames.specs.Pieces.{Piece, Cut, id_of, cut}
+use Rattle.giop_frames.specs.Pieces.{Piece, id_of, cut}
 use Rattle.giop_frames.specs.Messages.{Partial, opens, continues, ends, added, begun, unfinished}
-use Rattle.giop_frames.specs.Stream.{Said, said_behind, stream, at_end, or_stopped, cause_of, tail_cause}
+use Rattle.giop_frames.specs.Stream.{Said, said_behind, stream, or_stopped, cause_of}
 use Rattle.giop_frames.specs.Running.{grown, opened, stepped, run, ahead}
 
 any_or : (b c d e : Bool) → c ≡ (d || e) → (b || c) ≡ ((b || d) || e)

@@ -6,6 +6,9 @@ pub mod Effects
 pub mod Deeds
 pub mod Sealing
 pub mod Soundness
+pub mod Bounds
 pub mod Joins
+pub mod JoinParts
 pub mod Following
+pub mod Framed
 pub mod Feedings

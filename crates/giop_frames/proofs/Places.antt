@@ -1,6 +1,6 @@
 -- Where the unfinished message of an id stands, and what leaves the other ones alone.
-use Rattle.std.proofs.Common.{◌≡◌, ℕ, suc, ◌+◌, ◌<◌, ◌≤◌, Bool, true, false, cond, not, ◌&&◌, ◌||◌, ◌==◌, List, [], ◌∷◌, ◌++◌, length, Option, Some, None, refl, ap, sym, ◌∙◌, arith, map, filter, nat_lt, subst}
-use Rattle.std.specs.List.{position, position_or_len, find}
+use Rattle.std.proofs.Common.{◌≡◌, ℕ, suc, ◌+◌, ◌<◌, Bool, true, false, cond, not, ◌==◌, List, [], ◌∷◌, ◌++◌, length, Option, Some, None, refl, ap, sym, ◌∙◌, arith, map, filter, nat_lt, subst}
+use Rattle.std.specs.List.{position, position_or_len}
 use Rattle.giop_frames.specs.Messages.{Partial, open_at}
 use Rattle.giop_frames.specs.Steps.{Found, Placed, IsDistinct}
 

@@ -1,5 +1,5 @@
 -- The header of a joined message.
-use Rattle.std.proofs.Common.{◌≡◌, ℕ, ◌+◌, ◌-◌, ◌≤◌, List, [], ◌∷◌, ◌++◌, length, refl, ap, sym, ◌∙◌, arith, take, drop}
+use Rattle.std.proofs.Common.{◌≡◌, ℕ, ◌-◌, ◌≤◌, List, [], ◌∷◌, ◌++◌, length, refl, ap, ◌∙◌, arith, take, drop}
 use Rattle.std.specs.Prelude.{slice_index}
 use Rattle.std.specs.Int.{w32}
 use Rattle.std.proofs.Math.Seq.{take-append_seam}

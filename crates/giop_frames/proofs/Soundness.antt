@@ -6,7 +6,7 @@ use Rattle.giop_frames.specs.declared.fault.FrameCause.TheVariants.{BadPiece, To
 use Rattle.giop_frames.specs.Pieces.{Piece, order_of, has_more, kind_of, id_of}
 use Rattle.giop_frames.specs.Messages.{Partial, is_fragment, opens, continues, ends, added, open_at, begun}
 use Rattle.giop_frames.specs.Stream.{is_short_kind, same_order, fragment_cause, first_cause, piece_cause}
-use Rattle.giop_frames.specs.Running.{grown, opened, stepped}
+use Rattle.giop_frames.specs.Running.{grown, stepped}
 use Rattle.giop_frames.specs.Steps.{IsDistinct, IsSound, JoinFits}
 use Rattle.giop_frames.proofs.Places.{same, none_first}
 use Rattle.giop_frames.proofs.Effects.{opens_is}

@@ -6,11 +6,12 @@ use Rattle.giop_frames.specs.declared.fault.FeedFault.TheVariants.{Frame, NoMemo
 use Rattle.giop_frames.specs.Messages.{Message}
 use Rattle.giop_frames.specs.Stream.{Said, stream}
 
--- a framer: its limit, all that was fed, and whether memory was wanting
+-- a framer: its limit, all that was fed, whether memory was wanting, and how many bytes it keeps
 pub record Feed : Type 0 where
   pub limit : ℕ
   pub fed : List ℕ
   pub lacked : Bool
+  pub kept : ℕ
 
 -- what all that was fed says
 abbrev pub said : Feed → Said

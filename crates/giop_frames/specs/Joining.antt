@@ -9,18 +9,21 @@ use Rattle.giop_frames.specs.Messages.{Message, Partial}
 use Rattle.giop_frames.specs.Stream.{tail_cause, header_cause, with_front, stopped}
 use Rattle.giop_frames.specs.Running.{State, says}
 use Rattle.giop_frames.specs.Steps.{IsDistinct}
+use Rattle.giop_frames.specs.Bounds.{IsBounded}
 
 -- between two reads: less than a piece has come, and its header, if it is there, breaks no rule
 pub record IsResting (s : State) : Type 0 where
   pub part : is_whole s.tail ≡ false
   pub sound : tail_cause s.limit s.tail ≡ None
   pub distinct : IsDistinct s.partials
+  pub bounded : IsBounded s.limit s.partials
   pub small : s.limit < 2 ^ 31
 
 -- as much has come as the header, or else the piece, has room for
 pub record IsFilled (s : State) : Type 0 where
   pub fits : 12 ≤ length s.tail → length s.tail ≤ piece_len s.tail
   pub distinct : IsDistinct s.partials
+  pub bounded : IsBounded s.limit s.partials
   pub small : s.limit < 2 ^ 31
 
 -- a whole piece whose header breaks no rule
@@ -29,6 +32,7 @@ pub record IsReady (s : State) : Type 0 where
   pub full : length s.tail ≡ piece_len s.tail
   pub sound : header_cause s.limit s.tail ≡ None
   pub distinct : IsDistinct s.partials
+  pub bounded : IsBounded s.limit s.partials
   pub small : s.limit < 2 ^ 31
 
 -- the bytes were read, and these messages given: what the machine said of the bytes and further ones it says of those

@@ -4,5 +4,6 @@ pub mod Stream
 pub mod Feeds
 pub mod Running
 pub mod Steps
+pub mod Bounds
 pub mod Joining
 pub mod Feeding

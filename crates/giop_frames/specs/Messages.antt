@@ -1,6 +1,6 @@
 -- Messages of one piece, and messages in fragments: CORBA 3.0.3, section 15.4. That a CancelRequest drops the unfinished
 -- message of its id is own profile.
-use Rattle.std.specs.Prelude.{ℕ, ◌+◌, ◌-◌, ◌==◌, ◌&&◌, ◌||◌, not, Bool, List, [], ◌∷◌, ◌++◌, Option, Some, None, length, take, drop, nat_le, slice_index, filter, flat_map, find, option_map, if◌then◌else◌}
+use Rattle.std.specs.Prelude.{ℕ, ◌-◌, ◌==◌, ◌&&◌, ◌||◌, not, Bool, List, [], ◌∷◌, ◌++◌, Option, Some, None, length, take, drop, nat_le, slice_index, filter, flat_map, find, option_map, if◌then◌else◌}
 use Rattle.std.specs.List.{list_any}
 use Rattle.std.specs.Int.{w32}
 use Rattle.orb_base.specs.declared.order.Order.{Order}

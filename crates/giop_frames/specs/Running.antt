@@ -1,5 +1,5 @@
 -- The same stream, said by the unfinished messages in the place of the earlier pieces.
-use Rattle.std.specs.Prelude.{ℕ, ◌+◌, not, List, [], ◌∷◌, ◌++◌, Bool, Option, length, map, filter, if◌then◌else◌}
+use Rattle.std.specs.Prelude.{ℕ, not, List, [], ◌∷◌, ◌++◌, length, map, filter, if◌then◌else◌}
 use Rattle.giop_frames.specs.Pieces.{Piece, Cut, cut}
 use Rattle.giop_frames.specs.Messages.{Partial, opens, continues, ends, added, begun}
 use Rattle.giop_frames.specs.Stream.{Said, at_end, or_stopped, tail_cause, cause_of}

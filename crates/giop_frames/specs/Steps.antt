@@ -1,5 +1,5 @@
 -- What a whole piece does to the unfinished messages.
-use Rattle.std.specs.Prelude.{ℕ, ◌≡◌, ◌+◌, ◌-◌, ◌^◌, ◌<◌, ◌≤◌, ◌==◌, Bool, true, false, List, [], ◌∷◌, ◌++◌, Option, Some, None, length, option_to_list, slice_get, slice_set, slice_index}
+use Rattle.std.specs.Prelude.{ℕ, ◌≡◌, ◌+◌, ◌-◌, ◌^◌, ◌<◌, ◌≤◌, ◌==◌, true, false, List, [], ◌∷◌, ◌++◌, Option, Some, None, length, option_to_list, slice_get, slice_set, slice_index}
 use Rattle.giop_frames.specs.Pieces.{Piece, kind_of, id_of}
 use Rattle.giop_frames.specs.Messages.{Partial, Message, is_fragment, opens, open_at, completed}
 use Rattle.giop_frames.specs.Running.{stepped}

@@ -1,5 +1,5 @@
 //! The stream of a connection's bytes, fed in any pieces.
-ghost use Rattle.std.specs.Prelude.{◌≡◌, ◌≤◌, ◌<◌, ◌+◌, ◌^◌, [], ◌++◌, length, false, IfOk};
+ghost use Rattle.std.specs.Prelude.{◌≡◌, ◌≤◌, ◌<◌, ◌+◌, ◌*◌, ◌^◌, [], ◌++◌, length, false, IfOk};
 ghost use Rattle.giop_frames.specs.Feeds.{said, Tells};
 
 use crate::fault::FeedFault;
@@ -21,6 +21,7 @@ pub struct Framer {
     limit: usize,
     joiner: Joiner,
     fault: Option<FeedFault>,
+    left: Option<u64>,
     fed: Told<u8>,
 }
 
@@ -29,11 +30,17 @@ impl Model for Framer {
 
     ghost Value = { Feed };
 
-    ghost use Rattle.giop_frames.specs.Feeding.{IsFramed, lacks};
+    ghost use Rattle.giop_frames.specs.Feeding.{IsFramed, IsEmptied, lacks};
+    ghost use Rattle.giop_frames.specs.Bounds.{kept_bytes};
 
-    ghost invariant = { λ f. IsFramed f.limit f.fed.items f.joiner f.fault };
+    ghost invariant = { λ f. IsFramed f.limit f.fed.items f.joiner f.left f.fault × IsEmptied f.joiner f.fault };
 
-    ghost view = { λ f. record { limit = f.limit; fed = f.fed.items; lacked = lacks f.fault } };
+    ghost view = { λ f. record {
+      limit = f.limit;
+      fed = f.fed.items;
+      lacked = lacks f.fault;
+      kept = kept_bytes f.joiner;
+    } };
 }
 
 impl Framer {
@@ -42,12 +49,13 @@ impl Framer {
     pub fn new(alloc: Global, limit: usize) -> Result<Framer, NoMemory>
         requires least { 16 ≤ limit }
         requires most { limit ≤ 262144 }
-        ensures { IfOk result (λ f. f ≡ record { limit = limit; fed = []; lacked = false }) }
+        ensures { IfOk result (λ f. f ≡ record { limit = limit; fed = []; lacked = false; kept = 0 }) }
     {
         Ok(Framer {
             limit,
             joiner: Joiner::new(alloc, limit)?,
             fault: None,
+            left: None,
             fed: Told::new(),
         })
     }
@@ -56,11 +64,12 @@ impl Framer {
     ///
     /// A fault of the stream is told as soon as it is there, that of a header once its 12 bytes are: the messages before it
     /// are appended, and from then on every feed answers it and appends nothing. After want of memory, which may leave
-    /// out messages, every feed answers that and appends nothing.
+    /// out messages, every feed answers that and appends nothing. Both give back the memory of what was kept.
     pub fn feed(&mut self, piece: &[u8], whole: &mut List<Whole>) -> Result<(), FeedFault>
         requires { length self.old.fed + length piece.now < 2 ^ 64 }
         ensures fed { (self.new.limit ≡ self.old.limit) × (self.new.fed ≡ self.old.fed ++ piece.now) }
         ensures tells { Tells result self.old self.new whole.old.items whole.new.items }
+        ensures kept { self.new.kept ≤ 17 * self.new.limit }
     {
         self.fed = self.fed.and(piece);
         match self.fault {
@@ -68,6 +77,8 @@ impl Framer {
             None => match self.joiner.read(piece, whole) {
                 Ok(()) => Ok(()),
                 Err(fault) => {
+                    self.left = self.joiner.oldest();
+                    self.joiner.clear();
                     self.fault = Some(fault);
                     Err(fault)
                 }
@@ -81,8 +92,17 @@ impl Framer {
         ensures { self.now.lacked ≡ false → result ≡ (said self.now).rest }
     {
         match self.fault {
-            Some(_) => self.joiner.oldest(),
+            Some(_) => self.left,
             None => self.joiner.rest(),
         }
+    }
+
+    /// How many bytes it keeps: those that have come of the next piece, and those of the unfinished messages. None after a
+    /// fault or want of memory.
+    pub fn kept(&self) -> usize
+        ensures value { result ≡ self.now.kept }
+        ensures bound { result ≤ 17 * self.now.limit }
+    {
+        self.joiner.kept()
     }
 }

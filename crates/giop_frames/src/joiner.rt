@@ -1,13 +1,14 @@
 //! The machine behind a framer: it fills a piece, judges its header, then the whole piece, and takes it.
 ghost use Rattle.std.specs.Prelude.{◌≡◌, ◌≤◌, ◌<◌, ◌+◌, ◌^◌, [], ◌++◌, length, OnOk, IfOk, None};
 ghost use Rattle.giop_frames.specs.Stream.{rest_of, rest_with};
+ghost use Rattle.giop_frames.specs.Bounds.{kept_bytes};
 ghost use Rattle.giop_frames.specs.Joining.{IsResting, IsFilled, IsReady, Reads, Takes, Needs, lifted, with_tail};
 
 use crate::fault::{FeedFault, FrameFault};
 use crate::header::{HEADER, header_cause, piece_len};
 use crate::partials::take_piece;
 use crate::rules::{MAX_PARTIALS, piece_cause};
-use crate::unfinished::Unfinished;
+use crate::unfinished::{Unfinished, bytes_of};
 use crate::whole::Whole;
 use orb_base::{List, NoMemory, Octets};
 use std::alloc::Global;
@@ -182,5 +183,22 @@ impl Joiner {
                 }
             }
         }
+    }
+
+    /// Forgets the piece and the messages, and gives their memory back.
+    pub fn clear(&mut self)
+        ensures tail { self.new.tail ≡ [] }
+        ensures partials { self.new.partials ≡ [] }
+    {
+        self.tail = List::new(self.alloc);
+        self.partials = Vec::new(self.alloc);
+    }
+
+    /// How many bytes are kept.
+    pub fn kept(&self) -> usize
+        requires { kept_bytes self.now < 2 ^ 63 }
+        ensures { result ≡ kept_bytes self.now }
+    {
+        self.tail.len() + bytes_of(self.partials.as_slice())
     }
 }

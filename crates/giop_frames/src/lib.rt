@@ -16,3 +16,6 @@ pub use fault::{FeedFault, FrameCause, FrameFault};
 pub use framer::Framer;
 pub use stream::read_stream;
 pub use whole::Whole;
+
+#[cfg(test)]
+mod tests;

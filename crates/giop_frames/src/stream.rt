@@ -11,7 +11,12 @@ use std::alloc::Global;
 
 /// Reads a stream that is cut into feeds, up to its end or its first fault, and appends its messages. Gives the offset at
 /// which an unfinished message begins. The cutting doesn't matter: the contract speaks of the joined bytes alone.
-pub fn read_stream(alloc: Global, limit: usize, feeds: &[Octets], whole: &mut List<Whole>) -> Result<Option<u64>, FeedFault>
+pub fn read_stream(
+    alloc: Global,
+    limit: usize,
+    feeds: &[Octets],
+    whole: &mut List<Whole>,
+) -> Result<Option<u64>, FeedFault>
     requires least { 16 ≤ limit }
     requires most { limit ≤ 262144 }
     requires short { length (joined_feeds feeds.now) < 2 ^ 64 }

@@ -1,5 +1,5 @@
 //! Messages in fragments, of which some pieces came.
-ghost use Rattle.std.specs.Prelude.{◌≡◌, ◌==◌, position};
+ghost use Rattle.std.specs.Prelude.{◌≡◌, ◌==◌, ◌<◌, ◌^◌, length, sum_by, position};
 ghost use Rattle.std.specs.Option.{option_copied};
 ghost use Rattle.giop_frames.specs.Messages as Spec;
 ghost use Rattle.giop_frames.specs.Steps.{Placed};
@@ -47,4 +47,12 @@ pub(crate) fn place_of(id: u32, partials: &[Unfinished]) -> Option<usize>
     ensures { Placed id partials.now result }
 {
     position_of(id, partials)
+}
+
+/// The bytes of unfinished messages together.
+pub(crate) fn bytes_of(partials: &[Unfinished]) -> usize
+    requires { sum_by (λ u. length u.bytes) partials.now < 2 ^ 63 }
+    ensures { result ≡ sum_by (λ u. length u.bytes) partials.now }
+{
+    partials.iter().map(|u| u.bytes.len()).sum()
 }

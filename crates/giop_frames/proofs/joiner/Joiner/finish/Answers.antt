@@ -1,5 +1,5 @@
 use Rattle.std.proofs.Common.{ap, ◌∙◌}
-use Rattle.giop_frames.proofs.Joins.{finish_stops, finish_sound, finish_gives}
+use Rattle.giop_frames.proofs.JoinParts.{finish_stops, finish_sound, finish_gives}
 use Rattle.giop_frames.proofs.joiner.Joiner.finish.Goals as goal
 
 pub returns-in-Some : goal.returns-in-Some

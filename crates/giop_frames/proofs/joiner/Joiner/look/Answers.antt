@@ -1,6 +1,7 @@
 use Rattle.std.proofs.Common.{ap, length, arith}
 use Rattle.giop_frames.specs.Running.{State}
-use Rattle.giop_frames.proofs.Joins.{rests_short, look_stops, look_part}
+use Rattle.giop_frames.proofs.Joins.{rests_short}
+use Rattle.giop_frames.proofs.JoinParts.{look_stops, look_part}
 use Rattle.giop_frames.proofs.joiner.Joiner.look.Goals as goal
 
 pub returns-then-has-lt-HEADER : goal.returns-then-has-lt-HEADER

@@ -1,5 +1,5 @@
 use Rattle.std.proofs.Common.{arith}
-use Rattle.giop_frames.proofs.Joins.{need_short, needs_as}
+use Rattle.giop_frames.proofs.JoinParts.{need_short, needs_as}
 use Rattle.giop_frames.proofs.joiner.Joiner.need.Goals as goal
 
 pub overflow_sub-result-else-has-lt-HEADER : goal.overflow_sub-result-else-has-lt-HEADER

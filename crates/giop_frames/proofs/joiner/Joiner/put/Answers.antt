@@ -1,5 +1,6 @@
 use Rattle.std.proofs.Common.{refl}
-use Rattle.giop_frames.proofs.Joins.{put_as, lacks_any}
+use Rattle.giop_frames.proofs.Joins.{lacks_any}
+use Rattle.giop_frames.proofs.JoinParts.{put_as}
 use Rattle.giop_frames.proofs.joiner.Joiner.put.Goals as goal
 
 pub returns-in-Ok : goal.returns-in-Ok

@@ -1,4 +1,4 @@
-use Rattle.giop_frames.proofs.Joins.{so_far_more, so_far_err}
+use Rattle.giop_frames.proofs.JoinParts.{so_far_more, so_far_err}
 use Rattle.giop_frames.proofs.joiner.Joiner.read.Goals as goal
 
 pub loop-taken-preserved : goal.loop-taken-preserved

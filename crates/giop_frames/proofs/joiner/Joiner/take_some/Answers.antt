@@ -1,6 +1,7 @@
 use Rattle.std.proofs.Common.{take, arith}
 use Rattle.std.proofs.lemmas.List.{length-take}
-use Rattle.giop_frames.proofs.Joins.{fills, took_fails}
+use Rattle.giop_frames.proofs.Joins.{took_fails}
+use Rattle.giop_frames.proofs.JoinParts.{fills}
 use Rattle.giop_frames.proofs.joiner.Joiner.take_some.Goals as goal
 
 pub put-requires-clause-filled : goal.put-requires-clause-filled
