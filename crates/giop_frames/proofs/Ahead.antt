@@ -65,14 +65,14 @@ unfolding is_whole
 part_of bytes h = grind arith
 
 -- bytes that are no whole piece are the tail, with any fuel
-cut_part : (n at : ℕ) (bytes : List ℕ) → is_whole bytes ≡ false → cut n at bytes ≡ record { whole = []; tail = record { at = at; bytes = bytes } }
+pub cut_part : (n at : ℕ) (bytes : List ℕ) → is_whole bytes ≡ false → cut n at bytes ≡ record { whole = []; tail = record { at = at; bytes = bytes } }
 unfolding cut
 cut_part zero at bytes h = refl
 cut_part (suc n) at bytes h =
     ap (λ (b : Bool). cond b (with_piece (record { at = at; bytes = take (piece_len bytes) bytes }) (cut n (at + piece_len bytes) (drop (piece_len bytes) bytes)))
     (record { whole = []; tail = record { at = at; bytes = bytes } })) h
 
-cut_whole : (n at : ℕ) (bytes : List ℕ) → is_whole bytes ≡ true
+pub cut_whole : (n at : ℕ) (bytes : List ℕ) → is_whole bytes ≡ true
     → cut (suc n) at bytes ≡ with_piece (record { at = at; bytes = take (piece_len bytes) bytes }) (cut n (at + piece_len bytes) (drop (piece_len bytes) bytes))
 unfolding cut
 cut_whole n at bytes h =
@@ -99,7 +99,7 @@ cut_enough (suc n) zero at bytes h k =
     let p : is_whole bytes ≡ false = part_short bytes (omega arith) in cut_part (suc n) at bytes p ∙ sym (cut_part zero at bytes p)
 cut_enough (suc n) (suc m) at bytes h k = both n m at bytes (is_whole bytes) refl h k (λ lt le. cut_enough n m (at + piece_len bytes) (drop (piece_len bytes) bytes) lt le)
 
-cut_piece : (n at : ℕ) (p more : List ℕ) → 12 ≤ length p → length p ≡ piece_len p → length (p ++ more) ≤ n
+pub cut_piece : (n at : ℕ) (p more : List ℕ) → 12 ≤ length p → length p ≡ piece_len p → length (p ++ more) ≤ n
     → cut n at (p ++ more) ≡ with_piece (record { at = at; bytes = p }) (cut (length more) (at + length p) more)
 cut_piece zero at p more h l f = absurd (omega (arith, length-append p more))
 cut_piece (suc n) at p more h l f =

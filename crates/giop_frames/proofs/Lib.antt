@@ -12,3 +12,4 @@ pub mod JoinParts
 pub mod Following
 pub mod Framed
 pub mod Feedings
+pub mod LawProofs

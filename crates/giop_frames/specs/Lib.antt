@@ -7,3 +7,4 @@ pub mod Steps
 pub mod Bounds
 pub mod Joining
 pub mod Feeding
+pub mod Laws

@@ -5,6 +5,7 @@ mod fault;
 mod framer;
 mod header;
 mod joiner;
+pub mod laws;
 mod partials;
 mod rules;
 mod stream;
