@@ -187,6 +187,8 @@ impl Joiner {
 
     /// Forgets the piece and the messages, and gives their memory back.
     pub fn clear(&mut self)
+        ensures limit { self.new.limit ≡ self.old.limit }
+        ensures at { self.new.at ≡ self.old.at }
         ensures tail { self.new.tail ≡ [] }
         ensures partials { self.new.partials ≡ [] }
     {

@@ -176,6 +176,7 @@ fn each_cause_is_told_at_its_offset(rt: HostRuntime) -> Result<(), Fail> {
         let mut whole = List::new(rt.alloc());
         let last = bytes.len() - 1;
         assert_eq!(rt; framer.feed(&FIRST, &mut whole), Ok(()));
+        assert_eq!(rt; framer.kept(), 24);
         assert_eq!(rt;
             framer.feed(&bytes[..last], &mut whole),
             Ok(()),
@@ -187,6 +188,7 @@ fn each_cause_is_told_at_its_offset(rt: HostRuntime) -> Result<(), Fail> {
         );
         assert_eq!(rt; framer.feed(&PING, &mut whole), Err(fault(cause, 24)));
         assert_eq!(rt; framer.rest(), Some(0));
+        assert_eq!(rt; framer.kept(), 0);
         assert_eq!(rt; whole.len(), 0);
     }
     Ok(())
@@ -253,6 +255,19 @@ fn a_message_may_be_as_long_as_the_limit(rt: HostRuntime) -> Result<(), Fail> {
         assert_eq!(rt; answer, (Ok(()), None));
         assert_eq!(rt; whole.len(), 1);
     }
+    Ok(())
+}
+
+#[test]
+fn a_header_alone_keeps_its_12_bytes(rt: HostRuntime) -> Result<(), Fail> {
+    let mut framer = Framer::new(rt.alloc(), 262_144)?;
+    let mut whole = List::new(rt.alloc());
+    let header = [0x47, 0x49, 0x4f, 0x50, 1, 2, 0, 0, 0, 3, 0xff, 0xf4];
+    assert_eq!(rt; framer.feed(&header, &mut whole), Ok(()));
+    assert_eq!(rt;
+        (framer.kept(), framer.rest(), whole.len()),
+        (12, Some(0), 0)
+    );
     Ok(())
 }
 
