@@ -21,6 +21,7 @@ pub record Ended (limit : ℕ) (fed : List ℕ) (left : Option ℕ) (f : FrameFa
   pub bad : (stream limit fed).bad ≡ Some f
   pub rest : (stream limit fed).rest ≡ left
 
+-- a framer between two feeds: it follows its stream, or has ended with a fault, or memory was wanting
 abbrev pub IsFramed : ℕ → List ℕ → State → Option ℕ → Option FeedFault → Type 0
 IsFramed limit fed s left None = Follows limit fed s
 IsFramed limit fed s left (Some (Frame f)) = Ended limit fed left f

@@ -57,10 +57,12 @@ pub record Lacks (whole : List Message) (s : State) (bytes : List ℕ) (whole' :
   pub gives : whole' ≡ whole ++ told
   pub front : (more : List ℕ) → (says s (bytes ++ more)).messages ≡ told ++ left more
 
+-- a call that fails: the stream stops at this fault, or memory was wanting and a front of the messages was told
 abbrev pub Fails : FeedFault → List ℕ → State → State → List Message → List Message → Type 0
 Fails (Frame f) bytes s s' whole whole' = Stops whole s bytes whole' s'.partials f
 Fails NoMemory bytes s s' whole whole' = Lacks whole s bytes whole'
 
+-- a call that takes all the bytes, or fails
 abbrev pub Reads : Result (Unit {0}) FeedFault → List ℕ → State → State → List Message → List Message → Type 0
 Reads (Ok x) bytes s s' whole whole' = Same whole s bytes whole' s'
 Reads (Err fault) bytes s s' whole whole' = Fails fault bytes s s' whole whole'
@@ -71,6 +73,7 @@ pub record Took (n : ℕ) (bytes : List ℕ) (s s' : State) (whole whole' : List
   pub within : n ≤ length bytes
   pub same : Same whole s (take n bytes) whole' s'
 
+-- a call that takes some of the bytes, or fails
 abbrev pub Takes : Result ℕ FeedFault → List ℕ → State → State → List Message → List Message → Type 0
 Takes (Ok n) bytes s s' whole whole' = Took n bytes s s' whole whole'
 Takes (Err fault) bytes s s' whole whole' = Fails fault bytes s s' whole whole'

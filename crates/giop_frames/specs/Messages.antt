@@ -7,6 +7,7 @@ use Rattle.orb_base.specs.declared.order.Order.{Order}
 use Rattle.cdr_core.specs.Field.{number_bytes}
 use Rattle.giop_frames.specs.Pieces.{Piece, order_of, has_more, kind_of, id_of}
 
+-- a piece that is a Fragment
 unfoldable pub is_fragment : List ℕ → Bool
 is_fragment bytes = kind_of bytes == 7
 
@@ -68,9 +69,11 @@ unfoldable pub sealed : Order → List ℕ → List ℕ
 sealed order bytes =
     take 6 bytes ++ (slice_index bytes 6 - 2) ∷ slice_index bytes 7 ∷ number_bytes order w32 (length bytes - 12) ++ drop 12 bytes
 
+-- a message in fragments, behind its last piece
 abbrev pub joined : Piece → Partial → Message
 joined p u = record { at = p.at; order = u.order; kind = kind_of u.bytes; bytes = sealed u.order (u.bytes ++ added p) }
 
+-- a message of one piece
 abbrev pub lone : Piece → Message
 lone p = record { at = p.at; order = order_of p.bytes; kind = kind_of p.bytes; bytes = p.bytes }
 

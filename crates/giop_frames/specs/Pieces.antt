@@ -40,6 +40,7 @@ pub record Cut : Type 0 where
   pub whole : List Piece
   pub tail : Piece
 
+-- a cut with one more whole piece in front
 abbrev pub with_piece : Piece → Cut → Cut
 with_piece p c = record { whole = p ∷ c.whole; tail = c.tail }
 

@@ -8,6 +8,7 @@ use Rattle.giop_frames.specs.Stream.{Said, at_end, or_stopped, tail_cause, cause
 abbrev pub grown : Piece → Partial → Partial
 grown p u = if continues u.id p.bytes then record u { bytes = u.bytes ++ added p } else u
 
+-- the message that a piece opens, if it opens one
 abbrev pub opened : Piece → List Partial
 opened p = if opens p.bytes then begun p [] ∷ [] else []
 
@@ -15,10 +16,12 @@ opened p = if opens p.bytes then begun p [] ∷ [] else []
 unfoldable pub stepped : Piece → List Partial → List Partial
 stepped p us = map (grown p) (filter (λ u. not (ends u.id p.bytes)) us) ++ opened p
 
+-- what pieces and a tail say behind the unfinished messages of the earlier ones
 unfoldable pub run : ℕ → List Partial → List Piece → Piece → Said
 run limit us [] tail = at_end us tail (tail_cause limit tail.bytes)
 run limit us (p ∷ later) tail = or_stopped us p (cause_of limit us p) (run limit (stepped p us) later tail)
 
+-- the same of a cut
 abbrev pub run_cut : ℕ → List Partial → Cut → Said
 run_cut limit us c = run limit us c.whole c.tail
 

@@ -14,6 +14,7 @@ pub record Found (id : ℕ) (us : List Partial) (i : ℕ) : Type 0 where
   pub same : (there.id == id) ≡ true
   pub before : open_at id front ≡ None
 
+-- where the unfinished message of an id stands, if there is one
 abbrev pub Placed : ℕ → List Partial → Option ℕ → Type 0
 Placed id us None = open_at id us ≡ None
 Placed id us (Some i) = Found id us i

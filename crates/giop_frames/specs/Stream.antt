@@ -30,6 +30,7 @@ header_cause limit bytes =
 unfoldable pub is_short_kind : ℕ → Bool
 is_short_kind kind = (kind == 2) || ((kind == 5) || (kind == 6))
 
+-- two byte orders are one
 unfoldable pub same_order : Order → Order → Bool
 same_order Big Big = true
 same_order Little Little = true
@@ -65,6 +66,7 @@ abbrev pub or_else : Option FrameCause → Option FrameCause → Option FrameCau
 or_else None second = second
 or_else (Some cause) second = Some cause
 
+-- the first rule that a whole piece breaks, its header first
 abbrev pub cause_of : ℕ → List Partial → Piece → Option FrameCause
 cause_of limit us p = or_else (header_cause limit p.bytes) (piece_cause limit us p.bytes)
 
@@ -79,6 +81,7 @@ pub record Said : Type 0 where
   pub rest : Option ℕ
   pub bad : Option FrameFault
 
+-- what is said, with messages in front
 abbrev pub with_front : List Message → Said → Said
 with_front front said = record { messages = front ++ said.messages; rest = said.rest; bad = said.bad }
 
@@ -91,6 +94,7 @@ rest_of (u ∷ us) = Some u.at
 unfoldable pub tail_rest : Piece → Option ℕ
 tail_rest tail = if length tail.bytes == 0 then None else Some tail.at
 
+-- the offset of the first of the unfinished messages, or else of the unfinished piece
 unfoldable pub rest_with : List Partial → Piece → Option ℕ
 rest_with [] tail = tail_rest tail
 rest_with (u ∷ us) tail = Some u.at
@@ -99,10 +103,12 @@ rest_with (u ∷ us) tail = Some u.at
 abbrev pub stopped : List Partial → ℕ → FrameCause → Said
 stopped us at cause = record { messages = []; rest = rest_of us; bad = Some (record { cause = cause; offset = at }) }
 
+-- what is said where no whole piece follows: of an unfinished piece the header may be at fault
 abbrev pub at_end : List Partial → Piece → Option FrameCause → Said
 at_end us tail (Some cause) = stopped us tail.at cause
 at_end us tail None = record { messages = []; rest = rest_with us tail; bad = None }
 
+-- what is said from a piece on: it stops the stream, or what it completes comes before what the others say
 abbrev pub or_stopped : List Partial → Piece → Option FrameCause → Said → Said
 or_stopped us p (Some cause) said = stopped us p.at cause
 or_stopped us p None said = with_front (option_to_list (completed us p)) said
@@ -113,6 +119,7 @@ said_behind limit earlier [] tail = at_end (unfinished earlier) tail (tail_cause
 said_behind limit earlier (p ∷ later) tail =
     or_stopped (unfinished earlier) p (cause_of limit (unfinished earlier) p) (said_behind limit (earlier ++ p ∷ []) later tail)
 
+-- what a cut says
 abbrev pub said_of : ℕ → Cut → Said
 said_of limit c = said_behind limit [] c.whole c.tail
 
