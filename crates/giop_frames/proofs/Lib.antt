@@ -1,0 +1,14 @@
+pub mod Walks
+pub mod Growing
+pub mod Places
+pub mod Ahead
+pub mod Effects
+pub mod Deeds
+pub mod Sealing
+pub mod Soundness
+pub mod Bounds
+pub mod Joins
+pub mod JoinParts
+pub mod Following
+pub mod Framed
+pub mod Feedings

@@ -1,0 +1,16 @@
+use Rattle.std.proofs.Common.{ap, arith}
+use Rattle.giop_frames.specs.Feeds.{Feed}
+use Rattle.giop_frames.proofs.Framed.{kept_bound, kept_fits}
+use Rattle.giop_frames.proofs.framer.Framer.kept.Goals as goal
+
+pub kept-requires : goal.kept-requires
+kept-requires c = kept_fits c.self.inside.fault c.self.inside.limit c.self.inside.fed.items c.self.inside.joiner c.self.inside.left c.self.invariant
+
+pub returns-clause-bound : goal.returns-clause-bound
+returns-clause-bound c =
+    omega (
+      arith,
+      kept_bound c.self.inside.fault c.self.inside.limit c.self.inside.fed.items c.self.inside.joiner c.self.inside.left c.self.invariant,
+      c.kept.ensures,
+      ap (λ (y : Feed). y.limit) c.self.view_is,
+    )

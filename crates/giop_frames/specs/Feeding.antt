@@ -1,0 +1,38 @@
+-- What a framer keeps between two feeds, by what its stream says of further bytes.
+use Rattle.std.specs.Prelude.{ℕ, ◌≡◌, ◌+◌, Bool, true, false, List, ◌++◌, Option, Some, None, length}
+use Rattle.giop_frames.specs.declared.fault.FrameFault.{FrameFault}
+use Rattle.giop_frames.specs.declared.fault.FeedFault.{FeedFault}
+use Rattle.giop_frames.specs.declared.fault.FeedFault.TheVariants.{Frame, NoMemory}
+use Rattle.giop_frames.specs.Stream.{stream, with_front}
+use Rattle.giop_frames.specs.Running.{State, says}
+use Rattle.giop_frames.specs.Bounds.{kept_bytes}
+use Rattle.giop_frames.specs.Joining.{IsResting}
+
+-- what the stream says of further bytes, the machine says of them behind the messages so far
+pub record Follows (limit : ℕ) (fed : List ℕ) (s : State) : Type 0 where
+  pub on : (more : List ℕ) → stream limit (fed ++ more) ≡ with_front (stream limit fed).messages (says s more)
+  pub resting : IsResting s
+  pub limit_is : s.limit ≡ limit
+  pub place : s.at + length s.tail ≡ length fed
+
+-- the stream has its fault, and says nothing of further bytes
+pub record Ended (limit : ℕ) (fed : List ℕ) (left : Option ℕ) (f : FrameFault) : Type 0 where
+  pub on : (more : List ℕ) → stream limit (fed ++ more) ≡ stream limit fed
+  pub bad : (stream limit fed).bad ≡ Some f
+  pub rest : (stream limit fed).rest ≡ left
+
+abbrev pub IsFramed : ℕ → List ℕ → State → Option ℕ → Option FeedFault → Type 0
+IsFramed limit fed s left None = Follows limit fed s
+IsFramed limit fed s left (Some (Frame f)) = Ended limit fed left f
+IsFramed limit fed s left (Some NoMemory) = Unit {0}
+
+-- behind a fault nothing is kept
+abbrev pub IsEmptied : State → Option FeedFault → Type 0
+IsEmptied s None = Unit {0}
+IsEmptied s (Some fault) = kept_bytes s ≡ 0
+
+-- memory was wanting
+abbrev pub lacks : Option FeedFault → Bool
+lacks None = false
+lacks (Some (Frame f)) = false
+lacks (Some NoMemory) = true

@@ -1,0 +1,9 @@
+pub mod Pieces
+pub mod Messages
+pub mod Stream
+pub mod Feeds
+pub mod Running
+pub mod Steps
+pub mod Bounds
+pub mod Joining
+pub mod Feeding

@@ -1,0 +1,38 @@
+-- The same stream, said by the unfinished messages in the place of the earlier pieces.
+use Rattle.std.specs.Prelude.{ℕ, not, List, [], ◌∷◌, ◌++◌, length, map, filter, if◌then◌else◌}
+use Rattle.giop_frames.specs.Pieces.{Piece, Cut, cut}
+use Rattle.giop_frames.specs.Messages.{Partial, opens, continues, ends, added, begun}
+use Rattle.giop_frames.specs.Stream.{Said, at_end, or_stopped, tail_cause, cause_of}
+
+-- an unfinished message behind a piece that doesn't end it
+abbrev pub grown : Piece → Partial → Partial
+grown p u = if continues u.id p.bytes then record u { bytes = u.bytes ++ added p } else u
+
+abbrev pub opened : Piece → List Partial
+opened p = if opens p.bytes then begun p [] ∷ [] else []
+
+-- the unfinished messages behind one more piece
+unfoldable pub stepped : Piece → List Partial → List Partial
+stepped p us = map (grown p) (filter (λ u. not (ends u.id p.bytes)) us) ++ opened p
+
+unfoldable pub run : ℕ → List Partial → List Piece → Piece → Said
+run limit us [] tail = at_end us tail (tail_cause limit tail.bytes)
+run limit us (p ∷ later) tail = or_stopped us p (cause_of limit us p) (run limit (stepped p us) later tail)
+
+abbrev pub run_cut : ℕ → List Partial → Cut → Said
+run_cut limit us c = run limit us c.whole c.tail
+
+-- what bytes from an offset on say behind these unfinished messages
+unfoldable pub ahead : ℕ → List Partial → ℕ → List ℕ → Said
+ahead limit us at bytes = run_cut limit us (cut (length bytes) at bytes)
+
+-- a framer between two reads: its limit, the offset of what has come of the next piece, that, and the unfinished messages
+pub record State : Type 0 where
+  pub limit : ℕ
+  pub at : ℕ
+  pub tail : List ℕ
+  pub partials : List Partial
+
+-- what it says of further bytes
+abbrev pub says : State → List ℕ → Said
+says s more = ahead s.limit s.partials s.at (s.tail ++ more)

@@ -1,0 +1,121 @@
+-- What a stream of bytes means, however it was cut: CORBA 3.0.3, section 15.4. The causes, their order and the limits are
+-- own profile, but for the rule on multiples of 8, which is that of GIOP 1.2.
+use Rattle.std.specs.Prelude.{ℕ, ◌+◌, ◌-◌, ◌%◌, ◌==◌, ◌&&◌, ◌||◌, not, Bool, true, false, List, [], ◌∷◌, ◌++◌, Option, Some, None, length, nat_le, nat_lt, slice_index, option_to_list, is_some, if◌then◌else◌}
+use Rattle.orb_base.specs.declared.order.Order.{Order}
+use Rattle.orb_base.specs.declared.order.Order.TheVariants.{Big, Little}
+use Rattle.giop_frames.specs.declared.fault.FrameCause.{FrameCause}
+use Rattle.giop_frames.specs.declared.fault.FrameCause.TheVariants.{BadMagic, BadVersion, BadType, TooLong, BadPiece, TooManyPartials}
+use Rattle.giop_frames.specs.declared.fault.FrameFault.{FrameFault}
+use Rattle.giop_frames.specs.Pieces.{Piece, Cut, order_of, has_more, kind_of, piece_len, id_of, cut}
+use Rattle.giop_frames.specs.Messages.{Partial, Message, is_fragment, open_at, unfinished, completed}
+
+-- the bytes begin with "GIOP"
+unfoldable pub has_magic : List ℕ → Bool
+has_magic bytes = (slice_index bytes 0 == 71) && ((slice_index bytes 1 == 73) && ((slice_index bytes 2 == 79) && (slice_index bytes 3 == 80)))
+
+-- the version is 1.2
+unfoldable pub has_version : List ℕ → Bool
+has_version bytes = (slice_index bytes 4 == 1) && (slice_index bytes 5 == 2)
+
+-- the first rule that a header breaks
+unfoldable pub header_cause : ℕ → List ℕ → Option FrameCause
+header_cause limit bytes =
+    if not (has_magic bytes) then Some BadMagic
+    else if not (has_version bytes) then Some BadVersion
+    else if nat_lt 7 (kind_of bytes) then Some BadType
+    else if nat_lt limit (piece_len bytes) then Some TooLong
+    else None
+
+-- CancelRequest, CloseConnection and MessageError come in one piece
+unfoldable pub is_short_kind : ℕ → Bool
+is_short_kind kind = (kind == 2) || ((kind == 5) || (kind == 6))
+
+unfoldable pub same_order : Order → Order → Bool
+same_order Big Big = true
+same_order Little Little = true
+same_order Big Little = false
+same_order Little Big = false
+
+-- the rule that a Fragment breaks, by the unfinished message of its id
+unfoldable pub fragment_cause : ℕ → List ℕ → Option Partial → Option FrameCause
+fragment_cause limit bytes None = Some BadPiece
+fragment_cause limit bytes (Some u) =
+    if not (same_order u.order (order_of bytes)) then Some BadPiece
+    else if nat_lt limit (length u.bytes + (length bytes - 16)) then Some TooLong
+    else None
+
+-- the rule that a first piece breaks: its id is open, or 16 messages are unfinished
+unfoldable pub first_cause : List Partial → List ℕ → Option FrameCause
+first_cause us bytes =
+    if is_some (open_at (id_of bytes) us) then Some BadPiece
+    else if nat_le 16 (length us) then Some TooManyPartials
+    else None
+
+-- the first rule that a whole piece breaks behind these unfinished messages
+unfoldable pub piece_cause : ℕ → List Partial → List ℕ → Option FrameCause
+piece_cause limit us bytes =
+    if has_more bytes && is_short_kind (kind_of bytes) then Some BadPiece
+    else if has_more bytes && not (length bytes % 8 == 0) then Some BadPiece
+    else if is_fragment bytes then (if nat_lt (length bytes) 16 then Some BadPiece else fragment_cause limit bytes (open_at (id_of bytes) us))
+    else if has_more bytes then first_cause us bytes
+    else None
+
+-- the first, or else the second
+abbrev pub or_else : Option FrameCause → Option FrameCause → Option FrameCause
+or_else None second = second
+or_else (Some cause) second = Some cause
+
+abbrev pub cause_of : ℕ → List Partial → Piece → Option FrameCause
+cause_of limit us p = or_else (header_cause limit p.bytes) (piece_cause limit us p.bytes)
+
+-- a header is judged once its 12 bytes are there
+abbrev pub tail_cause : ℕ → List ℕ → Option FrameCause
+tail_cause limit tail = if nat_le 12 (length tail) then header_cause limit tail else None
+
+-- what a stream says: its messages in the order of their last pieces, the offset at which an unfinished message begins,
+-- and the first fault
+pub record Said : Type 0 where
+  pub messages : List Message
+  pub rest : Option ℕ
+  pub bad : Option FrameFault
+
+abbrev pub with_front : List Message → Said → Said
+with_front front said = record { messages = front ++ said.messages; rest = said.rest; bad = said.bad }
+
+-- the offset of the first of the unfinished messages, which stand in the order of their first pieces
+unfoldable pub rest_of : List Partial → Option ℕ
+rest_of [] = None
+rest_of (u ∷ us) = Some u.at
+
+-- the offset of what has come of the next piece, if anything has
+unfoldable pub tail_rest : Piece → Option ℕ
+tail_rest tail = if length tail.bytes == 0 then None else Some tail.at
+
+unfoldable pub rest_with : List Partial → Piece → Option ℕ
+rest_with [] tail = tail_rest tail
+rest_with (u ∷ us) tail = Some u.at
+
+-- a stream that stops at a fault: what has come behind it doesn't count
+abbrev pub stopped : List Partial → ℕ → FrameCause → Said
+stopped us at cause = record { messages = []; rest = rest_of us; bad = Some (record { cause = cause; offset = at }) }
+
+abbrev pub at_end : List Partial → Piece → Option FrameCause → Said
+at_end us tail (Some cause) = stopped us tail.at cause
+at_end us tail None = record { messages = []; rest = rest_with us tail; bad = None }
+
+abbrev pub or_stopped : List Partial → Piece → Option FrameCause → Said → Said
+or_stopped us p (Some cause) said = stopped us p.at cause
+or_stopped us p None said = with_front (option_to_list (completed us p)) said
+
+-- what pieces and a tail say behind the earlier pieces: the first piece that breaks a rule stops the stream
+unfoldable pub said_behind : ℕ → List Piece → List Piece → Piece → Said
+said_behind limit earlier [] tail = at_end (unfinished earlier) tail (tail_cause limit tail.bytes)
+said_behind limit earlier (p ∷ later) tail =
+    or_stopped (unfinished earlier) p (cause_of limit (unfinished earlier) p) (said_behind limit (earlier ++ p ∷ []) later tail)
+
+abbrev pub said_of : ℕ → Cut → Said
+said_of limit c = said_behind limit [] c.whole c.tail
+
+-- the meaning of a stream of bytes under a limit on the length of a message
+unfoldable pub stream : ℕ → List ℕ → Said
+stream limit bytes = said_of limit (cut (length bytes) 0 bytes)

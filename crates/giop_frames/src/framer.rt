@@ -1,0 +1,108 @@
+//! The stream of a connection's bytes, fed in any pieces.
+ghost use Rattle.std.specs.Prelude.{◌≡◌, ◌≤◌, ◌<◌, ◌+◌, ◌*◌, ◌^◌, [], ◌++◌, length, false, IfOk};
+ghost use Rattle.giop_frames.specs.Feeds.{said, Tells};
+
+use crate::fault::FeedFault;
+use crate::joiner::Joiner;
+use crate::told::Told;
+use crate::whole::Whole;
+use orb_base::{List, NoMemory};
+use std::alloc::Global;
+use std::marker::Model;
+
+/// Takes the bytes of a connection in whatever pieces they come, and gives its whole messages, with the fragments of GIOP
+/// 1.2 joined, or its first fault (CORBA 3.0.3, section 15.4).
+///
+/// It keeps what has come of the next piece, which is less than its limit, and at most 16 unfinished messages, each within
+/// the limit. Buffers grow as bytes come: a header alone makes it take no memory for what the header counts. Work for each
+/// byte is constant, whatever the cutting; a byte is copied once into its piece, and once more where a Fragment is joined.
+#[derive(Drop)]
+pub struct Framer {
+    limit: usize,
+    joiner: Joiner,
+    fault: Option<FeedFault>,
+    left: Option<u64>,
+    fed: Told<u8>,
+}
+
+impl Model for Framer {
+    ghost use Rattle.giop_frames.specs.Feeds.{Feed};
+
+    ghost Value = { Feed };
+
+    ghost use Rattle.giop_frames.specs.Feeding.{IsFramed, IsEmptied, lacks};
+    ghost use Rattle.giop_frames.specs.Bounds.{kept_bytes};
+
+    ghost invariant = { λ f. IsFramed f.limit f.fed.items f.joiner f.left f.fault × IsEmptied f.joiner f.fault };
+
+    ghost view = { λ f. record {
+      limit = f.limit;
+      fed = f.fed.items;
+      lacked = lacks f.fault;
+      kept = kept_bytes f.joiner;
+    } };
+}
+
+impl Framer {
+    /// A framer at the begin of a stream, under a limit in bytes on a piece and on a joined message. Takes memory for the
+    /// list of unfinished messages.
+    pub fn new(alloc: Global, limit: usize) -> Result<Framer, NoMemory>
+        requires least { 16 ≤ limit }
+        requires most { limit ≤ 262144 }
+        ensures { IfOk result (λ f. f ≡ record { limit = limit; fed = []; lacked = false; kept = 0 }) }
+    {
+        Ok(Framer {
+            limit,
+            joiner: Joiner::new(alloc, limit)?,
+            fault: None,
+            left: None,
+            fed: Told::new(),
+        })
+    }
+
+    /// Takes the next bytes of the stream, and appends the messages that they complete, in the order of their last pieces.
+    ///
+    /// A fault of the stream is told as soon as it is there, that of a header once its 12 bytes are: the messages before it
+    /// are appended, and from then on every feed answers it and appends nothing. After want of memory, which may leave
+    /// out messages, every feed answers that and appends nothing. Both give back the memory of what was kept.
+    pub fn feed(&mut self, piece: &[u8], whole: &mut List<Whole>) -> Result<(), FeedFault>
+        requires { length self.old.fed + length piece.now < 2 ^ 64 }
+        ensures fed { (self.new.limit ≡ self.old.limit) × (self.new.fed ≡ self.old.fed ++ piece.now) }
+        ensures tells { Tells result self.old self.new whole.old.items whole.new.items }
+        ensures kept { self.new.kept ≤ 17 * self.new.limit }
+    {
+        self.fed = self.fed.and(piece);
+        match self.fault {
+            Some(fault) => Err(fault),
+            None => match self.joiner.read(piece, whole) {
+                Ok(()) => Ok(()),
+                Err(fault) => {
+                    self.left = self.joiner.oldest();
+                    self.joiner.clear();
+                    self.fault = Some(fault);
+                    Err(fault)
+                }
+            },
+        }
+    }
+
+    /// The smallest offset at which an unfinished message or piece begins, from the first byte of the stream. After a fault
+    /// only the unfinished messages before it count.
+    pub fn rest(&self) -> Option<u64>
+        ensures { self.now.lacked ≡ false → result ≡ (said self.now).rest }
+    {
+        match self.fault {
+            Some(_) => self.left,
+            None => self.joiner.rest(),
+        }
+    }
+
+    /// How many bytes it keeps: those that have come of the next piece, and those of the unfinished messages. None after a
+    /// fault or want of memory.
+    pub fn kept(&self) -> usize
+        ensures value { result ≡ self.now.kept }
+        ensures bound { result ≤ 17 * self.now.limit }
+    {
+        self.joiner.kept()
+    }
+}

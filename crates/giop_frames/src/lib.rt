@@ -1,0 +1,21 @@
+//! GIOP framing: the messages of a stream of bytes that comes in any pieces (CORBA 3.0.3, section 15.4).
+#![tactic(auto)]
+
+mod fault;
+mod framer;
+mod header;
+mod joiner;
+mod partials;
+mod rules;
+mod stream;
+mod told;
+mod unfinished;
+mod whole;
+
+pub use fault::{FeedFault, FrameCause, FrameFault};
+pub use framer::Framer;
+pub use stream::read_stream;
+pub use whole::Whole;
+
+#[cfg(test)]
+mod tests;

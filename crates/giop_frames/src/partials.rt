@@ -1,0 +1,203 @@
+//! What a whole piece does to the unfinished messages.
+ghost use Rattle.std.specs.Prelude.{◌≡◌, ◌≤◌, ◌<◌, ◌+◌, ◌-◌, ◌^◌, [], ◌∷◌, ◌++◌, length, slice_index, true, false, OnOk, OnErr, IfOk};
+ghost use Rattle.std.specs.Int.{w32};
+ghost use Rattle.cdr_core.specs.Field.{number_bytes};
+ghost use Rattle.giop_frames.specs.Pieces.{has_more as has_more_of};
+ghost use Rattle.giop_frames.specs.Messages.{is_fragment as is_fragment_of, opens, sealed, joined};
+ghost use Rattle.giop_frames.specs.Running.{stepped};
+ghost use Rattle.giop_frames.specs.Steps.{written, IsSound, StepsBy, GrowsAt, Does};
+
+use crate::header::{HEADER, has_more, id_of, is_fragment, kind_of, order_of};
+use crate::unfinished::{Unfinished, place_of};
+use crate::whole::Whole;
+use orb_base::{List, NoMemory, Octets, Order};
+
+fn give(whole: &mut List<Whole>, message: Whole) -> Result<(), NoMemory>
+    ensures ok { OnOk result (whole.new.items ≡ whole.old.items ++ message ∷ []) }
+    ensures err { OnErr result (whole.new.items ≡ whole.old.items) }
+{
+    match whole.push(message) {
+        Ok(()) => Ok(()),
+        Err(_) => Err(NoMemory),
+    }
+}
+
+/// A first piece opens a message. Its bytes are not copied.
+fn begin(partials: &mut Vec<Unfinished>, at: u64, bytes: Octets) -> Result<(), NoMemory>
+    requires sound { IsSound partials.old.items bytes.items }
+    requires first { opens bytes.items ≡ true }
+    ensures { OnOk result (partials.new.items ≡ stepped (record { at = at; bytes = bytes.items }) partials.old.items) }
+{
+    let id = id_of(bytes.as_slice());
+    let order = order_of(bytes.as_slice());
+    partials.push(Unfinished {
+        at,
+        id,
+        order,
+        bytes,
+    })?;
+    Ok(())
+}
+
+fn grow_at(partials: &mut Vec<Unfinished>, i: usize, more: &[u8]) -> Result<(), NoMemory>
+    requires { i < length partials.old.items }
+    ensures { OnOk result (GrowsAt i more.now partials.old.items partials.new.items) }
+{
+    let u = &mut partials[i];
+    u.bytes.append(more)
+}
+
+/// A middle Fragment joins its message: its bytes behind the id are copied once more.
+fn go_on(partials: &mut Vec<Unfinished>, bytes: &[u8]) -> Result<(), NoMemory>
+    requires sound { IsSound partials.old.items bytes.now }
+    requires fragment { is_fragment_of bytes.now ≡ true }
+    requires more { has_more_of bytes.now ≡ true }
+    ensures { OnOk result (StepsBy bytes.now partials.old.items partials.new.items) }
+{
+    match place_of(id_of(bytes), partials.as_slice()) {
+        None => Ok(()),
+        Some(i) => grow_at(partials, i, &bytes[16..]),
+    }
+}
+
+#[tactic(auto, unfolding(cdr_core::specs::Field::number_bytes))]
+fn long_of(order: Order, n: u32) -> [u8; 4]
+    ensures { result ≡ number_bytes order w32 n }
+{
+    match order {
+        Order::Big => n.to_be_bytes(),
+        Order::Little => n.to_le_bytes(),
+    }
+}
+
+/// Clears the fragment bit of a header and writes its size.
+fn write_header(all: &mut [u8], size: [u8; 4])
+    requires { 12 ≤ length all.old }
+    ensures { all.new ≡ written all.old (slice_index all.old 6 - 2) size }
+{
+    all[6] = all[6].saturating_sub(2);
+    all[8] = size[0];
+    all[9] = size[1];
+    all[10] = size[2];
+    all[11] = size[3];
+}
+
+/// The joined bytes with the header of a whole message.
+#[tactic(auto, using(crate::proofs::Sealing::sealed_by))]
+fn seal(order: Order, bytes: Octets) -> Octets
+    requires header { 12 ≤ length bytes.items }
+    requires fits { length bytes.items < 2 ^ 32 }
+    ensures { result.items ≡ sealed order bytes.items }
+{
+    let mut all = bytes.into_vec();
+    let size = long_of(order, (all.len() - HEADER) as u32);
+    write_header(&mut all, size);
+    List::from_vec(all)
+}
+
+/// The message that the last Fragment completes.
+fn join(u: Unfinished, at: u64, bytes: &[u8]) -> Result<Whole, NoMemory>
+    requires long { 16 ≤ length bytes.now }
+    requires fits { length u.bytes + (length bytes.now - 16) < 2 ^ 32 }
+    ensures { IfOk result (λ w. w ≡ joined (record { at = at; bytes = bytes.now }) u) }
+{
+    let order = u.order;
+    let kind = kind_of(u.bytes.as_slice());
+    let mut all = u.bytes;
+    all.append(&bytes[16..])?;
+    Ok(Whole {
+        at,
+        order,
+        kind,
+        bytes: seal(order, all),
+    })
+}
+
+/// The last Fragment completes its message.
+fn end(
+    partials: &mut Vec<Unfinished>,
+    at: u64,
+    bytes: &[u8],
+    whole: &mut List<Whole>,
+) -> Result<(), NoMemory>
+    requires sound { IsSound partials.old.items bytes.now }
+    requires fragment { is_fragment_of bytes.now ≡ true }
+    requires last { has_more_of bytes.now ≡ false }
+    ensures ok { OnOk result (Does (record { at = at; bytes = bytes.now }) partials.old.items partials.new.items whole.old.items whole.new.items) }
+    ensures err { OnErr result (whole.new.items ≡ whole.old.items) }
+{
+    match place_of(id_of(bytes), partials.as_slice()) {
+        None => Ok(()),
+        Some(i) => {
+            let u = partials.remove(i);
+            let message = join(u, at, bytes)?;
+            give(whole, message)
+        }
+    }
+}
+
+/// A CancelRequest drops the unfinished message of its id.
+fn cancel(partials: &mut Vec<Unfinished>, bytes: &[u8])
+    requires sound { IsSound partials.old.items bytes.now }
+    requires other { is_fragment_of bytes.now ≡ false }
+    requires last { has_more_of bytes.now ≡ false }
+    ensures { StepsBy bytes.now partials.old.items partials.new.items }
+{
+    if kind_of(bytes) == 2 && bytes.len() >= 16 {
+        if let Some(i) = place_of(id_of(bytes), partials.as_slice()) {
+            partials.remove(i);
+        }
+    }
+}
+
+/// A message of one piece. Its bytes are not copied.
+fn lone(
+    partials: &mut Vec<Unfinished>,
+    at: u64,
+    bytes: Octets,
+    whole: &mut List<Whole>,
+) -> Result<(), NoMemory>
+    requires sound { IsSound partials.old.items bytes.items }
+    requires other { is_fragment_of bytes.items ≡ false }
+    requires last { has_more_of bytes.items ≡ false }
+    ensures ok { OnOk result (Does (record { at = at; bytes = bytes.items }) partials.old.items partials.new.items whole.old.items whole.new.items) }
+    ensures err { OnErr result (whole.new.items ≡ whole.old.items) }
+{
+    cancel(partials, bytes.as_slice());
+    let order = order_of(bytes.as_slice());
+    let kind = kind_of(bytes.as_slice());
+    give(
+        whole,
+        Whole {
+            at,
+            order,
+            kind,
+            bytes,
+        },
+    )
+}
+
+/// Takes a whole piece that breaks no rule.
+pub(crate) fn take_piece(
+    partials: &mut Vec<Unfinished>,
+    at: u64,
+    bytes: Octets,
+    whole: &mut List<Whole>,
+) -> Result<(), NoMemory>
+    requires { IsSound partials.old.items bytes.items }
+    ensures ok { OnOk result (Does (record { at = at; bytes = bytes.items }) partials.old.items partials.new.items whole.old.items whole.new.items) }
+    ensures err { OnErr result (whole.new.items ≡ whole.old.items) }
+{
+    let more = has_more(bytes.as_slice());
+    if is_fragment(bytes.as_slice()) {
+        if more {
+            go_on(partials, bytes.as_slice())
+        } else {
+            end(partials, at, bytes.as_slice(), whole)
+        }
+    } else if more {
+        begin(partials, at, bytes)
+    } else {
+        lone(partials, at, bytes, whole)
+    }
+}
