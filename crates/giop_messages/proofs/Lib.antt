@@ -4,3 +4,4 @@ pub mod PlainLaws
 pub mod ReadingLaws
 pub mod WritingLaws
 pub mod OneReading
+mod PartLoop

@@ -8,3 +8,4 @@ pub mod Reading
 pub mod Exceptions
 pub mod Plain
 pub mod PlainReading
+pub mod MessageReading
