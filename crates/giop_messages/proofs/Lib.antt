@@ -5,3 +5,6 @@ pub mod ReadingLaws
 pub mod WritingLaws
 pub mod OneReading
 mod PartLoop
+mod MessageFound
+mod KindFound
+pub mod WholeFound

@@ -1,9 +1,9 @@
 //! The reading of whole messages.
-ghost use Rattle.std.specs.Prelude.{◌≤◌, length};
-ghost use Rattle.std.specs.Int.{w32};
-ghost use Rattle.cdr_core.specs.Cursor.{cursor};
+ghost use Rattle.std.specs.Prelude.{IfOk};
+ghost use Rattle.cdr_core.specs.Cursor.{AreBytes};
 ghost use Rattle.giop_messages.specs.Message as Spec;
-ghost use Rattle.giop_messages.specs.MessageReading.{IsMessage, Gives, Answers, basic, reserved_at, status_at, asked_at, request_at, reply_at, cancel_at, locate_at, located_at, kind_at, message_at};
+ghost use Rattle.giop_messages.specs.MessageReading.{IsMessage, Gives, Answers, reserved_at, status_at, asked_at, request_at, reply_at, cancel_at, locate_at, located_at, kind_at, message_at};
+ghost use Rattle.giop_messages.specs.Reading.{Reads};
 ghost use Rattle.giop_messages.specs.TargetView.{target_of};
 ghost use Rattle.giop_messages.specs.Views.{message_of};
 
@@ -126,7 +126,8 @@ fn of_kind(
     bytes: &[u8],
     reader: &mut Reader<'_>,
 ) -> Result<Message, MessageFault>
-    ensures { Answers message_of result (kind_at kind bytes.now reader.old) }
+    ensures exact { Answers message_of result (kind_at kind bytes.now reader.old) }
+    ensures octets { AreBytes bytes.now }
 {
     match kind {
         0 => Ok(Message::Request(request(alloc, bytes, reader)?)),
@@ -139,16 +140,28 @@ fn of_kind(
     }
 }
 
-/// Reads a whole message, in either order. Pads and reserved octets may have any content, and bytes behind the named
-/// fields of a kind without a body are ignored: CORBA 3.0.3, section 15.4. Refuses the first fault from left to right.
-/// One pass over the bytes, each of which is copied at most once.
+/// Takes what stands behind the header.
 #[tactic(auto, unfolding(crate::specs::MessageReading::message_at))]
-pub fn read_message(alloc: Global, whole: &Whole) -> Result<Message, MessageFault>
+fn behind_header(alloc: Global, whole: &Whole) -> Result<Message, MessageFault>
     requires { IsMessage whole.now }
-    // The message, or which fault it is.
     ensures exact { Answers message_of result (message_at whole.now) }
+    ensures octets { AreBytes whole.now.bytes }
 {
     let bytes = whole.bytes.as_slice();
     let mut reader = Reader::new(whole.order, 12, &bytes[12..]);
     of_kind(alloc, whole.kind, bytes, &mut reader)
+}
+
+/// Reads a whole message, in either order. Pads and reserved octets may have any content, and bytes behind the named
+/// fields of a kind without a body are ignored: CORBA 3.0.3, section 15.4. Refuses the first fault from left to right.
+/// One pass over the bytes, each of which is copied at most once.
+#[tactic(auto, using(crate::proofs::WholeFound::found_so))]
+pub fn read_message(alloc: Global, whole: &Whole) -> Result<Message, MessageFault>
+    requires { IsMessage whole.now }
+    // The message, or which fault it is.
+    ensures exact { Answers message_of result (message_at whole.now) }
+    // What is read is what the bytes mean.
+    ensures found { IfOk result (λ m. Reads (message_of m) whole.now.bytes) }
+{
+    behind_header(alloc, whole)
 }
