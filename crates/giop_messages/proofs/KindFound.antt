@@ -112,7 +112,7 @@ record Reserved (c d : Cursor) : Type 0 where
   pub three : length octets ≡ 3
   pub passed : Passed c d (run 1 octets ∷ [])
 
-no_pad : (place : ℕ) → pad_len 1 place ≡ 0
+pub no_pad : (place : ℕ) → pad_len 1 place ≡ 0
 no_pad place = omega arith
 
 reserved_found : (c : Cursor) (x : ℕ × Cursor) → AreBytes c.rest → reserved_at c ≡ Ok x → Reserved c x.1

@@ -8,3 +8,5 @@ mod PartLoop
 mod MessageFound
 mod KindFound
 pub mod WholeFound
+mod PartsAgain
+pub mod WholeAgain

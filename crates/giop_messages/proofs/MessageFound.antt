@@ -21,7 +21,7 @@ pub bind_ok : {A B : Type 0} (r : Result A MessageFault) (f : A → Result B Mes
 bind_ok (Ok x) f y e = (x, refl, e)
 bind_ok (Err d) f y e = absurd cc
 
-abbrev done : {A : Type 0} → A → Result A MessageFault
+abbrev pub done : {A : Type 0} → A → Result A MessageFault
 done x = Ok x
 
 pub ok_is : {A : Type 0} (x y : A) → done x ≡ done y → x ≡ y

@@ -72,7 +72,7 @@ behind_header w i =
     ap (drop 12) i.parts ∙ drop_at front i.behind 12 (header_len w.order i.flags w.kind (length i.behind))
 
 -- what stands behind the named fields
-rest_is : (w : Frames.Message) (i : IsMessage w) (named rest : List ℕ) → i.behind ≡ named ++ rest → drop (12 + length named) w.bytes ≡ rest
+pub rest_is : (w : Frames.Message) (i : IsMessage w) (named rest : List ℕ) → i.behind ≡ named ++ rest → drop (12 + length named) w.bytes ≡ rest
 rest_is w i named rest e =
     let front = header w.order i.flags w.kind (length i.behind) in
     let parts : w.bytes ≡ (front ++ named) ++ rest = i.parts ∙ ap (λ (x : List ℕ). front ++ x) e ∙ sym (append_assoc front named rest) in

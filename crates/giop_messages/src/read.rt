@@ -162,6 +162,8 @@ pub fn read_message(alloc: Global, whole: &Whole) -> Result<Message, MessageFaul
     ensures exact { Answers message_of result (message_at whole.now) }
     // What is read is what the bytes mean.
     ensures found { IfOk result (λ m. Reads (message_of m) whole.now.bytes) }
+    // What the bytes mean is read, unless memory is wanting.
+    ensures only { (m : Spec.Message) → Reads m whole.now.bytes → Answers message_of result (Ok m) }
 {
     behind_header(alloc, whole)
 }
