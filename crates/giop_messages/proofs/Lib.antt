@@ -7,3 +7,9 @@ pub mod OneReading
 pub mod Pieces
 pub mod LengthLaws
 pub mod PutLaws
+mod PartLoop
+mod MessageFound
+mod KindFound
+pub mod WholeFound
+mod PartsAgain
+pub mod WholeAgain

@@ -247,19 +247,19 @@ message_one order m n bytes p q kinds all = absurd (omega (arith, kinds))
 -- ---- headers
 
 -- what one header says
-record Heads (o z : Order) (f g k l s r : ℕ) (x y : List ℕ) : Type 0 where
+pub record Heads (o z : Order) (f g k l s r : ℕ) (x y : List ℕ) : Type 0 where
   pub flags : f ≡ g
   pub kinds : k ≡ l
   pub sized : number_bytes o w32 s ++ x ≡ number_bytes z w32 r ++ y
 
-heads : (o z : Order) (f g k l s r : ℕ) (x y : List ℕ) → header o f k s ++ x ≡ header z g l r ++ y → Heads o z f g k l s r x y
+pub heads : (o z : Order) (f g k l s r : ℕ) (x y : List ℕ) → header o f k s ++ x ≡ header z g l r ++ y → Heads o z f g k l s r x y
 heads o z f g k l s r x y e = record { flags = cc; kinds = cc; sized = cc }
 
-behind_heads : (o z : Order) (s r : ℕ) (x y : List ℕ) → number_bytes o w32 s ++ x ≡ number_bytes z w32 r ++ y → x ≡ y
+pub behind_heads : (o z : Order) (s r : ℕ) (x y : List ℕ) → number_bytes o w32 s ++ x ≡ number_bytes z w32 r ++ y → x ≡ y
 behind_heads o z s r x y e =
     sym (drop_at (number_bytes o w32 s) x 4 (length-number_bytes o w32 s)) ∙ ap (drop 4) e ∙ drop_at (number_bytes z w32 r) y 4 (length-number_bytes z w32 r)
 
-flag_order : (o z : Order) → order_flag o ≡ order_flag z → o ≡ z
+pub flag_order : (o z : Order) → order_flag o ≡ order_flag z → o ≡ z
 flag_order Big Big e = refl
 flag_order Little Little e = refl
 flag_order o z e = absurd (omega (arith, e))

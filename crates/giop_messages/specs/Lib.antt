@@ -10,3 +10,4 @@ pub mod Reading
 pub mod Exceptions
 pub mod Plain
 pub mod PlainReading
+pub mod MessageReading

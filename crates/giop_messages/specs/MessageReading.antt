@@ -1,0 +1,213 @@
+-- The reading of a message from left to right, with the first fault that is met: CORBA 3.0.3, section 15.4. The causes and
+-- their order are own profile.
+use Rattle.std.specs.Prelude.{◌≡◌, ◌-◌, ◌/◌, ◌%◌, ◌^◌, ◌<◌, ◌≤◌, ℕ, zero, suc, List, [], ◌∷◌, ◌++◌, length, drop, Result, Ok, Err, nat_lt, ◌==◌, if◌then◌else◌}
+use Rattle.std.specs.Int.{w8, w16, w32}
+use Rattle.orb_base.specs.declared.order.Order.{Order}
+use Rattle.cdr_core.specs.declared.fault.CdrFault.{CdrFault}
+use Rattle.cdr_core.specs.Alignment.{pad_len}
+use Rattle.cdr_core.specs.Cursor as Cdr
+use Rattle.cdr_core.specs.Cursor.{Cursor, cursor}
+use Rattle.cdr_core.specs.Reading.{number_at, count_at, octets_at, string_at}
+use Rattle.giop_frames.specs.Messages as Frames
+use Rattle.giop_messages.specs.declared.message_fault.MessageFault.{MessageFault}
+use Rattle.giop_messages.specs.declared.message_fault.MessageFault.TheVariants as faults
+use Rattle.giop_messages.specs.Message.{Context, Tagged, Target, key, profile, addressing, Request, Reply, Locate, Located, Message, request, reply, cancel, locate, located, close, error}
+use Rattle.giop_messages.specs.Layout.{header, order_flag}
+
+-- one unfragmented message, as a framer gives it
+pub record IsMessage (m : Frames.Message) : Type 0 where
+  pub flags : ℕ
+  pub behind : List ℕ
+  pub octet : flags < 2 ^ 8
+  pub order_bit : flags % 2 ≡ order_flag m.order
+  pub unfragmented : flags / 2 % 2 ≡ 0
+  pub few_kinds : m.kind ≤ 6
+  pub long : 12 ≤ length m.bytes
+  pub short : length m.bytes ≤ 262144
+  pub parts : m.bytes ≡ header m.order flags m.kind (length behind) ++ behind
+
+-- a value and the cursor behind it, or the first fault
+abbrev pub Parsed : Type 0 → Type 0
+Parsed A = Result (A × Cursor) MessageFault
+
+infixl 10 ◌>>=◌
+-- one reading behind another; the first fault ends both
+abbrev pub ◌>>=◌ : {A B : Type 0} → Result A MessageFault → (A → Result B MessageFault) → Result B MessageFault
+(Ok x) >>= f = f x
+(Err e) >>= f = Err e
+
+-- a reading of a basic type
+abbrev pub basic : {A : Type 0} → Cdr.Reads A → Parsed A
+basic (Ok x) = Ok x
+basic (Err f) = Err (faults.Cdr f)
+
+-- the fault of the reading, unless memory was wanting
+abbrev pub Fails : {Y : Type 0} → MessageFault → Result Y MessageFault → Type 0
+Fails (faults.Cdr f) reading = reading ≡ Err (faults.Cdr f)
+Fails (faults.BadTarget place) reading = reading ≡ Err (faults.BadTarget place)
+Fails (faults.BadStatus place) reading = reading ≡ Err (faults.BadStatus place)
+Fails faults.NoMemory reading = Unit {0}
+
+-- what a call answers, seen by the view, and the cursor behind it are what the reading gives, unless memory was wanting
+abbrev pub Gives : {X Y : Type 0} → (X → Y) → Result X MessageFault → Cursor → Parsed Y → Type 0
+Gives view (Ok x) new reading = reading ≡ Ok (view x, new)
+Gives view (Err e) new reading = Fails e reading
+
+-- the same without a cursor
+abbrev pub Answers : {X Y : Type 0} → (X → Y) → Result X MessageFault → Result Y MessageFault → Type 0
+Answers view (Ok x) reading = reading ≡ Ok (view x)
+Answers view (Err e) reading = Fails e reading
+
+-- so many, one behind the other
+unfoldable pub times : {A : Type 0} → (Cursor → Parsed A) → ℕ → Cursor → Parsed (List A)
+times one zero c = Ok ([], c)
+times one (suc n) c = do
+  first ← one c
+  others ← times one n first.1
+  Ok (first.0 ∷ others.0, others.1)
+
+-- tagged data: its tag and its bytes
+unfoldable pub tagged_at : Cursor → Parsed Tagged
+tagged_at c = do
+  tag ← basic (number_at w32 c)
+  bytes ← basic (octets_at tag.1)
+  Ok (record { tag = tag.0; bytes = bytes.0 }, bytes.1)
+
+-- profiles behind their number
+unfoldable pub profiles_at : Cursor → Parsed (List Tagged)
+profiles_at c = do
+  count ← basic (count_at c)
+  times tagged_at count.0 count.1
+
+-- a service context: its id and its bytes
+unfoldable pub context_at : Cursor → Parsed Context
+context_at c = do
+  id ← basic (number_at w32 c)
+  bytes ← basic (octets_at id.1)
+  Ok (record { id = id.0; bytes = bytes.0 }, bytes.1)
+
+-- service contexts behind their number
+unfoldable pub contexts_at : Cursor → Parsed (List Context)
+contexts_at c = do
+  count ← basic (count_at c)
+  times context_at count.0 count.1
+
+-- a key
+unfoldable pub key_at : Cursor → Parsed Target
+key_at c = do
+  bytes ← basic (octets_at c)
+  Ok (key bytes.0, bytes.1)
+
+-- a profile
+unfoldable pub profile_at : Cursor → Parsed Target
+profile_at c = do
+  tagged ← tagged_at c
+  Ok (profile tagged.0, tagged.1)
+
+-- a reference of which one profile is meant
+unfoldable pub addressing_at : Cursor → Parsed Target
+addressing_at c = do
+  index ← basic (number_at w32 c)
+  type_id ← basic (string_at index.1)
+  profiles ← profiles_at type_id.1
+  Ok (addressing index.0 type_id.0 profiles.0, profiles.1)
+
+-- the target of a form that stood at the place
+unfoldable pub form_at : ℕ → ℕ → Cursor → Parsed Target
+form_at place form c =
+    if form == 0 then key_at c else if form == 1 then profile_at c else if form == 2 then addressing_at c else Err (faults.BadTarget place)
+
+-- a target: its form of two bytes, and what the form says
+unfoldable pub target_at : Cursor → Parsed Target
+target_at c = do
+  form ← basic (number_at w16 c)
+  form_at (form.1.place - 2) form.0 form.1
+
+-- three reserved octets, of any content
+unfoldable pub reserved_at : Cursor → Parsed ℕ
+reserved_at c = do
+  first ← basic (number_at w8 c)
+  second ← basic (number_at w8 first.1)
+  basic (number_at w8 second.1)
+
+-- the status of a reply, of four bytes
+unfoldable pub status_at : Cursor → Parsed ℕ
+status_at c = do
+  status ← basic (number_at w32 c)
+  if nat_lt 5 status.0 then Err (faults.BadStatus (status.1.place - 4)) else Ok status
+
+-- the body is what stands from the next multiple of 8 on behind the place
+abbrev pub body_from : ℕ → List ℕ → List ℕ
+body_from place bytes = drop (pad_len 8 place) (drop place bytes)
+
+-- the id, the response flags and the target of a request
+unfoldable pub asked_at : Cursor → Parsed (ℕ × ℕ × Target)
+asked_at c = do
+  id ← basic (number_at w32 c)
+  flags ← basic (number_at w8 id.1)
+  reserved ← reserved_at flags.1
+  target ← target_at reserved.1
+  Ok ((id.0, flags.0, target.0), target.1)
+
+-- a request within the bytes of its message
+unfoldable pub request_at : List ℕ → Cursor → Result Request MessageFault
+request_at bytes c = do
+  asked ← asked_at c
+  operation ← basic (string_at asked.1)
+  contexts ← contexts_at operation.1
+  Ok (record {
+    id = asked.0.0;
+    flags = asked.0.1;
+    target = asked.0.2;
+    operation = operation.0;
+    contexts = contexts.0;
+    body = body_from contexts.1.place bytes;
+  })
+
+-- a reply within the bytes of its message
+unfoldable pub reply_at : List ℕ → Cursor → Result Reply MessageFault
+reply_at bytes c = do
+  id ← basic (number_at w32 c)
+  status ← status_at id.1
+  contexts ← contexts_at status.1
+  Ok (record { id = id.0; status = status.0; contexts = contexts.0; body = body_from contexts.1.place bytes })
+
+-- a question where an object is
+unfoldable pub locate_at : Cursor → Result Locate MessageFault
+locate_at c = do
+  id ← basic (number_at w32 c)
+  target ← target_at id.1
+  Ok (record { id = id.0; target = target.0 })
+
+-- its answer
+unfoldable pub located_at : Cursor → Result Located MessageFault
+located_at c = do
+  id ← basic (number_at w32 c)
+  status ← basic (number_at w32 id.1)
+  Ok (record { id = id.0; status = status.0 })
+
+-- the id of a request that is given up
+unfoldable pub cancel_at : Cursor → Result ℕ MessageFault
+cancel_at c = do
+  id ← basic (number_at w32 c)
+  Ok id.0
+
+-- a value as a message
+abbrev pub as_message : {A : Type 0} → (A → Message) → Result A MessageFault → Result Message MessageFault
+as_message of (Ok x) = Ok (of x)
+as_message of (Err e) = Err e
+
+-- a message of a kind up to 6 that begins at the cursor, within its bytes
+unfoldable pub kind_at : ℕ → List ℕ → Cursor → Result Message MessageFault
+kind_at kind bytes c =
+    if kind == 0 then as_message request (request_at bytes c)
+    else if kind == 1 then as_message reply (reply_at bytes c)
+    else if kind == 2 then as_message cancel (cancel_at c)
+    else if kind == 3 then as_message locate (locate_at c)
+    else if kind == 4 then as_message located (located_at c)
+    else if kind == 5 then Ok close
+    else Ok error
+
+-- what stands behind the header of 12 bytes
+unfoldable pub message_at : Frames.Message → Result Message MessageFault
+message_at m = kind_at m.kind m.bytes (cursor m.order 12 (drop 12 m.bytes))
