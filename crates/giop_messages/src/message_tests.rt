@@ -131,67 +131,113 @@ fn locate(target: Target) -> Message
     Message::Locate(Locate { id: 5, target })
 }
 
-#[test]
-fn writes_requests(rt: HostRuntime) -> Result<(), Fail> {
-    let alloc = rt.alloc();
-    let ping = request(alloc, b"ping", b"current", List::new(alloc), b"")?;
-    assert!(rt; spells(alloc, Order::Big, &ping, PING));
-    let sent = contexts(alloc, 10, &[1, 0, 7, 0])?;
-    let little = request(alloc, b"ping", b"current", sent, b"")?;
-    assert!(rt; spells(alloc, Order::Little, &little, LITTLE_PING));
-    let ends = contexts(alloc, 11, &[0, 0, 0, 100, 0, 200])?;
-    let bind = request(alloc, b"ping", b"_bind_priority_band", ends, b"")?;
-    assert!(rt; spells(alloc, Order::Big, &bind, BIND));
-    let twice = request(alloc, b"v", b"twice", List::new(alloc), &[0, 0, 0, 21])?;
-    assert!(rt; spells(alloc, Order::Big, &twice, TWICE));
+/// Bytes in a list of profiles, behind those that stand there.
+fn add(alloc: Global, profiles: &mut List<Tagged>, tag: u32, bytes: &[u8]) -> Result<(), Fail> {
+    let bytes = octets(alloc, bytes)?;
+    profiles
+        .push(Tagged { tag, bytes })
+        .ok()
+        .ok_or("memory is left")?;
     Ok(())
 }
 
-#[test]
-fn writes_replies(rt: HostRuntime) -> Result<(), Fail> {
-    let alloc = rt.alloc();
-    assert!(rt; spells(alloc, Order::Big, &reply(alloc, &[0, 100])?, SHORT_REPLY));
-    assert!(rt; spells(alloc, Order::Little, &reply(alloc, &[7, 0])?, LITTLE_REPLY));
-    Ok(())
-}
-
-#[test]
-fn writes_each_form_of_target(rt: HostRuntime) -> Result<(), Fail> {
-    let alloc = rt.alloc();
-    let key = locate(Target::Key(octets(alloc, b"ping")?));
-    assert!(rt; spells(alloc, Order::Big, &key, BY_KEY));
-    let bytes = octets(alloc, b"abc")?;
-    let profile = locate(Target::Profile(Tagged { tag: 7, bytes }));
-    assert!(rt; spells(alloc, Order::Big, &profile, BY_PROFILE));
+/// The second profile of a reference of the type `T`.
+fn reference(alloc: Global) -> Result<Target, Fail> {
     let mut profiles = List::new(alloc);
-    let bytes = octets(alloc, b"a")?;
-    profiles
-        .push(Tagged { tag: 0, bytes })
-        .ok()
-        .ok_or("memory is left")?;
-    let bytes = octets(alloc, b"")?;
-    profiles
-        .push(Tagged { tag: 1, bytes })
-        .ok()
-        .ok_or("memory is left")?;
+    add(alloc, &mut profiles, 0, b"a")?;
+    add(alloc, &mut profiles, 1, b"")?;
     let type_id = text(alloc, b"T")?;
-    let reference = locate(Target::Addressing {
+    Ok(Target::Addressing {
         index: 1,
         type_id,
         profiles,
-    });
-    assert!(rt; spells(alloc, Order::Big, &reference, BY_REFERENCE));
+    })
+}
+
+#[test]
+fn writes_a_request(rt: HostRuntime) -> Result<(), Fail> {
+    let none = List::new(rt.alloc());
+    let ping = request(rt.alloc(), b"ping", b"current", none, b"")?;
+    assert!(rt; spells(rt.alloc(), Order::Big, &ping, PING));
     Ok(())
 }
 
 #[test]
-fn writes_the_other_kinds(rt: HostRuntime) {
-    let alloc = rt.alloc();
+fn writes_a_context_in_the_little_order(rt: HostRuntime) -> Result<(), Fail> {
+    let sent = contexts(rt.alloc(), 10, &[1, 0, 7, 0])?;
+    let ping = request(rt.alloc(), b"ping", b"current", sent, b"")?;
+    assert!(rt; spells(rt.alloc(), Order::Little, &ping, LITTLE_PING));
+    Ok(())
+}
+
+#[test]
+fn writes_the_ends_of_a_band(rt: HostRuntime) -> Result<(), Fail> {
+    let ends = contexts(rt.alloc(), 11, &[0, 0, 0, 100, 0, 200])?;
+    let bind = request(rt.alloc(), b"ping", b"_bind_priority_band", ends, b"")?;
+    assert!(rt; spells(rt.alloc(), Order::Big, &bind, BIND));
+    Ok(())
+}
+
+#[test]
+fn writes_a_body_behind_a_pad(rt: HostRuntime) -> Result<(), Fail> {
+    let none = List::new(rt.alloc());
+    let twice = request(rt.alloc(), b"v", b"twice", none, &[0, 0, 0, 21])?;
+    assert!(rt; spells(rt.alloc(), Order::Big, &twice, TWICE));
+    Ok(())
+}
+
+#[test]
+fn writes_a_reply(rt: HostRuntime) -> Result<(), Fail> {
+    let reply = reply(rt.alloc(), &[0, 100])?;
+    assert!(rt; spells(rt.alloc(), Order::Big, &reply, SHORT_REPLY));
+    Ok(())
+}
+
+#[test]
+fn writes_a_reply_in_the_little_order(rt: HostRuntime) -> Result<(), Fail> {
+    let reply = reply(rt.alloc(), &[7, 0])?;
+    assert!(rt; spells(rt.alloc(), Order::Little, &reply, LITTLE_REPLY));
+    Ok(())
+}
+
+#[test]
+fn writes_a_target_by_key(rt: HostRuntime) -> Result<(), Fail> {
+    let key = octets(rt.alloc(), b"ping")?;
+    let question = locate(Target::Key(key));
+    assert!(rt; spells(rt.alloc(), Order::Big, &question, BY_KEY));
+    Ok(())
+}
+
+#[test]
+fn writes_a_target_by_profile(rt: HostRuntime) -> Result<(), Fail> {
+    let bytes = octets(rt.alloc(), b"abc")?;
+    let question = locate(Target::Profile(Tagged { tag: 7, bytes }));
+    assert!(rt; spells(rt.alloc(), Order::Big, &question, BY_PROFILE));
+    Ok(())
+}
+
+#[test]
+fn writes_a_target_by_reference(rt: HostRuntime) -> Result<(), Fail> {
+    let question = locate(reference(rt.alloc())?);
+    assert!(rt; spells(rt.alloc(), Order::Big, &question, BY_REFERENCE));
+    Ok(())
+}
+
+#[test]
+fn writes_an_answer_where_an_object_is(rt: HostRuntime) {
     let here = Message::Located(Located { id: 5, status: 1 });
-    assert!(rt; spells(alloc, Order::Big, &here, HERE));
-    assert!(rt; spells(alloc, Order::Big, &Message::Cancel(5), CANCEL));
-    assert!(rt; spells(alloc, Order::Big, &Message::Close, CLOSE));
-    assert!(rt; spells(alloc, Order::Big, &Message::Error, ERROR));
+    assert!(rt; spells(rt.alloc(), Order::Big, &here, HERE));
+}
+
+#[test]
+fn writes_a_cancel_request(rt: HostRuntime) {
+    assert!(rt; spells(rt.alloc(), Order::Big, &Message::Cancel(5), CANCEL));
+}
+
+#[test]
+fn writes_what_is_a_header_alone(rt: HostRuntime) {
+    assert!(rt; spells(rt.alloc(), Order::Big, &Message::Close, CLOSE));
+    assert!(rt; spells(rt.alloc(), Order::Big, &Message::Error, ERROR));
 }
 
 #[test]
