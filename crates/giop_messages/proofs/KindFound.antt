@@ -1,24 +1,17 @@
 -- The messages that are read are those that the bytes mean.
-use Rattle.std.proofs.Common.{◌≡◌, ℕ, ◌+◌, ◌-◌, ◌*◌, ◌^◌, ◌<◌, ◌≤◌, ◌%◌, Bool, true, false, cond, eqb, ltb, List, [], ◌∷◌, ◌++◌, length, drop, Result, Ok, Err, ◌⊎◌, inl, inr, refl, sym, ap, subst, ◌∙◌, arith, length-append}
-use Rattle.std.specs.Int.{w8, w16, w32, byte_len}
+use Rattle.std.proofs.Common.{◌≡◌, ℕ, ◌-◌, ◌^◌, ◌<◌, ◌≤◌, Bool, true, false, cond, eqb, ltb, List, [], ◌∷◌, ◌++◌, length, drop, Ok, ◌⊎◌, inl, inr, refl, sym, subst, arith}
+use Rattle.std.specs.Int.{w8, w16, w32}
 use Rattle.std.specs.List.{flat_map}
-use Rattle.std.proofs.lemmas.Bool.{eqb-true, eqb-false, ltb-false}
-use Rattle.std.proofs.lemmas.List.{drop_at, length-drop}
-use Rattle.orb_base.specs.declared.order.Order.{Order}
+use Rattle.std.proofs.lemmas.Bool.{eqb-true, ltb-false}
 use Rattle.cdr_core.specs.Alignment.{pad_len}
-use Rattle.cdr_core.specs.Field.{Field, number, run, number_bytes, string_fields, octets_fields, fields_end}
-use Rattle.cdr_core.specs.Cursor.{Cursor, cursor, AreBytes}
+use Rattle.cdr_core.specs.Field.{Field, number, run, string_fields, octets_fields}
+use Rattle.cdr_core.specs.Cursor.{Cursor, AreBytes}
 use Rattle.cdr_core.specs.Passing.{Spans}
-use Rattle.cdr_core.specs.Reading.{number_at, octets_at, string_at}
-use Rattle.cdr_core.proofs.CallerLemmas.{spelled_run, length-spelled, length-number_bytes}
-use Rattle.cdr_core.proofs.Parts.{AreBytes-drop}
-use Rattle.giop_frames.specs.Messages as Frames
-use Rattle.giop_messages.specs.declared.message_fault.MessageFault.{MessageFault}
-use Rattle.giop_messages.specs.declared.message_fault.MessageFault.TheVariants as faults
-use Rattle.giop_messages.specs.Message.{Target, key, profile, addressing, Request, Reply, Locate, Located, Message, request, reply, cancel, locate, located, close, error, kind_of, Fits, FitsTagged, FitsText, FitsTarget, FitContexts}
-use Rattle.giop_messages.specs.Layout.{magic, header, order_flag, tagged_fields, target_fields, contexts_fields, named_fields}
-use Rattle.giop_messages.specs.Reading.{HasBody, ReadsIn, Reads}
-use Rattle.giop_messages.specs.MessageReading.{IsMessage, Parsed, ◌>>=◌, basic, body_from, key_at, profile_at, addressing_at, form_at, target_at, reserved_at, status_at, asked_at, request_at, reply_at, cancel_at, locate_at, located_at, as_message, kind_at, message_at, tagged_at, profiles_at, contexts_at}
+use Rattle.cdr_core.proofs.CallerLemmas.{spelled_run, length-spelled}
+use Rattle.giop_messages.specs.Message.{Target, key, profile, addressing, Request, Reply, Locate, Located, Message, request, reply, cancel, locate, located, kind_of, Fits, FitsTarget}
+use Rattle.giop_messages.specs.Layout.{tagged_fields, target_fields, contexts_fields, named_fields}
+use Rattle.giop_messages.specs.Reading.{HasBody}
+use Rattle.giop_messages.specs.MessageReading.{body_from, key_at, profile_at, addressing_at, form_at, target_at, reserved_at, status_at, asked_at, request_at, reply_at, cancel_at, locate_at, located_at}
 use Rattle.giop_messages.proofs.MessageFound.{bind_ok, ok_is, Passed, passed_then, octet_len, short_len, long_len, number_found, octets_found, text_found, tagged_found, profiles_found, contexts_found}
 
 -- one of two readings gave the value

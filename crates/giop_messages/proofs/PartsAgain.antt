@@ -1,5 +1,5 @@
 -- The parts that the bytes spell are read.
-use Rattle.std.proofs.Common.{◌≡◌, ℕ, suc, ◌+◌, ◌-◌, ◌*◌, ◌^◌, ◌<◌, ◌≤◌, false, ltb, List, [], ◌∷◌, ◌++◌, length, take, drop, Ok, refl, sym, ap, subst, ◌∙◌, arith, lit<, length-append}
+use Rattle.std.proofs.Common.{◌≡◌, ℕ, suc, ◌+◌, ◌^◌, ◌<◌, ◌≤◌, false, ltb, List, [], ◌∷◌, ◌++◌, length, Ok, refl, sym, ap, subst, ◌∙◌, arith, lit<, length-append}
 use Rattle.std.specs.List.{AllByRecursion, flat_map}
 use Rattle.std.specs.Int.{w8, w16, w32}
 use Rattle.std.proofs.lemmas.Bool.{le-ltb}
@@ -9,11 +9,11 @@ use Rattle.cdr_core.specs.Alignment.{pad_len}
 use Rattle.cdr_core.specs.Field.{Field, number, run, string_fields, octets_fields}
 use Rattle.cdr_core.specs.Cursor.{Cursor, cursor}
 use Rattle.cdr_core.specs.Passing.{Spans}
-use Rattle.cdr_core.specs.Reading.{number_of, number_at, piece_at, octets_at, string_at}
+use Rattle.cdr_core.specs.Reading.{number_of, number_at, piece_at, string_at}
 use Rattle.cdr_core.proofs.CallerLemmas.{spans_split, length-spelled, spelled_run_is, number_reads, count_reads, octets_reads, string_reads}
 use Rattle.giop_messages.specs.Message.{Tagged, Context, Target, key, profile, addressing, FitsTagged, FitsText, FitsContext, FitsTarget, FitContexts}
 use Rattle.giop_messages.specs.Layout.{tagged_fields, context_fields, contexts_fields, target_fields}
-use Rattle.giop_messages.specs.MessageReading.{Parsed, ◌>>=◌, basic, times, tagged_at, profiles_at, context_at, contexts_at, key_at, profile_at, addressing_at, form_at, target_at, reserved_at}
+use Rattle.giop_messages.specs.MessageReading.{Parsed, basic, times, tagged_at, profiles_at, context_at, contexts_at, key_at, profile_at, addressing_at, form_at, target_at, reserved_at}
 use Rattle.giop_messages.proofs.MessageFound.{done, short_len, long_len}
 use Rattle.giop_messages.proofs.KindFound.{no_pad}
 

@@ -1,5 +1,5 @@
 -- Whole messages that are read are those that their bytes mean.
-use Rattle.std.proofs.Common.{◌≡◌, ℕ, ◌+◌, ◌^◌, ◌<◌, ◌≤◌, Bool, true, false, eqb, List, [], ◌∷◌, ◌++◌, length, drop, Result, Ok, Err, inl, inr, refl, sym, ap, subst, ◌∙◌, arith, append_assoc, length-append}
+use Rattle.std.proofs.Common.{◌≡◌, ℕ, ◌+◌, ◌^◌, ◌<◌, ◌≤◌, true, eqb, List, [], ◌∷◌, ◌++◌, length, drop, Result, Ok, Err, inl, inr, refl, sym, ap, subst, ◌∙◌, arith, append_assoc, length-append}
 use Rattle.std.specs.Prelude.{IfOk}
 use Rattle.std.specs.Int.{w32}
 use Rattle.std.proofs.lemmas.Bool.{eqb-true, eqb-false}
@@ -7,7 +7,6 @@ use Rattle.std.proofs.lemmas.List.{drop_at}
 use Rattle.orb_base.specs.declared.order.Order.{Order}
 use Rattle.cdr_core.specs.Field.{number_bytes}
 use Rattle.cdr_core.specs.Cursor.{Cursor, cursor, AreBytes}
-use Rattle.cdr_core.specs.Passing.{Spans}
 use Rattle.cdr_core.proofs.CallerLemmas.{length-number_bytes}
 use Rattle.cdr_core.proofs.Parts.{AreBytes-drop}
 use Rattle.giop_frames.specs.Messages as Frames

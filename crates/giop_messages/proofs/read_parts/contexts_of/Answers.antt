@@ -1,4 +1,3 @@
-use Rattle.std.proofs.Common.{◌≡◌}
 use Rattle.std.proofs.lemmas.Result.{err_from_is_err_and}
 use Rattle.giop_messages.specs.MessageReading.{times, context_at}
 use Rattle.giop_messages.proofs.PartLoop.{goes_on, ends, is_done}
