@@ -34,4 +34,6 @@ pub use tagged::Tagged;
 pub use target::Target;
 
 #[cfg(test)]
+mod read_tests;
+#[cfg(test)]
 mod tests;
