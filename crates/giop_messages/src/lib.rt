@@ -41,4 +41,6 @@ pub use write::write_message;
 #[cfg(test)]
 mod message_tests;
 #[cfg(test)]
+mod read_tests;
+#[cfg(test)]
 mod tests;
