@@ -11,7 +11,8 @@ use Rattle.cdr_core.specs.Reading.{number_at, count_at, octets_at, string_at}
 use Rattle.cdr_core.proofs.CallerLemmas.{spans_then, number_takes, count_takes, octets_takes, string_takes}
 use Rattle.cdr_core.proofs.Parts.{AreBytes-drop}
 use Rattle.giop_messages.specs.declared.message_fault.MessageFault.{MessageFault}
-use Rattle.giop_messages.specs.Message.{Tagged, Context, FitsTagged, FitsText, FitsContext, FitContexts}
+use Rattle.orb_base.specs.Tagged.{Tagged, Context}
+use Rattle.giop_messages.specs.Message.{FitsTagged, FitsText, FitsContext, FitContexts}
 use Rattle.giop_messages.specs.Layout.{tagged_fields, context_fields, contexts_fields}
 use Rattle.giop_messages.specs.MessageReading.{Parsed, ◌>>=◌, basic, times, tagged_at, profiles_at, context_at, contexts_at}
 

@@ -11,7 +11,8 @@ use Rattle.cdr_core.specs.Cursor.{Cursor, cursor}
 use Rattle.cdr_core.specs.Passing.{Spans}
 use Rattle.cdr_core.specs.Reading.{number_of, number_at, piece_at, string_at}
 use Rattle.cdr_core.proofs.CallerLemmas.{spans_split, length-spelled, spelled_run_is, number_reads, count_reads, octets_reads, string_reads}
-use Rattle.giop_messages.specs.Message.{Tagged, Context, Target, key, profile, addressing, FitsTagged, FitsText, FitsContext, FitsTarget, FitContexts}
+use Rattle.orb_base.specs.Tagged.{Tagged, Context}
+use Rattle.giop_messages.specs.Message.{Target, key, profile, addressing, FitsTagged, FitsText, FitsContext, FitsTarget, FitContexts}
 use Rattle.giop_messages.specs.Layout.{tagged_fields, context_fields, contexts_fields, target_fields}
 use Rattle.giop_messages.specs.MessageReading.{Parsed, basic, times, tagged_at, profiles_at, context_at, contexts_at, key_at, profile_at, addressing_at, form_at, target_at, reserved_at}
 use Rattle.giop_messages.proofs.MessageFound.{done, short_len, long_len}

@@ -9,7 +9,8 @@ use Rattle.cdr_core.specs.Field.{Field, field_end, fields_end, string_fields, nu
 use Rattle.cdr_core.specs.Spelling.{fields_bytes}
 use Rattle.cdr_core.specs.Writing.{Page, page, written, HasFront, Puts}
 use Rattle.cdr_core.proofs.CallerLemmas.{fields_end-append, written-then, puts_then, puts_first, length-number_bytes}
-use Rattle.giop_messages.specs.Message.{Message, Context, Tagged, kind_of}
+use Rattle.orb_base.specs.Tagged.{Context, Tagged}
+use Rattle.giop_messages.specs.Message.{Message, kind_of}
 use Rattle.giop_messages.specs.Layout.{header_fields, tagged_fields, context_fields, body_fields}
 use Rattle.giop_messages.specs.Spelling.{all_fields, spelled}
 use Rattle.giop_messages.specs.Lengths.{held}

@@ -5,7 +5,8 @@ use Rattle.std.specs.Int.{w8, w16, w32}
 use Rattle.orb_base.specs.declared.order.Order.{Order}
 use Rattle.orb_base.specs.declared.order.Order.TheVariants.{Big, Little}
 use Rattle.cdr_core.specs.Field.{Field, number, run, number_bytes, string_fields, octets_fields}
-use Rattle.giop_messages.specs.Message.{Context, Tagged, Target, key, profile, addressing, Message, request, reply, cancel, locate, located, close, error}
+use Rattle.orb_base.specs.Tagged.{Context, Tagged}
+use Rattle.giop_messages.specs.Message.{Target, key, profile, addressing, Message, request, reply, cancel, locate, located, close, error}
 
 -- 'GIOP'
 abbrev pub magic : List ℕ

@@ -2,16 +2,7 @@
 use Rattle.std.specs.Prelude.{◌≤◌, ◌<◌, ◌+◌, ◌^◌, ℕ, List, length}
 use Rattle.std.specs.List.{AllByRecursion}
 use Rattle.orb_base.specs.NulFree.{HasNoNul}
-
--- a service context: section 13.7
-pub record Context : Type 0 where
-  pub id : ℕ
-  pub bytes : List ℕ
-
--- data of a kind that its tag names: a profile or a component of a reference, section 13.6.2
-pub record Tagged : Type 0 where
-  pub tag : ℕ
-  pub bytes : List ℕ
+use Rattle.orb_base.specs.Tagged.{Context, Tagged}
 
 -- the object that a request is for: by the key of its adapter, by a profile, or by a reference of which one profile is
 -- meant. Section 15.4.2.1

@@ -9,7 +9,8 @@ use Rattle.cdr_core.specs.Reading.{number_at, count_at, octets_at, string_at}
 use Rattle.giop_frames.specs.Messages as Frames
 use Rattle.giop_messages.specs.declared.message_fault.MessageFault.{MessageFault}
 use Rattle.giop_messages.specs.declared.message_fault.MessageFault.TheVariants as faults
-use Rattle.giop_messages.specs.Message.{Context, Tagged, Target, key, profile, addressing, Request, Reply, Locate, Located, Message, request, reply, cancel, locate, located, close, error}
+use Rattle.orb_base.specs.Tagged.{Context, Tagged}
+use Rattle.giop_messages.specs.Message.{Target, key, profile, addressing, Request, Reply, Locate, Located, Message, request, reply, cancel, locate, located, close, error}
 use Rattle.giop_messages.specs.Layout.{header, order_flag}
 
 -- one unfragmented message, as a framer gives it

@@ -12,11 +12,10 @@ ghost use Rattle.giop_messages.specs.TargetView.{target_of};
 ghost use Rattle.giop_messages.specs.Views.{message_of};
 ghost use Rattle.giop_messages.specs.Lengths.{Ends, held};
 
-use crate::context::Context;
 use crate::message::Message;
 use crate::reply::Reply;
 use crate::request::Request;
-use crate::tagged::Tagged;
+use orb_base::{Context, Tagged};
 use crate::target::Target;
 
 /// The place behind a field of this alignment and length.

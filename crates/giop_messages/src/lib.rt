@@ -1,7 +1,6 @@
 //! Messages of GIOP 1.2, read and written (CORBA 3.0.3, section 15.4).
 #![tactic(auto)]
 
-mod context;
 mod cursor;
 mod exceptions;
 mod flags;
@@ -17,12 +16,10 @@ mod read_basic;
 mod read_parts;
 mod reply;
 mod request;
-mod tagged;
 mod target;
 mod write;
 mod writer;
 
-pub use context::Context;
 pub use exceptions::system_exception_body;
 pub use flags::due_of;
 pub use laws::{plain_request_is_read, reads_one_way, spelled_is_read};
@@ -31,10 +28,10 @@ pub use locate::Locate;
 pub use located::Located;
 pub use message::Message;
 pub use message_fault::MessageFault;
+pub use orb_base::{Context, Tagged};
 pub use read::read_message;
 pub use reply::{Reply, plain_reply};
 pub use request::{PlainRequest, Request, plain_request};
-pub use tagged::Tagged;
 pub use target::Target;
 pub use write::write_message;
 

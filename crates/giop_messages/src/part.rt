@@ -7,11 +7,9 @@ ghost use Rattle.giop_messages.specs.Message as Spec;
 ghost use Rattle.giop_messages.specs.Layout.{tagged_fields, target_fields, context_fields, contexts_fields, body_fields, profiles_fields};
 ghost use Rattle.giop_messages.specs.TargetView.{target_of};
 
-use crate::context::Context;
-use crate::tagged::Tagged;
 use crate::target::Target;
 use cdr_core::Writer;
-use orb_base::{NoMemory, Text};
+use orb_base::{Context, NoMemory, Tagged, Text};
 
 /// Puts a tag and what it tells of.
 pub fn put_tagged(into: &mut Writer, tagged: &Tagged) -> Result<(), NoMemory>

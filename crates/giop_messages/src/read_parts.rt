@@ -2,13 +2,11 @@
 ghost use Rattle.giop_messages.specs.MessageReading.{Gives, times, tagged_at, profiles_at, context_at, contexts_at, key_at, profile_at, addressing_at, form_at, target_at};
 ghost use Rattle.giop_messages.specs.TargetView.{target_of};
 
-use crate::context::Context;
 use crate::message_fault::MessageFault;
 use crate::read_basic::{count_at, octets_at, text_at, u16_at, u32_at};
-use crate::tagged::Tagged;
 use crate::target::Target;
 use cdr_core::Reader;
-use orb_base::List;
+use orb_base::{Context, List, Tagged};
 use std::alloc::Global;
 
 /// Takes tagged data.

@@ -5,10 +5,9 @@ ghost use Rattle.giop_messages.specs.Message.{reply};
 ghost use Rattle.giop_messages.specs.Spelling.{spelled};
 ghost use Rattle.giop_messages.specs.Plain.{bare};
 
-use crate::context::Context;
 use crate::writer::put_u32;
 use orb_base::limits::MAX_BODY;
-use orb_base::{List, NoMemory, Octets};
+use orb_base::{Context, List, NoMemory, Octets};
 use std::alloc::Global;
 use std::marker::Model;
 

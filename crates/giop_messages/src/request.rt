@@ -7,10 +7,9 @@ ghost use Rattle.giop_messages.specs.Spelling.{spelled};
 ghost use Rattle.giop_messages.specs.Plain.{plain};
 ghost use Rattle.giop_messages.specs.PlainReading.{inner_at, id_at, key_at, named_at, plain_at};
 
-use crate::context::Context;
 use crate::cursor::{take_exactly, take_octets, take_u32};
 use crate::target::Target;
-use orb_base::{Octets, Text};
+use orb_base::{Context, Octets, Text};
 use std::marker::Model;
 
 /// A request: CORBA 3.0.3, section 15.4.2.

@@ -1,7 +1,6 @@
 //! The objects that requests are for.
 
-use crate::tagged::Tagged;
-use orb_base::{List, Octets, Text};
+use orb_base::{List, Octets, Tagged, Text};
 
 /// The object that a request is for: CORBA 3.0.3, section 15.4.2.1.
 #[derive(Debug, Drop)]

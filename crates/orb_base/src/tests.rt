@@ -254,3 +254,13 @@ fn sinks_follow_their_scripts(rt: HostRuntime) -> Result<(), Fail> {
     assert_eq!(rt; counting.bytes, 3);
     Ok(())
 }
+
+#[test]
+fn priority_models_have_their_numbers(rt: HostRuntime) -> Result<(), Fail> {
+    assert_eq!(rt; PriorityModel::of_number(0), Some(PriorityModel::ClientPropagated));
+    assert_eq!(rt; PriorityModel::of_number(1), Some(PriorityModel::ServerDeclared));
+    assert_eq!(rt; PriorityModel::of_number(2), None);
+    assert_eq!(rt; PriorityModel::ClientPropagated.number(), 0);
+    assert_eq!(rt; PriorityModel::ServerDeclared.number(), 1);
+    Ok(())
+}

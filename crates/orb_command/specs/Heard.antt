@@ -4,9 +4,8 @@ use Rattle.std.specs.Prelude.{◌≡◌, ℕ, ◌==◌, ◌%◌, if◌then◌els
 use Rattle.orb_base.specs.Priorities.{mandated, lane_of}
 use Rattle.orb_base.specs.JobRecord.{JobRecord}
 use Rattle.orb_base.specs.declared.conn_id.ConnId.{ConnId}
-use Rattle.orb_base.specs.declared.due.Due.{Due}
-use Rattle.orb_base.specs.declared.due.Due.TheVariants as due
 use Rattle.orb_base.specs.declared.order.Order.{Order}
+use Rattle.giop_messages.specs.Flags.{due_of}
 use Rattle.giop_messages.specs.Message.{Request, key, request}
 use Rattle.giop_messages.specs.Reading.{ReadsIn}
 use Rattle.lane_machine.specs.declared.call.LaneCall.{LaneCall}
@@ -14,10 +13,6 @@ use Rattle.lane_machine.specs.declared.call.LaneCall.TheVariants.{Offer}
 use Rattle.lane_machine.specs.declared.call.How.{How}
 use Rattle.lane_machine.specs.declared.call.How.TheVariants.{Quiet}
 use Rattle.orb_command.specs.Setup.{Setup, Object}
-
--- when a reply is due, by the response flags: CORBA 3.0.3, section 15.4.2
-abbrev pub due_of : ℕ → Due
-due_of flags = if flags % 2 == 0 then due.Nothing else (if flags == 1 then due.Early else due.Late)
 
 -- the job of a request that passed every judgement, as the call of this number of its connection
 abbrev pub job_of : ConnId → ℕ → Order → ℕ → Request → ℕ → ℕ → ℕ → JobRecord
