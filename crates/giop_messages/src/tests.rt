@@ -1,5 +1,5 @@
 use super::*;
-use orb_base::{Completed, Sys, SysName};
+use orb_base::{Completed, Order, Sys, SysName};
 use std::test::*;
 
 /// A request for `current` of the object `ping`, with the number 1: CORBA 3.0.3, section 15.4.2, octet by octet.
@@ -97,7 +97,7 @@ fn writes_system_exceptions(rt: HostRuntime) -> Result<(), Fail> {
         minor: 1,
         completed: Completed::No,
     };
-    let body = system_exception_body(rt.alloc(), not_exist)
+    let body = system_exception_body(rt.alloc(), Order::Big, not_exist)
         .ok()
         .ok_or("memory is left")?;
     assert_eq!(rt; body.as_slice(), NOT_EXIST.as_slice());
@@ -106,12 +106,12 @@ fn writes_system_exceptions(rt: HostRuntime) -> Result<(), Fail> {
         minor: 7,
         completed: Completed::Maybe,
     };
-    let body = system_exception_body(rt.alloc(), no_memory)
+    let body = system_exception_body(rt.alloc(), Order::Little, no_memory)
         .ok()
         .ok_or("memory is left")?;
     assert_eq!(rt;
         body.as_slice(),
-        b"\0\0\0\x20IDL:omg.org/CORBA/NO_MEMORY:1.0\0\0\0\0\x07\0\0\0\x02".as_slice()
+        b"\x20\0\0\0IDL:omg.org/CORBA/NO_MEMORY:1.0\0\x07\0\0\0\x02\0\0\0".as_slice()
     );
     Ok(())
 }
