@@ -10,6 +10,7 @@ pub fn note_text(note: Note) -> Option<&'static str> {
         Note::ReadFault => Some("read fault"),
         Note::WriteFault => Some("write fault"),
         Note::Memory => Some("memory"),
+        Note::Limit => Some("limit"),
         Note::NotBuilt => Some("not built"),
     }
 }

@@ -1,10 +1,10 @@
 -- The answers of the top call: for each note its cause, and what was written.
-use Rattle.std.specs.Prelude.{◌≡◌, ◌⊎◌, ℕ, IfSome, Result, Ok, Err}
+use Rattle.std.specs.Prelude.{◌≡◌, ◌⊎◌, ℕ, true, false, IfSome, Result, Ok, Err}
 use Rattle.orb_base.specs.Outside.{Told, Rose}
 use Rattle.orb_command.specs.declared.meaning.Meaning.{Meaning}
 use Rattle.orb_command.specs.declared.meaning.Meaning.TheVariants.{Pipe, Unbuilt, Unread}
 use Rattle.orb_command.specs.declared.note.Note.{Note}
-use Rattle.orb_command.specs.declared.note.Note.TheVariants.{Nothing, Usage, ReadFault, WriteFault, Memory, NotBuilt}
+use Rattle.orb_command.specs.declared.note.Note.TheVariants.{Nothing, Usage, ReadFault, WriteFault, Memory, Limit, NotBuilt}
 use Rattle.orb_command.specs.declared.ends.ReadEnd.{ReadEnd}
 use Rattle.orb_command.specs.declared.ends.ReadEnd.TheVariants as read
 use Rattle.orb_command.specs.declared.ends.WriteEnd.{WriteEnd}
@@ -13,8 +13,8 @@ use Rattle.orb_command.specs.declared.ends.Piped.{Piped}
 use Rattle.orb_command.specs.declared.ends.PipeFault.{PipeFault}
 use Rattle.orb_command.specs.declared.ends.PipeFault.TheVariants as fault
 use Rattle.orb_command.specs.Ping.{ping_outcome}
-use Rattle.orb_command.specs.Built.{IsBuilt}
-use Rattle.orb_command.specs.Pipe.{WroteAnswer, WroteFront, WroteAtWant}
+use Rattle.orb_command.specs.Built.{IsBuilt, IsPiped}
+use Rattle.orb_command.specs.Pipe.{WroteWhole, WroteFront, WroteAtWant}
 
 -- the exit status of a note
 abbrev pub status_of : Note → ℕ
@@ -23,13 +23,16 @@ status_of Usage = 1
 status_of ReadFault = 3
 status_of WriteFault = 4
 status_of Memory = 12
+status_of Limit = 13
 status_of NotBuilt = 14
 
 -- the note of a run of the pipe
 abbrev pub note_of_ends : ReadEnd → WriteEnd → Note
-note_of_ends read.Ended write.Done = Nothing
+note_of_ends read.Ended _ = Nothing
+note_of_ends read.RunClosed write.Done = Limit
+note_of_ends read.RunClosed write.Closed = Limit
+note_of_ends read.RunClosed write.WriteFault = WriteFault
 note_of_ends read.ReadFault _ = ReadFault
-note_of_ends read.Ended write.WriteFault = WriteFault
 note_of_ends read.Stopped _ = WriteFault
 
 -- the note of a run, or of the reason why there was none
@@ -42,11 +45,14 @@ note_of (Err fault.NoMemory) = Memory
 -- held before and after; `reads`, `ends` and `writes` are the counts of the source's faults and ends and of the sink's
 -- faults, before and after
 abbrev pub Answers : Note → Meaning → Told → Told → Told → ℕ × ℕ → ℕ × ℕ → ℕ × ℕ → Type 0
-Answers Nothing meaning left held held' reads ends writes = (meaning ≡ Pipe) × Rose ends.0 ends.1 × IfSome left (λ input. WroteAnswer ping_outcome input held held')
+Answers Nothing meaning left held held' reads ends writes =
+    (meaning ≡ Pipe) × Rose ends.0 ends.1 × IfSome left (λ input. WroteWhole (IsPiped ping_outcome input) false held held')
 Answers Usage meaning left held held' reads ends writes = (meaning ≡ Unread) × (held' ≡ held)
 Answers ReadFault meaning left held held' reads ends writes = (meaning ≡ Pipe) × Rose reads.0 reads.1 × (held' ≡ held)
 Answers WriteFault meaning left held held' reads ends writes =
-    (meaning ≡ Pipe) × Rose writes.0 writes.1 × IfSome left (λ input. WroteFront ping_outcome input held held')
+    (meaning ≡ Pipe) × Rose writes.0 writes.1 × IfSome left (λ input. WroteFront (IsPiped ping_outcome input) held held')
 Answers Memory meaning left held held' reads ends writes = (meaning ≡ Pipe) × IfSome left (λ input. WroteAtWant ping_outcome input held held')
+Answers Limit meaning left held held' reads ends writes =
+    (meaning ≡ Pipe) × Rose ends.0 ends.1 × IfSome left (λ input. WroteWhole (IsPiped ping_outcome input) true held held')
 Answers NotBuilt meaning left held held' reads ends writes =
     ((meaning ≡ Unbuilt) ⊎ ((meaning ≡ Pipe) × IfSome left (λ input. ¬ IsBuilt input))) × (held' ≡ held)

@@ -27,6 +27,7 @@ fn answered(note: Note) -> Answered
         Note::ReadFault => 3,
         Note::WriteFault => 4,
         Note::Memory => 12,
+        Note::Limit => 13,
         Note::NotBuilt => 14,
     };
     Answered { status, note }
@@ -38,9 +39,10 @@ fn note_for(ran: Result<Piped, PipeFault>) -> Note
 {
     match ran {
         Ok(piped) => match piped.read {
-            ReadEnd::Ended => match piped.write {
-                WriteEnd::Done => Note::Nothing,
+            ReadEnd::Ended => Note::Nothing,
+            ReadEnd::RunClosed => match piped.write {
                 WriteEnd::WriteFault => Note::WriteFault,
+                WriteEnd::Done | WriteEnd::Closed => Note::Limit,
             },
             ReadEnd::ReadFault => Note::ReadFault,
             ReadEnd::Stopped => Note::WriteFault,

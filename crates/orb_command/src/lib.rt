@@ -3,14 +3,15 @@
 
 mod answered;
 mod command;
+mod course;
 mod ends;
-mod heard;
 mod laws;
 mod meaning;
 mod note;
 mod ping;
 mod pipe;
 mod read_all;
+mod replies;
 mod request;
 mod setup;
 mod streams;

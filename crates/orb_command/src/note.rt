@@ -13,6 +13,8 @@ pub enum Note {
     WriteFault,
     /// Memory was wanting.
     Memory,
+    /// A limit of the run was met.
+    Limit,
     /// The words, or the input, are of a form that isn't built yet.
     NotBuilt,
 }
