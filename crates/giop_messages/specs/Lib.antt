@@ -11,3 +11,4 @@ pub mod Exceptions
 pub mod Plain
 pub mod PlainReading
 pub mod MessageReading
+pub mod Framing

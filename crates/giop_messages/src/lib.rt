@@ -22,7 +22,7 @@ mod writer;
 
 pub use exceptions::system_exception_body;
 pub use flags::due_of;
-pub use laws::{plain_request_is_read, reads_one_way, spelled_is_read};
+pub use laws::{framed_is_message, plain_request_is_read, reads_one_way, spelled_is_read};
 pub use length::message_len;
 pub use locate::Locate;
 pub use located::Located;
@@ -35,6 +35,8 @@ pub use request::{PlainRequest, Request, plain_request};
 pub use target::Target;
 pub use write::write_message;
 
+#[cfg(test)]
+mod framed_tests;
 #[cfg(test)]
 mod message_tests;
 #[cfg(test)]
