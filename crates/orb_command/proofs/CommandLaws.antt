@@ -16,11 +16,17 @@ use Rattle.orb_command.specs.Command.{Answers, note_of, note_of_ends}
 
 ends_answer : (read_end : ReadEnd) (write_end : WriteEnd) (left held held' : Told) (reads ends writes : ℕ × ℕ) → PipesTo read_end write_end ping_outcome left held held' reads ends writes → Answers (note_of_ends read_end write_end) Pipe left held held' reads ends writes
 ends_answer read.Ended write.Done left held held' reads ends writes h = (refl, h.0, h.1)
+ends_answer read.RunClosed write.Closed left held held' reads ends writes h = (refl, h.0, h.1)
+ends_answer read.RunClosed write.WriteFault left held held' reads ends writes h = (refl, h.0, h.1)
 ends_answer read.Stopped write.WriteFault left held held' reads ends writes h = (refl, h.0, h.1)
 ends_answer read.ReadFault write.Done left held held' reads ends writes h = (refl, h.0, h.1)
-ends_answer read.ReadFault write.WriteFault left held held' reads ends writes h = absurd h
+ends_answer read.Ended write.Closed left held held' reads ends writes h = absurd h
 ends_answer read.Ended write.WriteFault left held held' reads ends writes h = absurd h
+ends_answer read.RunClosed write.Done left held held' reads ends writes h = absurd h
 ends_answer read.Stopped write.Done left held held' reads ends writes h = absurd h
+ends_answer read.Stopped write.Closed left held held' reads ends writes h = absurd h
+ends_answer read.ReadFault write.Closed left held held' reads ends writes h = absurd h
+ends_answer read.ReadFault write.WriteFault left held held' reads ends writes h = absurd h
 
 pub pipes_answers : (ran : Result Piped PipeFault) (left held held' : Told) (reads ends writes : ℕ × ℕ) → Pipes ran ping_outcome left held held' reads ends writes → Answers (note_of ran) Pipe left held held' reads ends writes
 pipes_answers (Ok piped) left held held' reads ends writes h = ends_answer piped.read piped.write left held held' reads ends writes h

@@ -1,10 +1,12 @@
 pub mod StandardFacts
-pub mod OneRequest
+pub mod CanOpen
 pub mod StreamLaws
-pub mod BuiltInput
+pub mod StreamCounts
+pub mod HearingLaws
+pub mod ReplyLaws
+pub mod PipeRuns
 pub mod Turns
 pub mod PipedLaws
 pub mod CommandLaws
 pub mod Replays
 pub mod HeardLaws
-mod PipeRuns

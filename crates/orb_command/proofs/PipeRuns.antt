@@ -1,6 +1,6 @@
 -- A run of the pipe's jobs, one after another, is what the pipe is defined to do with their calls.
 use Rattle.std.proofs.Common.{◌≡◌, ℕ, zero, suc, ◌+◌, ◌<◌, ◌≤◌, Bool, true, false, List, [], ◌∷◌, ◌++◌, refl, sym, ap, ◌∙◌, subst, inl, inr, arith, append_assoc, append-nil}
-use Rattle.std.specs.Prelude.{◌⊎◌, ◌==◌, if◌then◌else◌, codes}
+use Rattle.std.specs.Prelude.{◌⊎◌, ◌==◌, ◌||◌, if◌then◌else◌, codes}
 use Rattle.std.specs.List.{list_any, flat_map}
 use Rattle.std.proofs.lemmas.Bool.{ne_eqb}
 use Rattle.std.proofs.lemmas.Bool.Decides.{eqb_tells}
@@ -87,10 +87,10 @@ ping_grouped servant c b serial size id order h calls over =
     let job = ping_job serial order size id in
     let e = entry (Offer job) (reply.Run 0 false) in
     let first = ap (λ (x : State × LaneReply). grouped servant 1 1 (settled servant (at x.0 (h ++ entry (Offer job) x.1 ∷ []))) calls) (offer_runs c b serial size id order over) in
-    let then = settles servant (c + 1) (b + size) serial size id order (h ++ e ∷ []) in
+    let follows = settles servant (c + 1) (b + size) serial size id order (h ++ e ∷ []) in
     let whole = four h e (entry (Take 0) (reply.Given job)) (entry (Finish 0 (record { job = job; outcome = servant job })) reply.Finished)
       (entry (Collect pipe_conn) (reply.Handed (Answered (record { job = job; outcome = servant job })))) in
-    first ∙ ap (λ (r : Run). grouped servant 1 1 r calls) (then ∙ ap (at (idle (c + 1) (b + size + body_len (servant job)))) whole)
+    first ∙ ap (λ (r : Run). grouped servant 1 1 r calls) (follows ∙ ap (at (idle (c + 1) (b + size + body_len (servant job)))) whole)
 
 one_grouped : (servant : JobRecord → Outcome) (c b : ℕ) (job : JobRecord) (h : History) (calls : List LaneCall) → IsPingJob job → is_over (idle c b) job.size ≡ false
     → grouped servant 1 1 (at (idle c b) h) (Offer job ∷ calls)

@@ -30,7 +30,7 @@ fn answer_one<O: Sink, S: Serving>(
     requires free { Does Free lanes.old }
     requires job { IsPingJob job.now }
     requires interface { interface.now ≡ ping_interface }
-    ensures { AnswersOne result (S.outcome servants.now) job.now lanes.old lanes.new
+    ensures answers { AnswersOne result (S.outcome servants.now) job.now lanes.old lanes.new
         (O.held sink.old) (O.held sink.new) (O.faults sink.old, O.faults sink.new) }
     ensures faults { O.faults sink.old ≤ O.faults sink.new }
 {
@@ -117,7 +117,7 @@ fn answer_jobs<O: Sink, S: Serving>(
 }
 
 /// Answers a whole input.
-#[tactic(auto, using(crate::proofs::PipedLaws::none_at_want, crate::proofs::PipedLaws::replies_of))]
+#[tactic(auto, using(crate::proofs::PipedLaws::none_at_want, crate::proofs::PipedLaws::replies_of, crate::proofs::PipedLaws::front_at_want))]
 fn answer<O: Sink, S: Serving>(
     alloc: Global,
     sink: &mut O,

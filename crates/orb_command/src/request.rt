@@ -1,6 +1,6 @@
 //! The requests that the pipe knows so far.
 ghost use Rattle.std.specs.Prelude.{◌≡◌, ◌<◌, ◌≤◌, ◌^◌, ◌↔◌, length, codes, IsTrue, IfOk};
-ghost use Rattle.std.specs.List.{AllByRecursion};
+ghost use Rattle.std.specs.List.{All};
 ghost use Rattle.giop_messages.specs.Message.{key};
 ghost use Rattle.giop_messages.specs.MessageReading.{IsMessage};
 ghost use Rattle.giop_messages.specs.TargetView.{target_of};
@@ -85,7 +85,7 @@ fn job_of(alloc: Global, serial: u32, whole: &Whole) -> Result<Option<Job>, NoMe
 
 /// The jobs that messages mean. None where one of them is no such request.
 fn jobs_of(alloc: Global, messages: &[Whole]) -> Result<Option<Jobs>, NoMemory>
-    requires messages { AllByRecursion IsMessage messages.now }
+    requires messages { All IsMessage messages.now }
     requires few { length messages.now < 2 ^ 32 }
     ensures { IfOk result (MeansJobs messages.now) }
 {

@@ -1,5 +1,5 @@
 //! The run of requests through the lane machine, one after another.
-ghost use Rattle.std.specs.Prelude.{◌≡◌, ◌≤◌, ◌×◌, ◌+◌, true, None, OnOk, IfOk};
+ghost use Rattle.std.specs.Prelude.{◌≡◌, ◌≤◌, ◌+◌, true, None, OnOk, IfOk};
 ghost use Rattle.orb_base.specs.Outcomes.{body_len};
 ghost use Rattle.lane_machine.specs.declared.call.LaneCall.TheVariants.{End, Collect};
 ghost use Rattle.lane_machine.specs.declared.doing.Doing.TheVariants.{Free, Given, Busy};
