@@ -1,7 +1,8 @@
 -- What was written is what the pipe answers.
-use Rattle.std.proofs.Common.{◌≡◌, ℕ, zero, suc, ◌+◌, ◌≤◌, ◌<◌, Bool, true, false, List, [], ◌∷◌, ◌++◌, length, drop, refl, sym, ap, ◌∙◌, subst, inl, inr, arith, lit≤, append-nil, append_assoc}
+use Rattle.std.proofs.Common.{◌≡◌, ℕ, zero, suc, ◌+◌, ◌≤◌, ◌<◌, Bool, true, false, List, [], ◌∷◌, ◌++◌, length, drop, get_or, refl, sym, ap, ◌∙◌, subst, inl, inr, arith, lit≤, append-nil, append_assoc}
 use Rattle.std.specs.Prelude.{◌⊎◌, codes, option_map, IfSome, Option, Some, None, Result, Ok, Err}
-use Rattle.std.specs.List.{flat_map, slice_get}
+use Rattle.std.specs.List.{flat_map}
+use Rattle.std.proofs.lemmas.List.{drop_more}
 use Rattle.std.proofs.lemmas.Grind.{flat_map-append}
 use Rattle.orb_base.specs.JobRecord.{JobRecord}
 use Rattle.orb_base.specs.Outcomes.{no_memory, body_len}
@@ -160,33 +161,34 @@ ran_of outcome interface job s s' answer items at_ping (admitted, is, (free, cal
 pub underway_start : (outcome : List ℕ → JobRecord → Outcome) (jobs : List JobRecord) (held : Told) → Underway outcome jobs jobs opened held held
 underway_start outcome jobs held = record { so_far = []; wrote = wrote_nothing held; completes = λ s' bytes runs. runs }
 
-next : (i : ℕ) → suc (i + 1) ≡ suc i + 1
-next i = omega arith
+pub first_left : (jobs : List JobRecord) (i : ℕ) (job : JobRecord) → i < length jobs → job ≡ get_or jobs i job → drop i jobs ≡ job ∷ drop (i + 1) jobs
+first_left jobs i job lt is = drop_more jobs i job lt ∙ ap (λ (x : JobRecord). x ∷ drop (i + 1) jobs) (sym is)
 
-first_left : (jobs : List JobRecord) (i : ℕ) (job : JobRecord) → slice_get jobs i ≡ Some job → drop i jobs ≡ job ∷ drop (i + 1) jobs
-first_left [] i job is = cc
-first_left (x ∷ jobs) zero job is = let same : x ≡ job = cc in ap (λ (y : JobRecord). y ∷ jobs) same
-first_left (x ∷ jobs) (suc i) job is = first_left jobs i job is ∙ ap (λ (n : ℕ). job ∷ drop n (x ∷ jobs)) (next i)
+-- the jobs behind the first are such
+pub pings_left : (jobs : List JobRecord) (i : ℕ) (job : JobRecord) → drop i jobs ≡ job ∷ drop (i + 1) jobs → ArePingJobs i (drop i jobs) → ArePingJobs (i + 1) (drop (i + 1) jobs)
+pings_left jobs i job is pings =
+    let all : ArePingJobs i (job ∷ drop (i + 1) jobs) = subst (λ (l : List JobRecord). ArePingJobs i l) is pings in
+    subst (λ (n : ℕ). ArePingJobs n (drop (i + 1) jobs)) (omega arith) all.2
 
 -- one more job was answered
 pub underway_step : (outcome : List ℕ → JobRecord → Outcome) (jobs : List JobRecord) (i : ℕ) (job : JobRecord) (s s' : State) (bytes : List ℕ) (held held' held'' : Told)
-    → slice_get jobs i ≡ Some job → Underway outcome jobs (drop i jobs) s held held' → Ran outcome job s s' bytes → held'' ≡ option_map (λ h. h ++ bytes) held'
+    → drop i jobs ≡ job ∷ drop (i + 1) jobs → Underway outcome jobs (drop i jobs) s held held' → Ran outcome job s s' bytes → held'' ≡ option_map (λ h. h ++ bytes) held'
     → Underway outcome jobs (drop (i + 1) jobs) s' held held''
 underway_step outcome jobs i job s s' bytes held held' held'' is under ran wrote = record {
   so_far = under.so_far ++ bytes;
   wrote = wrote_behind under.so_far bytes held held' held'' under.wrote wrote;
   completes = λ last rest runs.
     let all : Runs outcome (drop i jobs) s last (bytes ++ rest) =
-      subst (λ (l : List JobRecord). Runs outcome l s last (bytes ++ rest)) (sym (first_left jobs i job is)) (inr (s', bytes, rest, ran, runs, refl)) in
+      subst (λ (l : List JobRecord). Runs outcome l s last (bytes ++ rest)) (sym is) (inr (s', bytes, rest, ran, runs, refl)) in
     subst (λ (x : List ℕ). Runs outcome jobs opened last x) (sym (append_assoc under.so_far bytes rest)) (under.completes last (bytes ++ rest) all);
 }
 
 -- a limit of the run was met
 pub underway_shut : (outcome : List ℕ → JobRecord → Outcome) (jobs : List JobRecord) (i : ℕ) (job : JobRecord) (s s' : State) (held held' : Told)
-    → slice_get jobs i ≡ Some job → Underway outcome jobs (drop i jobs) s held held' → Refused job s s' [] → RanAll outcome jobs s' held held'
+    → drop i jobs ≡ job ∷ drop (i + 1) jobs → Underway outcome jobs (drop i jobs) s held held' → Refused job s s' [] → RanAll outcome jobs s' held held'
 underway_shut outcome jobs i job s s' held held' is under refused = record {
   replies = under.so_far ++ [];
-  runs = under.completes s' [] (subst (λ (l : List JobRecord). Runs outcome l s s' []) (sym (first_left jobs i job is)) (inl refused));
+  runs = under.completes s' [] (subst (λ (l : List JobRecord). Runs outcome l s s' []) (sym is) (inl refused));
   wrote = under.wrote ∙ ap (λ (x : List ℕ). option_map (λ h. h ++ x) held) (sym (append-nil under.so_far));
 }
 
@@ -196,7 +198,7 @@ shut_settled job s s' free refused =
 
 -- a write failed
 pub underway_stopped : (outcome : List ℕ → JobRecord → Outcome) (jobs : List JobRecord) (i : ℕ) (job : JobRecord) (s s' : State) (bytes rest : List ℕ) (held held' held'' : Told)
-    → slice_get jobs i ≡ Some job → Underway outcome jobs (drop i jobs) s held held' → Ran outcome job s s' bytes → WroteSome bytes rest held' held'' → RanFront outcome jobs held held''
+    → drop i jobs ≡ job ∷ drop (i + 1) jobs → Underway outcome jobs (drop i jobs) s held held' → Ran outcome job s s' bytes → WroteSome bytes rest held' held'' → RanFront outcome jobs held held''
 underway_stopped outcome jobs i job s s' bytes rest held held' held'' is under ran wrote =
     let others = some_run outcome (drop (i + 1) jobs) (s.calls + 1) (s.bytes + job.size + body_len ran.answer) in
     let runs : Runs outcome (drop (i + 1) jobs) s' others.behind others.replies =
@@ -206,7 +208,7 @@ underway_stopped outcome jobs i job s s' bytes rest held held' held'' is under r
       replies = under.so_far ++ (bytes ++ others.replies);
       rest = rest ++ others.replies;
       runs = under.completes others.behind (bytes ++ others.replies)
-        (subst (λ (l : List JobRecord). Runs outcome l s others.behind (bytes ++ others.replies)) (sym (first_left jobs i job is)) (inr (s', bytes, others.replies, ran, runs, refl)));
+        (subst (λ (l : List JobRecord). Runs outcome l s others.behind (bytes ++ others.replies)) (sym is) (inr (s', bytes, others.replies, ran, runs, refl)));
       wrote = wrote_more under.so_far bytes rest others.replies held held' held'' under.wrote wrote;
     }
 
@@ -230,6 +232,35 @@ underway_done outcome jobs left s held held' none under = record {
   runs = under.completes s [] (subst (λ (l : List JobRecord). Runs outcome l s s []) (sym none) (refl, refl));
   wrote = under.wrote ∙ ap (λ (x : List ℕ). option_map (λ h. h ++ x) held) (sym (append-nil under.so_far));
 }
+
+-- a fault that came later
+pub rose_later : (before mid after : ℕ) → before ≤ mid → Rose mid after → Rose before after
+rose_later before mid after le rose = omega (arith, le, rose)
+
+-- ---- by how far the answering of one came
+
+pub course_shut : (E : Type 0) (outcome : List ℕ → JobRecord → Outcome) (jobs : List JobRecord) (i : ℕ) (job : JobRecord) (course : Course) (s s' : State) (held held' held'' : Told) (before mid after : ℕ)
+    → course ≡ Closing → drop i jobs ≡ job ∷ drop (i + 1) jobs → Underway outcome jobs (drop i jobs) s held held' → Does Free s → before ≤ mid
+    → AnswersOne {E = E} (Ok course) outcome job s s' held' held'' (mid, after) → RanAll outcome jobs s' held held'' × IsSettled s' × (s'.closing ≡ true) × (before ≤ after)
+course_shut E outcome jobs i job course s s' held held' held'' before mid after came is under free le answered =
+    let a : AnswersOne {E = E} (Ok Closing) outcome job s s' held' held'' (mid, after) = subst (λ (x : Course). AnswersOne {E = E} (Ok x) outcome job s s' held' held'' (mid, after)) came answered in
+    let shut = shut_settled job s s' free a.0 in
+    (subst (λ (h : Told). RanAll outcome jobs s' held h) (sym a.1) (underway_shut outcome jobs i job s s' held held' is under a.0), shut.0, shut.1, omega (arith, le, a.2))
+
+pub course_stopped : (E : Type 0) (outcome : List ℕ → JobRecord → Outcome) (jobs : List JobRecord) (i : ℕ) (job : JobRecord) (course : Course) (s s' : State) (held held' held'' : Told) (before mid after : ℕ)
+    → course ≡ Stopped → drop i jobs ≡ job ∷ drop (i + 1) jobs → Underway outcome jobs (drop i jobs) s held held' → before ≤ mid → AnswersOne {E = E} (Ok course) outcome job s s' held' held'' (mid, after)
+    → RanFront outcome jobs held held'' × Rose before after
+course_stopped E outcome jobs i job course s s' held held' held'' before mid after came is under le answered =
+    let a : AnswersOne {E = E} (Ok Stopped) outcome job s s' held' held'' (mid, after) = subst (λ (x : Course). AnswersOne {E = E} (Ok x) outcome job s s' held' held'' (mid, after)) came answered in
+    (underway_stopped outcome jobs i job s s' a.0.0 a.0.1 held held' held'' is under a.0.2 a.0.3, rose_later before mid after le a.1)
+
+pub course_whole : (E : Type 0) (outcome : List ℕ → JobRecord → Outcome) (jobs : List JobRecord) (i : ℕ) (job : JobRecord) (course : Course) (s s' : State) (held held' held'' : Told) (before mid after : ℕ)
+    → course ≡ Whole → drop i jobs ≡ job ∷ drop (i + 1) jobs → Underway outcome jobs (drop i jobs) s held held' → before ≤ mid → AnswersOne {E = E} (Ok course) outcome job s s' held' held'' (mid, after)
+    → Underway outcome jobs (drop (i + 1) jobs) s' held held'' × Does Free s' × (before ≤ after)
+course_whole E outcome jobs i job course s s' held held' held'' before mid after came is under le answered =
+    let a : AnswersOne {E = E} (Ok Whole) outcome job s s' held' held'' (mid, after) = subst (λ (x : Course). AnswersOne {E = E} (Ok x) outcome job s s' held' held'' (mid, after)) came answered in
+    (underway_step outcome jobs i job s s' a.0.0 held held' held'' is under a.0.1 a.0.2,
+      subst (λ (z : State). Does Free z) (sym a.0.1.moved) refl, omega (arith, le, a.1))
 
 -- ---- the whole connection
 
@@ -300,11 +331,30 @@ farewell_to outcome jobs s read_end write_end held held' held'' writes all closi
       wrote = wrote_all all.replies (farewell true) rest held held' held'' all.wrote wrote;
     }, rose))
 
-pub farewell_said : {E : Type 0} (outcome : List ℕ → JobRecord → Outcome) (jobs : List JobRecord) (s : State) (result : Result Piped E) (held held' held'' : Told) (writes : ℕ × ℕ)
+rose_behind : {E : Type 0} (result : Result Piped E) (held held' : Told) (before mid after : ℕ) → before ≤ mid → SaysFarewell result held held' (mid, after) → SaysFarewell result held held' (before, after)
+rose_behind (Ok piped) held held' before mid after le (is, inl closed) = (is, inl closed)
+rose_behind (Ok piped) held held' before mid after le (is, inr (failed, wrote, rose)) = (is, inr (failed, wrote, rose_later before mid after le rose))
+rose_behind (Err e) held held' before mid after le same = same
+
+farewell_said : {E : Type 0} (outcome : List ℕ → JobRecord → Outcome) (jobs : List JobRecord) (s : State) (result : Result Piped E) (held held' held'' : Told) (writes : ℕ × ℕ)
     → RanAll outcome jobs s held held' → s.closing ≡ true → SaysFarewell result held' held'' writes → Serves result (IsRun outcome jobs) held held'' writes
 farewell_said outcome jobs s (Ok piped) held held' held'' writes all closing says = farewell_to outcome jobs s piped.read piped.write held held' held'' writes all closing says
 farewell_said outcome jobs s (Err e) held held' held'' writes all closing same =
     subst (λ (h : Told). WroteFront (IsRun outcome jobs) held h) (sym same) (all_run outcome jobs s held held' all)
+
+-- the CloseConnection behind the replies before a limit of the run
+pub closed_so : (E : Type 0) {F : Type 0} (outcome : List ℕ → JobRecord → Outcome) (jobs : List JobRecord) (course : Course) (s : State) (result : Result Piped F) (held held' held'' : Told) (before mid after : ℕ)
+    → course ≡ Closing → AnswersAll {E = E} (Ok course) outcome jobs s held held' (before, mid) → SaysFarewell result held' held'' (mid, after) → Serves result (IsRun outcome jobs) held held'' (before, after)
+closed_so E outcome jobs course s result held held' held'' before mid after came answered says =
+    let a : AnswersAll {E = E} (Ok Closing) outcome jobs s held held' (before, mid) = subst (λ (x : Course). AnswersAll {E = E} (Ok x) outcome jobs s held held' (before, mid)) came answered in
+    farewell_said outcome jobs s result held held' held'' (before, after) a.0 a.2 (rose_behind result held' held'' before mid after a.3 says)
+
+-- or memory was wanting for it
+pub want_so : (E : Type 0) (outcome : List ℕ → JobRecord → Outcome) (jobs : List JobRecord) (course : Course) (s : State) (held held' : Told) (writes : ℕ × ℕ)
+    → course ≡ Closing → AnswersAll {E = E} (Ok course) outcome jobs s held held' writes → WroteFront (IsRun outcome jobs) held held'
+want_so E outcome jobs course s held held' writes came answered =
+    let a : AnswersAll {E = E} (Ok Closing) outcome jobs s held held' writes = subst (λ (x : Course). AnswersAll {E = E} (Ok x) outcome jobs s held held' writes) came answered in
+    all_run outcome jobs s held held' a.0
 
 -- ---- the whole input
 

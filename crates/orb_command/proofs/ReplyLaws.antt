@@ -6,7 +6,8 @@ use Rattle.orb_base.specs.declared.order.Order.{Order}
 use Rattle.cdr_core.specs.Field.{Field, number, number_bytes}
 use Rattle.cdr_core.specs.Spelling.{fields_bytes}
 use Rattle.cdr_core.proofs.CallerLemmas.{fields_end-is, length-number_bytes}
-use Rattle.giop_messages.specs.Message.{reply}
+use Rattle.orb_base.specs.declared.order.Order.TheVariants.{Big}
+use Rattle.giop_messages.specs.Message.{reply, close}
 use Rattle.giop_messages.specs.Layout.{body_fields}
 use Rattle.giop_messages.specs.Spelling.{framed, spelled, all_fields}
 use Rattle.orb_command.specs.Said.{bare}
@@ -22,3 +23,6 @@ reply_short order id status [] short =
 reply_short order id status (x ∷ xs) short =
     let fields = all_fields (reply (bare id status (x ∷ xs))) in
     omega (arith, framed_len order 1 (fields_bytes order 12 fields), fields_end-is order 12 fields)
+
+pub close_short : length (spelled Big close) ≤ MAX_MESSAGE
+close_short = omega (arith, framed_len Big 5 [])

@@ -132,8 +132,9 @@ pub record IsRun (outcome : List ℕ → JobRecord → Outcome) (jobs : List Job
 
 -- one job was answered: its reply was written, or a front of it, or a limit was met
 abbrev pub AnswersOne : {E : Type 0} → Result Course E → (List ℕ → JobRecord → Outcome) → JobRecord → State → State → Told → Told → ℕ × ℕ → Type 0
-AnswersOne (Ok Whole) outcome job s s' held held' writes = (bytes : List ℕ) × Ran outcome job s s' bytes × (held' ≡ option_map (λ h. h ++ bytes) held)
-AnswersOne (Ok Closing) outcome job s s' held held' writes = Refused job s s' [] × (held' ≡ held)
+AnswersOne (Ok Whole) outcome job s s' held held' writes =
+    ((bytes : List ℕ) × Ran outcome job s s' bytes × (held' ≡ option_map (λ h. h ++ bytes) held)) × (writes.0 ≤ writes.1)
+AnswersOne (Ok Closing) outcome job s s' held held' writes = Refused job s s' [] × (held' ≡ held) × (writes.0 ≤ writes.1)
 AnswersOne (Ok Stopped) outcome job s s' held held' writes =
     ((bytes : List ℕ) × (rest : List ℕ) × Ran outcome job s s' bytes × WroteSome bytes rest held held') × Rose writes.0 writes.1
 AnswersOne (Err _) outcome job s s' held held' writes = held' ≡ held
@@ -161,7 +162,7 @@ pub record RanFront (outcome : List ℕ → JobRecord → Outcome) (jobs : List 
 -- what answering all jobs came to
 abbrev pub AnswersAll : {E : Type 0} → Result Course E → (List ℕ → JobRecord → Outcome) → List JobRecord → State → Told → Told → ℕ × ℕ → Type 0
 AnswersAll (Ok Whole) outcome jobs s' held held' writes = RanAll outcome jobs s' held held' × Does Free s'
-AnswersAll (Ok Closing) outcome jobs s' held held' writes = RanAll outcome jobs s' held held' × IsSettled s' × (s'.closing ≡ true)
+AnswersAll (Ok Closing) outcome jobs s' held held' writes = RanAll outcome jobs s' held held' × IsSettled s' × (s'.closing ≡ true) × (writes.0 ≤ writes.1)
 AnswersAll (Ok Stopped) outcome jobs s' held held' writes = RanFront outcome jobs held held' × Rose writes.0 writes.1
 AnswersAll (Err _) outcome jobs s' held held' writes = RanFront outcome jobs held held'
 

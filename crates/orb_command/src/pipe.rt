@@ -19,6 +19,7 @@ use orb_base::{Arc, Job, NoMemory, Serving, Sink, Source, Text};
 use std::alloc::Global;
 
 /// Answers one request: it is carried out, and its reply is written.
+#[tactic(auto, using(crate::proofs::PipedLaws::ran_of))]
 fn answer_one<O: Sink, S: Serving>(
     alloc: Global,
     lanes: &mut Lanes,
@@ -30,9 +31,8 @@ fn answer_one<O: Sink, S: Serving>(
     requires free { Does Free lanes.old }
     requires job { IsPingJob job.now }
     requires interface { interface.now ≡ ping_interface }
-    ensures answers { AnswersOne result (S.outcome servants.now) job.now lanes.old lanes.new
+    ensures { AnswersOne result (S.outcome servants.now) job.now lanes.old lanes.new
         (O.held sink.old) (O.held sink.new) (O.faults sink.old, O.faults sink.new) }
-    ensures faults { O.faults sink.old ≤ O.faults sink.new }
 {
     let Some(answer) = carry_out(lanes, servants, interface, job)? else {
         return Ok(Course::Closing);
@@ -45,6 +45,7 @@ fn answer_one<O: Sink, S: Serving>(
 }
 
 /// Answers requests one after another, up to a limit of the run.
+#[tactic(auto, using(crate::proofs::PipedLaws::underway_start))]
 fn answer_all<O: Sink, S: Serving>(
     alloc: Global,
     lanes: &mut Lanes,
@@ -85,7 +86,7 @@ fn say_farewell<O: Sink>(alloc: Global, sink: &mut O) -> Result<Piped, NoMemory>
 }
 
 /// Answers the requests of one connection, from the opening of the machine to the end of the connection.
-#[tactic(auto, using(crate::proofs::PipedLaws::none_run, crate::proofs::PipedLaws::front_run, crate::proofs::PipedLaws::all_run, crate::proofs::PipedLaws::whole_run, crate::proofs::PipedLaws::farewell_said))]
+#[tactic(auto, using(crate::proofs::PipedLaws::none_run, crate::proofs::PipedLaws::front_run, crate::proofs::PipedLaws::all_run, crate::proofs::PipedLaws::whole_run))]
 fn answer_jobs<O: Sink, S: Serving>(
     alloc: Global,
     sink: &mut O,

@@ -54,6 +54,7 @@ pub fn reply_to(alloc: Global, answer: &Answer) -> Result<Octets, NoMemory>
 }
 
 /// The CloseConnection.
+#[tactic(auto, using(crate::proofs::ReplyLaws::close_short))]
 pub fn close_connection(alloc: Global) -> Result<Octets, NoMemory>
     ensures { IfOk result (λ o. o.items ≡ spelled Big close) }
 {

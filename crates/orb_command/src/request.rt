@@ -64,6 +64,7 @@ fn job_for(request: Request, serial: u32, order: Order, size: u32) -> Job
 }
 
 /// The job that a message means. None where it is no such request.
+#[tactic(auto, using(crate::proofs::HearingLaws::means_job, crate::proofs::HearingLaws::other_request))]
 fn job_of(alloc: Global, serial: u32, whole: &Whole) -> Result<Option<Job>, NoMemory>
     requires { IsMessage whole.now }
     ensures { IfOk result (MeansJob serial whole.now) }
@@ -78,8 +79,12 @@ fn job_of(alloc: Global, serial: u32, whole: &Whole) -> Result<Option<Job>, NoMe
             }
         }
         Ok(_) => Ok(None),
-        Err(MessageFault::NoMemory) => Err(NoMemory),
-        Err(_) => Ok(None),
+        Err(fault) => match fault {
+            MessageFault::NoMemory => Err(NoMemory),
+            MessageFault::Cdr(_) | MessageFault::BadTarget(_) | MessageFault::BadStatus(_) => {
+                Ok(None)
+            }
+        },
     }
 }
 
@@ -97,8 +102,9 @@ fn jobs_of(alloc: Global, messages: &[Whole]) -> Result<Option<Jobs>, NoMemory>
         let Ok(job) = Arc::new(alloc, job) else {
             return Err(NoMemory);
         };
-        if jobs.push(job).is_err() {
-            return Err(NoMemory);
+        match jobs.push(job) {
+            Ok(()) => {}
+            Err(_) => return Err(NoMemory),
         }
     }
     Ok(Some(jobs))
