@@ -8,6 +8,7 @@ mod joiner;
 pub mod laws;
 mod partials;
 mod rules;
+mod split;
 mod stream;
 mod told;
 mod unfinished;
@@ -15,8 +16,11 @@ mod whole;
 
 pub use fault::{FeedFault, FrameCause, FrameFault};
 pub use framer::Framer;
+pub use split::split;
 pub use stream::read_stream;
 pub use whole::Whole;
 
+#[cfg(test)]
+mod split_tests;
 #[cfg(test)]
 mod tests;

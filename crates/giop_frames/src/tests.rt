@@ -31,7 +31,7 @@ const FIRST: [u8; 24] = [
 type Answer = (Result<(), FeedFault>, Option<u64>);
 
 /// Feeds the bytes in pieces of at most `n`, up to the first fault: the last answer, and the rest.
-fn fed_by(
+pub(crate) fn fed_by(
     alloc: Global,
     limit: usize,
     bytes: &[u8],
