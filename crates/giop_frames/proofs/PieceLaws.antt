@@ -1,15 +1,13 @@
 -- What the pieces of a message come to: their lengths, and their stream.
-use Rattle.std.proofs.Common.{◌≡◌, ℕ, ◌+◌, ◌-◌, ◌*◌, ◌%◌, ◌^◌, ◌<◌, ◌≤◌, ◌==◌, Bool, true, false, List, [], ◌∷◌, ◌++◌, length, take, drop, Option, Some, None, refl, ap, sym, ◌∙◌, subst, arith, append_assoc, length-append, length-drop, nat_lt, nat_le, ◌&&◌}
-use Rattle.std.specs.Int.{w32}
-use Rattle.std.proofs.lemmas.List.{append-nil, take-append-drop, take-take, length-take-le}
+use Rattle.std.proofs.Common.{◌≡◌, ℕ, ◌+◌, ◌-◌, ◌%◌, ◌^◌, ◌<◌, ◌≤◌, ◌==◌, Bool, true, false, List, [], ◌∷◌, ◌++◌, length, take, drop, Some, None, refl, ap, sym, ◌∙◌, subst, arith, append_assoc, length-append, length-drop, nat_lt, nat_le, ◌&&◌}
+use Rattle.std.proofs.lemmas.List.{take-append-drop, length-take-le}
 use Rattle.orb_base.specs.Room.{Room}
 use Rattle.orb_base.specs.declared.order.Order.{Order}
-use Rattle.cdr_core.specs.Reading.{number_of}
 use Rattle.cdr_core.specs.Cursor.{AreBytes}
-use Rattle.giop_frames.specs.Pieces.{Piece, order_of, has_more, kind_of, piece_len, id_of}
-use Rattle.giop_frames.specs.Messages.{Partial, Message, is_fragment, opens, sealed, lone}
-use Rattle.giop_frames.specs.Stream.{Said, is_short_kind, header_cause, stream}
-use Rattle.giop_frames.specs.Running.{stepped, ahead}
+use Rattle.giop_frames.specs.Pieces.{Piece, order_of, kind_of, piece_len, id_of}
+use Rattle.giop_frames.specs.Messages.{Partial, Message, is_fragment, opens, lone}
+use Rattle.giop_frames.specs.Stream.{is_short_kind, stream}
+use Rattle.giop_frames.specs.Running.{ahead}
 use Rattle.giop_frames.specs.Feeds.{joined_feeds}
 use Rattle.giop_frames.specs.Splitting.{IsUncut, first_piece, fragment, AreFragments, ArePiecesOf, AreFull, last_at, only, ReadsAs}
 use Rattle.giop_frames.proofs.Ahead.{kind_front}

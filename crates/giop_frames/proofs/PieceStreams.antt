@@ -1,28 +1,18 @@
 -- The stream of the pieces of a message.
-use Rattle.std.proofs.Common.{◌≡◌, ℕ, ◌+◌, ◌-◌, ◌*◌, ◌/◌, ◌%◌, ◌^◌, ◌<◌, ◌≤◌, ◌==◌, ◌&&◌, ◌||◌, not, Bool, true, false, cond, List, [], ◌∷◌, ◌++◌, length, take, drop, Option, Some, None, is_some, refl, ap, sym, ◌∙◌, subst, arith, append_assoc, length-append, length-drop, nat_lt}
-use Rattle.std.specs.Prelude.{slice_index, option_to_list, option_map, if◌then◌else◌}
-use Rattle.std.specs.Int.{w32, byte_len}
-use Rattle.std.proofs.lemmas.List.{append-nil, take-append-drop, take-take, length-take-le, drop-drop}
-use Rattle.orb_base.specs.Room.{Room}
+use Rattle.std.proofs.Common.{◌≡◌, ℕ, ◌+◌, ◌-◌, ◌%◌, ◌≤◌, ◌==◌, Bool, true, false, cond, List, [], ◌∷◌, ◌++◌, length, Option, Some, None, refl, ap, sym, ◌∙◌, arith, nat_lt}
+use Rattle.std.specs.Prelude.{option_to_list, option_map}
 use Rattle.orb_base.specs.declared.order.Order.{Order}
 use Rattle.orb_base.specs.declared.order.Order.TheVariants.{Big, Little}
-use Rattle.cdr_core.specs.Field.{number_bytes}
-use Rattle.cdr_core.specs.Reading.{number_of}
-use Rattle.cdr_core.specs.Cursor.{AreBytes}
-use Rattle.cdr_core.proofs.Numbers.{number_back, number_below}
 use Rattle.giop_frames.specs.declared.fault.FrameCause.{FrameCause}
-use Rattle.giop_frames.specs.declared.fault.FrameCause.TheVariants.{BadMagic, BadVersion, BadType, TooLong, BadPiece}
 use Rattle.giop_frames.specs.Pieces.{Piece, order_of, has_more, kind_of, piece_len, id_of, cut}
-use Rattle.giop_frames.specs.Messages.{Partial, Message, is_fragment, opens, completed, joined, lone, open_at, sealed}
-use Rattle.giop_frames.specs.Stream.{Said, has_magic, has_version, header_cause, is_short_kind, same_order, fragment_cause, first_cause, piece_cause, cause_of, or_else, or_stopped, with_front, rest_with, tail_rest, stream}
+use Rattle.giop_frames.specs.Messages.{Partial, Message, is_fragment, opens, completed, joined, open_at, sealed}
+use Rattle.giop_frames.specs.Stream.{Said, has_magic, has_version, header_cause, is_short_kind, same_order, fragment_cause, first_cause, piece_cause, or_else, or_stopped, with_front, rest_with, tail_rest}
 use Rattle.giop_frames.specs.Running.{stepped, run, ahead}
-use Rattle.giop_frames.specs.Splitting.{is_long_kind, IsUncut, piece_of, first_piece, fragment}
-use Rattle.giop_frames.proofs.Ahead.{ahead_piece, kind_front}
-use Rattle.giop_frames.proofs.Effects.{opens_first, fragment_opens_none, last_opens_none, fragment_continues, middle_ends, last_ends, step_opens, step_ends, step_grows}
-use Rattle.giop_frames.proofs.Deeds.{completes_none, completes_joined, completes_lone}
-use Rattle.giop_frames.proofs.Growing.{stream_is}
-use Rattle.giop_frames.proofs.Sealing.{front_is}
-use Rattle.giop_frames.proofs.PieceHeads.{IsPieceOf, piece_is, back_is}
+use Rattle.giop_frames.specs.Splitting.{is_long_kind}
+use Rattle.giop_frames.proofs.Ahead.{ahead_piece}
+use Rattle.giop_frames.proofs.Effects.{fragment_opens_none, last_opens_none, fragment_continues, middle_ends, last_ends, step_ends, step_grows}
+use Rattle.giop_frames.proofs.Deeds.{completes_none, completes_joined}
+use Rattle.giop_frames.proofs.PieceHeads.{IsPieceOf}
 
 -- what a piece without a cause does
 pub header_passes : (limit : ℕ) (p : List ℕ) → has_magic p ≡ true → has_version p ≡ true → nat_lt 7 (kind_of p) ≡ false → nat_lt limit (piece_len p) ≡ false → header_cause limit p ≡ None

@@ -1,8 +1,8 @@
-use Rattle.std.proofs.Common.{ℕ, ◌∙◌, List, [], ◌∷◌, ◌++◌, ◌-◌, length, take, drop, arith, ap, length-take, length-drop}
+use Rattle.std.proofs.Common.{ℕ, ◌∙◌, List, [], ◌∷◌, ◌++◌, ◌-◌, length, drop, arith, ap, length-take, length-drop}
 use Rattle.orb_base.specs.Room.{Room}
 use Rattle.giop_frames.proofs.PieceLaws.{full, reads_as, cut_last, cut_alone}
 use Rattle.giop_frames.proofs.PieceSeals.{short_of}
-use Rattle.giop_frames.proofs.split.split.Goals as goal
+use Rattle.giop_frames.proofs.cutting.split.Goals as goal
 
 pub piece-requires-clause-fits : goal.piece-requires-clause-fits
 piece-requires-clause-fits c =

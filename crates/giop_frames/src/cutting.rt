@@ -1,11 +1,12 @@
 //! A whole message cut into pieces (CORBA 3.0.3, section 15.4.9).
-ghost use Rattle.std.specs.Prelude.{◌≡◌, ◌≤◌, ◌<◌, ◌+◌, ◌-◌, ◌%◌, ◌^◌, ◌∷◌, ◌++◌, [], length, take, drop, slice_index, true, false, IfOk, OnOk, if◌then◌else◌};
+ghost use Rattle.std.specs.Prelude.{◌≡◌, ◌≤◌, ◌<◌, ◌+◌, ◌-◌, ◌%◌, ◌^◌, ◌∷◌, ◌++◌, [], length, take, drop, slice_index, true, false, IfOk, OnOk, if◌then◌else◌, IsTrue, ◌↔◌};
 ghost use Rattle.std.specs.Int.{w32};
 ghost use Rattle.cdr_core.specs.Field.{number_bytes};
 ghost use Rattle.giop_frames.specs.Pieces.{order_of as order_in, has_more as has_more_in};
+ghost use Rattle.giop_frames.specs.Splitting as Spec;
 ghost use Rattle.giop_frames.specs.Splitting.{IsUncut, ArePiecesOf, AreFull, ReadsAs, piece_of};
 
-use crate::header::{HEADER, kind_of, order_of};
+use crate::header::{HEADER, has_magic, has_more, has_version, kind_of, order_of, piece_len};
 use crate::partials::long_of;
 use orb_base::{List, NoMemory, Octets};
 use std::alloc::Global;
@@ -59,6 +60,26 @@ fn put(pieces: &mut List<Octets>, piece: Octets) -> Result<(), NoMemory>
         Ok(()) => Ok(()),
         Err(_) => Err(NoMemory),
     }
+}
+
+/// Whether a kind of message may come in fragments.
+#[tactic(auto, unfolding(crate::specs::Splitting::is_long_kind))]
+fn is_long_kind(kind: u8) -> bool
+    ensures { result ≡ Spec.is_long_kind kind }
+{
+    kind == 0 || kind == 1 || kind == 3 || kind == 4
+}
+
+/// Whether `split` takes a message: a whole one of one piece, of a kind that may come in fragments, with its id.
+pub fn can_split(message: &[u8]) -> bool
+    ensures { IsTrue result ↔ IsUncut message.now }
+{
+    message.len() >= HEADER + ID
+        && has_magic(message)
+        && has_version(message)
+        && !has_more(message)
+        && is_long_kind(kind_of(message))
+        && message.len() == piece_len(message)
 }
 
 /// Cuts a whole message of one piece into pieces of at most `limit` bytes, their headers included: a Request, Reply,
