@@ -1,5 +1,5 @@
--- A whole message cut into pieces: CORBA 3.0.3, section 15.4.9. That each piece but the last is as long as the limit is own
--- profile.
+-- A whole message cut into pieces: CORBA 3.0.3, section 15.4.9. That each piece but the last is as long as the limit is
+-- own profile.
 use Rattle.std.specs.Prelude.{ℕ, ◌≡◌, ◌+◌, ◌-◌, ◌<◌, ◌≤◌, ◌==◌, ◌||◌, Bool, true, false, List, [], ◌∷◌, ◌++◌, None, length, take, drop, slice_index, if◌then◌else◌}
 use Rattle.std.specs.Int.{w32}
 use Rattle.orb_base.specs.Room.{Room}
@@ -22,11 +22,12 @@ pub record IsUncut (message : List ℕ) : Type 0 where
   pub size : length message ≡ piece_len message
   pub id : 16 ≤ length message
 
--- a piece of a message: its magic, version and flags, the fragment bit set where more pieces follow; a kind; the size; the
--- message's id; and some of its further bytes
+-- a piece of a message: its magic, version and flags, the fragment bit set where more pieces follow; a kind; the size;
+-- the message's id; and some of its further bytes
 unfoldable pub piece_of : List ℕ → Bool → ℕ → List ℕ → List ℕ
 piece_of message more kind bytes =
-    take 6 message ++ (slice_index message 6 + (if more then 2 else 0)) ∷ kind ∷ number_bytes (order_of message) w32 (4 + length bytes) ++ take 4 (drop 12 message) ++ bytes
+    take 6 message ++ (slice_index message 6 + (if more then 2 else 0)) ∷ kind ∷ number_bytes (order_of message) w32 (4 + length bytes)
+    ++ take 4 (drop 12 message) ++ bytes
 
 -- the first piece carries what follows the id, as much as the limit leaves room for
 abbrev pub first_piece : ℕ → List ℕ → List ℕ
@@ -41,14 +42,16 @@ abbrev pub AreFragments : ℕ → List ℕ → List ℕ → List (Room ℕ) → 
 AreFragments limit message bytes [] = ⊥
 AreFragments limit message bytes (p ∷ []) = (length bytes ≤ limit - 16) × (p.items ≡ fragment message false bytes)
 AreFragments limit message bytes (p ∷ q ∷ ps) =
-    (limit - 16 < length bytes) × (p.items ≡ fragment message true (take (limit - 16) bytes)) × AreFragments limit message (drop (limit - 16) bytes) (q ∷ ps)
+    (limit - 16 < length bytes) × (p.items ≡ fragment message true (take (limit - 16) bytes))
+    × AreFragments limit message (drop (limit - 16) bytes) (q ∷ ps)
 
 -- the pieces of a message under a limit: itself, where it is within the limit, or else a first piece and Fragments
 abbrev pub ArePiecesOf : ℕ → List ℕ → List (Room ℕ) → Type 0
 ArePiecesOf limit message [] = ⊥
 ArePiecesOf limit message (p ∷ []) = (length message ≤ limit) × (p.items ≡ message)
 ArePiecesOf limit message (p ∷ q ∷ ps) =
-    (limit < length message) × (p.items ≡ first_piece limit message) × AreFragments limit message (drop limit message) (q ∷ ps)
+    (limit < length message) × (p.items ≡ first_piece limit message)
+    × AreFragments limit message (drop limit message) (q ∷ ps)
 
 -- each of these pieces but the last is as long as the limit, and the last is within it
 abbrev pub AreFull : ℕ → List (Room ℕ) → Type 0
