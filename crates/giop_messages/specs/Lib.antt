@@ -12,3 +12,4 @@ pub mod Plain
 pub mod PlainReading
 pub mod MessageReading
 pub mod Framing
+pub mod Causes
