@@ -13,6 +13,10 @@ mod KindFound
 pub mod WholeFound
 pub mod Headed
 pub mod FromFrames
+pub mod FirstFault
+pub mod HeaderFault
+pub mod FaultAgain
+pub mod RefusalAgain
 mod PartsAgain
 pub mod WholeAgain
 pub mod CallerLemmas

@@ -11,4 +11,6 @@ pub mod Exceptions
 pub mod Plain
 pub mod PlainReading
 pub mod MessageReading
+pub mod Refusing
 pub mod Framing
+pub mod Causes
