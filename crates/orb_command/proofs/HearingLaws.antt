@@ -78,9 +78,10 @@ other_request m r reads other ping =
 
 pub means_job : (serial : ℕ) (m : Message) (r : Request) (order : Order) (size : ℕ) (job : JobRecord) → IsMessage m → Reads (request r) m.bytes → r ≡ ping_request r.id
     → order ≡ m.order → size ≡ length m.bytes → job ≡ ping_job serial order size r.id → MeansJob serial m (Some job)
-means_job serial m r order size job is reads ping orders sizes came =
-    (record { id = r.id; reads = subst (λ (x : Request). ReadsIn m.order (request x) m.bytes) ping (in_its_order m (request r) is reads) },
-      came ∙ ap (λ (o : Order). ping_job serial o size r.id) orders ∙ ap (λ (n : ℕ). ping_job serial m.order n r.id) sizes)
+means_job serial m r order size job is reads ping orders sizes came = (
+  record { id = r.id; reads = subst (λ (x : Request). ReadsIn m.order (request x) m.bytes) ping (in_its_order m (request r) is reads) },
+  came ∙ ap (λ (o : Order). ping_job serial o size r.id) orders ∙ ap (λ (n : ℕ). ping_job serial m.order n r.id) sizes,
+)
 
 -- a fault tells that no request has a reading
 pub no_ping : (m : Message) (fault : MessageFault) → (fault ≡ faults.NoMemory → ⊥) → ((x : Spec.Message) → Reads x m.bytes → Fails {Y = Spec.Message} fault (Ok x)) → IsPing m → ⊥
@@ -116,8 +117,8 @@ one_more_heard ms jobs m job so_far (ping, is) = record {
   pings = more_pings ms m so_far.pings ping;
   jobs_so = more_jobs 0 jobs job so_far.jobs_so (subst (λ (j : JobRecord). IsPingJob j) (sym is) refl) (omega (arith, ap (λ (j : JobRecord). j.serial) is));
   heard = more_heard 0 ms jobs m job so_far.heard
-    (subst (λ (n : ℕ). IsHeard built_in pipe_conn n m (Offer job)) (omega arith)
-    (subst (λ (j : JobRecord). IsHeard built_in pipe_conn (length jobs) m (Offer j)) (sym is) (is_heard (length jobs) m ping)));
+      (subst (λ (n : ℕ). IsHeard built_in pipe_conn n m (Offer job)) (omega arith)
+      (subst (λ (j : JobRecord). IsHeard built_in pipe_conn (length jobs) m (Offer j)) (sym is) (is_heard (length jobs) m ping)));
 }
 
 -- one more message was read
@@ -127,9 +128,10 @@ pub next_jobs : (ms : List Message) (i : ℕ) (m : Message) (jobs jobs' : List J
 next_jobs ms i m jobs jobs' serial o job shared lt is so_far count means numbered some same new =
     let here : MeansJob (length jobs) m (Some job) = subst (λ (n : ℕ). MeansJob n m (Some job)) numbered (subst (λ (x : Option JobRecord). MeansJob serial m x) some means) in
     let front : take (i + 1) ms ≡ take i ms ++ m ∷ [] = take_more ms i m lt ∙ ap (λ (x : Message). take i ms ++ x ∷ []) (sym is) in
-    let behind : jobs' ≡ jobs ++ job ∷ [] = new ∙ ap (λ (x : JobRecord). jobs ++ x ∷ []) same in
-    (subst (λ (xs : List Message). MeanJobs 0 xs jobs') (sym front) (subst (λ (js : List JobRecord). MeanJobs 0 (take i ms ++ m ∷ []) js) (sym behind) (one_more_heard (take i ms) jobs m job so_far here)),
-      ap length behind ∙ length-append jobs (job ∷ []) ∙ ap (λ (n : ℕ). n + 1) count)
+    let behind : jobs' ≡ jobs ++ job ∷ [] = new ∙ ap (λ (x : JobRecord). jobs ++ x ∷ []) same in (
+      subst (λ (xs : List Message). MeanJobs 0 xs jobs') (sym front) (subst (λ (js : List JobRecord). MeanJobs 0 (take i ms ++ m ∷ []) js) (sym behind) (one_more_heard (take i ms) jobs m job so_far here)),
+      ap length behind ∙ length-append jobs (job ∷ []) ∙ ap (λ (n : ℕ). n + 1) count,
+    )
 
 -- one message that is no such request
 pub not_all : (ms : List Message) (i : ℕ) (m : Message) → slice_get ms i ≡ Some m → (IsPing m → ⊥) → AllByRecursion IsPing ms → ⊥
@@ -143,12 +145,14 @@ not_all (first ∷ ms) (suc i) m is other (here, all) = not_all ms i m is other 
 pub jobs_of : (n : ℕ) (ms : List Message) → AllByRecursion IsPing ms → (jobs : List JobRecord) × MeanJobs n ms jobs
 jobs_of n [] all = ([], record { pings = tt; jobs_so = tt; heard = tt })
 jobs_of n (m ∷ ms) (ping, all) =
-    let others = jobs_of (suc n) ms all in
-    (ping_job n m.order (length m.bytes) ping.id ∷ others.0, record {
-      pings = (ping, all);
-      jobs_so = (refl, refl, others.1.jobs_so);
-      heard = (is_heard n m ping, others.1.heard);
-    })
+    let others = jobs_of (suc n) ms all in (
+      ping_job n m.order (length m.bytes) ping.id ∷ others.0,
+      record {
+        pings = (ping, all);
+        jobs_so = (refl, refl, others.1.jobs_so);
+        heard = (is_heard n m ping, others.1.heard);
+      },
+    )
 
 -- ---- the whole input
 

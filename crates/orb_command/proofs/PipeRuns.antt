@@ -73,8 +73,8 @@ four h e f g k = simp append_assoc
 settles : (servant : JobRecord → Outcome) (c b serial size id : ℕ) (order : Order) (h : History) → let job = ping_job serial order size id in
     settled servant (at (with_thread (Given job) c b) h)
     ≡ at (idle c (b + body_len (servant job)))
-      (((h ++ entry (Take 0) (reply.Given job) ∷ []) ++ entry (Finish 0 (record { job = job; outcome = servant job })) reply.Finished ∷ [])
-        ++ entry (Collect pipe_conn) (reply.Handed (Answered (record { job = job; outcome = servant job }))) ∷ [])
+    (((h ++ entry (Take 0) (reply.Given job) ∷ []) ++ entry (Finish 0 (record { job = job; outcome = servant job })) reply.Finished ∷ [])
+    ++ entry (Collect pipe_conn) (reply.Handed (Answered (record { job = job; outcome = servant job }))) ∷ [])
 unfolding next_job
 settles servant c b serial size id order h = refl
 
@@ -89,7 +89,7 @@ ping_grouped servant c b serial size id order h calls over =
     let first = ap (λ (x : State × LaneReply). grouped servant 1 1 (settled servant (at x.0 (h ++ entry (Offer job) x.1 ∷ []))) calls) (offer_runs c b serial size id order over) in
     let follows = settles servant (c + 1) (b + size) serial size id order (h ++ e ∷ []) in
     let whole = four h e (entry (Take 0) (reply.Given job)) (entry (Finish 0 (record { job = job; outcome = servant job })) reply.Finished)
-      (entry (Collect pipe_conn) (reply.Handed (Answered (record { job = job; outcome = servant job })))) in
+    (entry (Collect pipe_conn) (reply.Handed (Answered (record { job = job; outcome = servant job })))) in
     first ∙ ap (λ (r : Run). grouped servant 1 1 r calls) (follows ∙ ap (at (idle (c + 1) (b + size + body_len (servant job)))) whole)
 
 one_grouped : (servant : JobRecord → Outcome) (c b : ℕ) (job : JobRecord) (h : History) (calls : List LaneCall) → IsPingJob job → is_over (idle c b) job.size ≡ false
@@ -97,7 +97,7 @@ one_grouped : (servant : JobRecord → Outcome) (c b : ℕ) (job : JobRecord) (h
     ≡ grouped servant 1 1 (at (idle (c + 1) (b + job.size + body_len (servant job))) (h ++ deeds job (servant job))) calls
 one_grouped servant c b job h calls ping over =
     subst (λ (j : JobRecord). grouped servant 1 1 (at (idle c b) h) (Offer j ∷ calls)
-      ≡ grouped servant 1 1 (at (idle (c + 1) (b + j.size + body_len (servant j))) (h ++ deeds j (servant j))) calls)
+    ≡ grouped servant 1 1 (at (idle (c + 1) (b + j.size + body_len (servant j))) (h ++ deeds j (servant j))) calls)
     (sym ping) (ping_grouped servant c b job.serial job.size job.id job.order h calls over)
 
 shut_stays : (servant : JobRecord → Outcome) (c b : ℕ) (h : History) (calls : List LaneCall) → grouped servant 1 1 (at (shut c b) h) calls ≡ at (shut c b) h
@@ -128,9 +128,12 @@ ping_legal c b serial size id order answer h over short legal =
     let job = ping_job serial order size id in
     let runs = offer_runs c b serial size id order over in
     let behind : IsLegal (with_thread (Given job) (c + 1) (b + size)) (rest_of_deeds job answer ++ h) =
-      (refl, refl, refl, (refl, (refl, short), refl, (refl, tt, refl, legal))) in
-    (refl, λ _. refl, sym (ap (λ (x : State × LaneReply). x.1) runs),
-      subst (λ (s : State). IsLegal s (rest_of_deeds job answer ++ h)) (sym (ap (λ (x : State × LaneReply). x.0) runs)) behind)
+    (refl, refl, refl, (refl, (refl, short), refl, (refl, tt, refl, legal))) in (
+      refl,
+      λ _. refl,
+      sym (ap (λ (x : State × LaneReply). x.1) runs),
+      subst (λ (s : State). IsLegal s (rest_of_deeds job answer ++ h)) (sym (ap (λ (x : State × LaneReply). x.0) runs)) behind,
+    )
 
 one_legal : (c b : ℕ) (job : JobRecord) (answer : Outcome) (h : History) → IsPingJob job → is_over (idle c b) job.size ≡ false → body_len answer ≤ MAX_BODY
     → IsLegal (idle (c + 1) (b + job.size + body_len answer)) h → IsLegal (idle c b) (deeds job answer ++ h)
@@ -215,10 +218,10 @@ more_grouped outcome job jobs c b mid s first rest ping ran others = record {
   came = (ran.came, others.came);
   history = deeds job ran.answer ++ others.history;
   run = λ servant agrees h.
-    one_grouped servant c b job h (offers jobs) ping ran.admitted
-    ∙ ap (λ (o : Outcome). grouped servant 1 1 (at (idle (c + 1) (b + job.size + body_len o)) (h ++ deeds job o)) (offers jobs)) agrees.0
-    ∙ others.run servant agrees.1 (h ++ deeds job ran.answer)
-    ∙ ap (at s) (simp append_assoc);
+      one_grouped servant c b job h (offers jobs) ping ran.admitted
+      ∙ ap (λ (o : Outcome). grouped servant 1 1 (at (idle (c + 1) (b + job.size + body_len o)) (h ++ deeds job o)) (offers jobs)) agrees.0
+      ∙ others.run servant agrees.1 (h ++ deeds job ran.answer)
+      ∙ ap (at s) (simp append_assoc);
   legal = one_legal c b job ran.answer others.history ping ran.admitted ran.short others.legal;
   stands = one_stands c b job ran.answer others.history ping ran.admitted ∙ others.stands;
   says = one_says job ran.answer others.history ∙ ap (λ (x : List ℕ). x ++ said pipe_conn others.history) (sym ran.reply) ∙ ap (λ (x : List ℕ). first ++ x) others.says;
@@ -274,6 +277,8 @@ lacking outcome n (job ∷ jobs) (answer ∷ answers) (ping, numbered, pings) (i
     record {
       lacks = n ∷ others.lacks;
       later = λ m lt. ap (λ (x : Bool). x || list_any (λ serial. serial == m) others.lacks) (ne_eqb n m (λ same. omega (arith, same))) ∙ others.later m (omega arith);
-      agrees = (ap (λ (x : Bool). if (x || list_any (λ serial. serial == job.serial) others.lacks) then no_memory else outcome (interface_of built_in job.target) job) here ∙ sym is,
-        weaker outcome n (suc n) others.lacks jobs answers (omega arith) pings others.agrees);
+      agrees = (
+        ap (λ (x : Bool). if (x || list_any (λ serial. serial == job.serial) others.lacks) then no_memory else outcome (interface_of built_in job.target) job) here ∙ sym is,
+        weaker outcome n (suc n) others.lacks jobs answers (omega arith) pings others.agrees,
+      );
     }

@@ -102,13 +102,13 @@ run_is_piped outcome input jobs closing output built mean run =
     let b = run.behind.bytes in
     let behind : run.behind ≡ settled c b closing = grouped.settled_so ∙ ap (settled c b) run.closes in
     let whole : piped built_in outcome 1 (offers jobs) Quiet lack.lacks ≡ at (gone c b closing) (grouped.history ++ last closing) =
-      ap (closed_by servant Quiet) (grouped.run servant lack.agrees [] ∙ ap (λ (s : State). at s grouped.history) behind) ∙ closes_so servant c b closing grouped.history in
+    ap (closed_by servant Quiet) (grouped.run servant lack.agrees [] ∙ ap (λ (s : State). at s grouped.history) behind) ∙ closes_so servant c b closing grouped.history in
     let last_so : IsLegal (replay opened grouped.history) (last closing) =
-      subst (λ (s : State). IsLegal s (last closing)) (sym (grouped.stands ∙ behind)) (last_legal c b closing) in
+    subst (λ (s : State). IsLegal s (last closing)) (sym (grouped.stands ∙ behind)) (last_legal c b closing) in
     let legal = legal_both opened grouped.history (last closing) grouped.legal last_so in
     let says : said pipe_conn (grouped.history ++ last closing) ≡ run.replies ++ farewell closing =
-      flat_map-append (λ e. call_bytes pipe_conn e.call e.reply) grouped.history (last closing)
-      ∙ ap (λ (x : List ℕ). x ++ said pipe_conn (last closing)) grouped.says ∙ ap (λ (x : List ℕ). run.replies ++ x) (last_says closing) in
+    flat_map-append (λ e. call_bytes pipe_conn e.call e.reply) grouped.history (last closing)
+    ∙ ap (λ (x : List ℕ). x ++ said pipe_conn (last closing)) grouped.says ∙ ap (λ (x : List ℕ). run.replies ++ x) (last_says closing) in
     record {
       built = built;
       calls = offers jobs;
@@ -136,12 +136,18 @@ some_run outcome (job ∷ jobs) c b =
     let reply_bytes = item_bytes (Answered (record { job = job; outcome = no_memory })) in
     let others = some_run outcome jobs (c + 1) (b + job.size + body_len no_memory) in
     elim (either (is_over (idle c b) job.size)) [
-      inl over ↦ record { behind = record (idle c b) { closing = true }; replies = []; runs = inl (record { over = over; moved = refl; silent = refl }) }
+      | inl over ↦ record { behind = record (idle c b) { closing = true }; replies = []; runs = inl (record { over = over; moved = refl; silent = refl }) }
       | inr not_over ↦ record {
         behind = others.behind;
         replies = reply_bytes ++ others.replies;
-        runs = inr (idle (c + 1) (b + job.size + body_len no_memory), reply_bytes, others.replies,
-          record { answer = no_memory; came = inr refl; short = lit≤ tt; admitted = not_over; moved = refl; reply = refl }, others.runs, refl);
+        runs = inr (
+          idle (c + 1) (b + job.size + body_len no_memory),
+          reply_bytes,
+          others.replies,
+          record { answer = no_memory; came = inr refl; short = lit≤ tt; admitted = not_over; moved = refl; reply = refl },
+          others.runs,
+          refl,
+        );
       }
     ]
 
@@ -178,9 +184,9 @@ underway_step outcome jobs i job s s' bytes held held' held'' is under ran wrote
   so_far = under.so_far ++ bytes;
   wrote = wrote_behind under.so_far bytes held held' held'' under.wrote wrote;
   completes = λ last rest runs.
-    let all : Runs outcome (drop i jobs) s last (bytes ++ rest) =
+      let all : Runs outcome (drop i jobs) s last (bytes ++ rest) =
       subst (λ (l : List JobRecord). Runs outcome l s last (bytes ++ rest)) (sym is) (inr (s', bytes, rest, ran, runs, refl)) in
-    subst (λ (x : List ℕ). Runs outcome jobs opened last x) (sym (append_assoc under.so_far bytes rest)) (under.completes last (bytes ++ rest) all);
+      subst (λ (x : List ℕ). Runs outcome jobs opened last x) (sym (append_assoc under.so_far bytes rest)) (under.completes last (bytes ++ rest) all);
 }
 
 -- a limit of the run was met
@@ -202,13 +208,13 @@ pub underway_stopped : (outcome : List ℕ → JobRecord → Outcome) (jobs : Li
 underway_stopped outcome jobs i job s s' bytes rest held held' held'' is under ran wrote =
     let others = some_run outcome (drop (i + 1) jobs) (s.calls + 1) (s.bytes + job.size + body_len ran.answer) in
     let runs : Runs outcome (drop (i + 1) jobs) s' others.behind others.replies =
-      subst (λ (z : State). Runs outcome (drop (i + 1) jobs) z others.behind others.replies) (sym ran.moved) others.runs in
+    subst (λ (z : State). Runs outcome (drop (i + 1) jobs) z others.behind others.replies) (sym ran.moved) others.runs in
     record {
       behind = others.behind;
       replies = under.so_far ++ (bytes ++ others.replies);
       rest = rest ++ others.replies;
       runs = under.completes others.behind (bytes ++ others.replies)
-        (subst (λ (l : List JobRecord). Runs outcome l s others.behind (bytes ++ others.replies)) (sym is) (inr (s', bytes, others.replies, ran, runs, refl)));
+          (subst (λ (l : List JobRecord). Runs outcome l s others.behind (bytes ++ others.replies)) (sym is) (inr (s', bytes, others.replies, ran, runs, refl)));
       wrote = wrote_more under.so_far bytes rest others.replies held held' held'' under.wrote wrote;
     }
 
@@ -258,9 +264,11 @@ pub course_whole : (E : Type 0) (outcome : List ℕ → JobRecord → Outcome) (
     → course ≡ Whole → drop i jobs ≡ job ∷ drop (i + 1) jobs → Underway outcome jobs (drop i jobs) s held held' → before ≤ mid → AnswersOne {E = E} (Ok course) outcome job s s' held' held'' (mid, after)
     → Underway outcome jobs (drop (i + 1) jobs) s' held held'' × Does Free s' × (before ≤ after)
 course_whole E outcome jobs i job course s s' held held' held'' before mid after came is under le answered =
-    let a : AnswersOne {E = E} (Ok Whole) outcome job s s' held' held'' (mid, after) = subst (λ (x : Course). AnswersOne {E = E} (Ok x) outcome job s s' held' held'' (mid, after)) came answered in
-    (underway_step outcome jobs i job s s' a.0.0 held held' held'' is under a.0.1 a.0.2,
-      subst (λ (z : State). Does Free z) (sym a.0.1.moved) refl, omega (arith, le, a.1))
+    let a : AnswersOne {E = E} (Ok Whole) outcome job s s' held' held'' (mid, after) = subst (λ (x : Course). AnswersOne {E = E} (Ok x) outcome job s s' held' held'' (mid, after)) came answered in (
+      underway_step outcome jobs i job s s' a.0.0 held held' held'' is under a.0.1 a.0.2,
+      subst (λ (z : State). Does Free z) (sym a.0.1.moved) refl,
+      omega (arith, le, a.1),
+    )
 
 -- ---- the whole connection
 
@@ -322,14 +330,16 @@ farewell_to outcome jobs s read_end write_end held held' held'' writes all closi
     }))
 farewell_to outcome jobs s read_end write_end held held' held'' writes all closing (is, inr (failed, (rest, wrote), rose)) =
     subst (λ (r : ReadEnd). Wrote r write_end (IsRun outcome jobs) held held'' writes) (sym is)
-    (subst (λ (w : WriteEnd). Wrote read.RunClosed w (IsRun outcome jobs) held held'' writes) (sym failed)
-    (record {
-      closing = true;
-      output = all.replies ++ farewell true;
-      rest = rest;
-      is = record { behind = s; replies = all.replies; runs = all.runs; closes = closing; ends = refl };
-      wrote = wrote_all all.replies (farewell true) rest held held' held'' all.wrote wrote;
-    }, rose))
+    (subst (λ (w : WriteEnd). Wrote read.RunClosed w (IsRun outcome jobs) held held'' writes) (sym failed) (
+      record {
+        closing = true;
+        output = all.replies ++ farewell true;
+        rest = rest;
+        is = record { behind = s; replies = all.replies; runs = all.runs; closes = closing; ends = refl };
+        wrote = wrote_all all.replies (farewell true) rest held held' held'' all.wrote wrote;
+      },
+      rose,
+    ))
 
 rose_behind : {E : Type 0} (result : Result Piped E) (held held' : Told) (before mid after : ℕ) → before ≤ mid → SaysFarewell result held held' (mid, after) → SaysFarewell result held held' (before, after)
 rose_behind (Ok piped) held held' before mid after le (is, inl closed) = (is, inl closed)
@@ -398,8 +408,8 @@ front_at_want outcome input jobs held held' built mean front = record {
 pub none_at_want : (outcome : List ℕ → JobRecord → Outcome) (input : List ℕ) (held : Told) → WroteAtWant outcome input held held
 none_at_want outcome input held = record {
   built = λ built.
-    let jobs = jobs_of 0 (stream MAX_MESSAGE input).messages built.pings in
-    front_as (IsRun outcome jobs.0) (IsPiped outcome input) held held (λ closing output run. run_is_piped outcome input jobs.0 closing output built jobs.1 run) (none_run outcome jobs.0 held);
+      let jobs = jobs_of 0 (stream MAX_MESSAGE input).messages built.pings in
+      front_as (IsRun outcome jobs.0) (IsPiped outcome input) held held (λ closing output run. run_is_piped outcome input jobs.0 closing output built jobs.1 run) (none_run outcome jobs.0 held);
   unbuilt = λ _. refl;
 }
 

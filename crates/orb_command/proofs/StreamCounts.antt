@@ -44,5 +44,5 @@ few_messages limit bytes =
     let exact = cuts_exactly bytes in
     let pieces = pieces_few 0 c.whole c.tail.at exact.pieces in
     let joined : length (flat_map (λ (p : Piece). p.bytes) c.whole) + length c.tail.bytes ≡ length bytes =
-      sym (length-append (flat_map (λ (p : Piece). p.bytes) c.whole) c.tail.bytes) ∙ ap length exact.joined in
+    sym (length-append (flat_map (λ (p : Piece). p.bytes) c.whole) c.tail.bytes) ∙ ap length exact.joined in
     omega (arith, says_few limit [] c.whole c.tail, pieces, joined)

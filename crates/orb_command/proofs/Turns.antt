@@ -39,19 +39,22 @@ offer_sound s job free ping =
 
 idle_offers : (c b : ℕ) (job : JobRecord) → IsPingJob job → (over : Bool) → is_over (idle c b) job.size ≡ over
     → ((over ≡ false) × (step (idle c b) (Offer job) ≡ (with_thread (Given job) (c + 1) (b + job.size), reply.Run 0 false)))
-      ⊎ ((over ≡ true) × (step (idle c b) (Offer job) ≡ (shut c b, reply.Closing)))
+    ⊎ ((over ≡ true) × (step (idle c b) (Offer job) ≡ (shut c b, reply.Closing)))
 idle_offers c b job ping true is = inr (refl, offer_closes c b job is)
 idle_offers c b job ping false is =
-    inl (refl, subst (λ (j : JobRecord). is_over (idle c b) j.size ≡ false → step (idle c b) (Offer j) ≡ (with_thread (Given j) (c + 1) (b + j.size), reply.Run 0 false)) (sym ping)
-      (λ not_over. offer_runs c b job.serial job.size job.id job.order not_over) is)
+    inl (
+      refl,
+      subst (λ (j : JobRecord). is_over (idle c b) j.size ≡ false → step (idle c b) (Offer j) ≡ (with_thread (Given j) (c + 1) (b + j.size), reply.Run 0 false)) (sym ping)
+          (λ not_over. offer_runs c b job.serial job.size job.id job.order not_over) is,
+    )
 
 -- an idle machine gives the request to its thread, or closes
 pub offer_steps : (s : State) (job : JobRecord) → Does Free s → IsPingJob job
     → ((is_over s job.size ≡ false) × (step s (Offer job) ≡ (with_thread (Given job) (s.calls + 1) (s.bytes + job.size), reply.Run 0 false)))
-      ⊎ ((is_over s job.size ≡ true) × (step s (Offer job) ≡ (record s { closing = true }, reply.Closing)))
+    ⊎ ((is_over s job.size ≡ true) × (step s (Offer job) ≡ (record s { closing = true }, reply.Closing)))
 offer_steps s job free ping =
     subst (λ (z : State). ((is_over z job.size ≡ false) × (step z (Offer job) ≡ (with_thread (Given job) (s.calls + 1) (s.bytes + job.size), reply.Run 0 false)))
-      ⊎ ((is_over z job.size ≡ true) × (step z (Offer job) ≡ (record z { closing = true }, reply.Closing)))) (sym free)
+    ⊎ ((is_over z job.size ≡ true) × (step z (Offer job) ≡ (record z { closing = true }, reply.Closing)))) (sym free)
     (idle_offers s.calls s.bytes job ping (is_over (idle s.calls s.bytes) job.size) refl)
 
 -- what came of it, by the reply
@@ -59,7 +62,7 @@ pub offered_closing : (s s' : State) (job : JobRecord) (answer : LaneReply) → 
     → answer ≡ reply.Closing → Offers false s job s'
 offered_closing s s' job answer free ping new came closing =
     elim (offer_steps s job free ping) [
-      inl run ↦ absurd (let e : ◌≡◌ {A = LaneReply} (reply.Run 0 false) reply.Closing = sym (ap (λ (x : State × LaneReply). x.1) run.1) ∙ sym came ∙ closing in cc)
+      | inl run ↦ absurd (let e : ◌≡◌ {A = LaneReply} (reply.Run 0 false) reply.Closing = sym (ap (λ (x : State × LaneReply). x.1) run.1) ∙ sym came ∙ closing in cc)
       | inr shut ↦ (shut.0, new ∙ ap (λ (x : State × LaneReply). x.0) shut.1)
     ]
 
@@ -67,7 +70,7 @@ pub offered_given : (s s' : State) (job : JobRecord) (answer : LaneReply) → Do
     → (answer ≡ reply.Closing → ⊥) → Offers true s job s'
 offered_given s s' job answer free ping new came other =
     elim (offer_steps s job free ping) [
-      inl run ↦ (run.0, becomes s' (Given job) (s.calls + 1) (s.bytes + job.size) (new ∙ ap (λ (x : State × LaneReply). x.0) run.1))
+      | inl run ↦ (run.0, becomes s' (Given job) (s.calls + 1) (s.bytes + job.size) (new ∙ ap (λ (x : State × LaneReply). x.0) run.1))
       | inr shut ↦ absurd (other (came ∙ ap (λ (x : State × LaneReply). x.1) shut.1))
     ]
 
@@ -98,7 +101,7 @@ unfolding next_job
 finish_steps s answer busy ping =
     ap (λ (z : State). step z (Finish 0 answer)) busy
     ∙ subst (λ (j : JobRecord). step (with_thread (Busy j) s.calls s.bytes) (Finish 0 (record { job = j; outcome = answer.outcome }))
-        ≡ (record (with_thread Free s.calls (s.bytes + body_len answer.outcome)) { out = Answered (record { job = j; outcome = answer.outcome }) ∷ [] }, reply.Finished)) (sym ping) refl
+    ≡ (record (with_thread Free s.calls (s.bytes + body_len answer.outcome)) { out = Answered (record { job = j; outcome = answer.outcome }) ∷ [] }, reply.Finished)) (sym ping) refl
 
 pub finished_so : (s s' : State) (answer : Answer) → Does (Busy answer.job) s → IsPingJob answer.job → s' ≡ (step s (Finish 0 answer)).0
     → Owes answer s' × (s'.calls ≡ s.calls) × (s'.bytes ≡ s.bytes + body_len answer.outcome)
@@ -119,7 +122,7 @@ collect_steps : (s : State) (answer : Answer) → Owes answer s → IsPingJob an
 collect_steps s answer owes ping =
     ap (λ (z : State). step z (Collect pipe_conn)) owes
     ∙ subst (λ (j : JobRecord). step (owing s.calls s.bytes (record { job = j; outcome = answer.outcome })) (Collect pipe_conn)
-        ≡ (with_thread Free s.calls s.bytes, reply.Handed (Answered (record { job = j; outcome = answer.outcome })))) (sym ping) refl
+    ≡ (with_thread Free s.calls s.bytes, reply.Handed (Answered (record { job = j; outcome = answer.outcome })))) (sym ping) refl
 
 pub collected_reply : (s : State) (answer : Answer) (answered : LaneReply) → Owes answer s → IsPingJob answer.job → answered ≡ (step s (Collect pipe_conn)).1
     → answered ≡ reply.Handed (Answered answer)

@@ -171,5 +171,5 @@ abbrev pub SaysFarewell : {E : Type 0} → Result Piped E → Told → Told → 
 SaysFarewell (Ok piped) held held' writes =
     (piped.read ≡ read.RunClosed)
     × (((piped.write ≡ write.Closed) × (held' ≡ option_map (λ h. h ++ farewell true) held))
-      ⊎ ((piped.write ≡ write.WriteFault) × ((rest : List ℕ) × WroteSome (farewell true) rest held held') × Rose writes.0 writes.1))
+    ⊎ ((piped.write ≡ write.WriteFault) × ((rest : List ℕ) × WroteSome (farewell true) rest held held') × Rose writes.0 writes.1))
 SaysFarewell (Err _) held held' writes = held' ≡ held

@@ -30,7 +30,7 @@ pub loop-job-preserved : goal.loop-job-preserved
 loop-job-preserved g c =
     let is = first_left c.args.jobs.now c.loop-job.job-index c.job-item.result c.loop-job-test.true c.job-item.is in
     let next = course_whole ⊥ _ c.args.jobs.now c.loop-job.job-index c.job-item.result c.in_ok-answer_one.field-0 c.loop-job.lanes c.answer_one.new.lanes _ _ _ _ _ _ c.in-Whole.is is
-      c.loop-job.invariant.under c.loop-job.invariant.faults c.in_ok-answer_one.ensures
+    c.loop-job.invariant.under c.loop-job.invariant.faults c.in_ok-answer_one.ensures
     in
     record { under = next.0; free = next.1; jobs = pings_left c.args.jobs.now c.loop-job.job-index c.job-item.result is c.loop-job.invariant.jobs; faults = next.2 }
 

@@ -11,14 +11,14 @@ use Rattle.orb_command.proofs.request.job_of.Goals as goal
 pub returns-then-is_ping : goal.returns-then-is_ping
 returns-then-is_ping c =
     let found : Reads (request c.in-Ok-Request.request) c.args.whole.now.bytes =
-      subst (λ (m : Message). Reads (message_of m) c.args.whole.now.bytes) c.in-Ok-Request.field-0-is c.in-Ok-Request.ensures.found in
+    subst (λ (m : Message). Reads (message_of m) c.args.whole.now.bytes) c.in-Ok-Request.field-0-is c.in-Ok-Request.ensures.found in
     means_job c.args.serial c.args.whole.now c.in-Ok-Request.request c.whole.inside.order c.len-size.result c.job_for.result c.requires found
     (c.is_ping.ensures.0 c.if-is_ping.true) (ap (λ (m : Frames.Message). m.order) c.whole.view_is) (c.len-size.ensures ∙ ap (λ (m : Frames.Message). length m.bytes) c.whole.view_is) c.job_for.ensures
 
 pub returns-in-Ok-Request : goal.returns-in-Ok-Request
 returns-in-Ok-Request c =
     let found : Reads (request c.in-Ok-Request.request) c.args.whole.now.bytes =
-      subst (λ (m : Message). Reads (message_of m) c.args.whole.now.bytes) c.in-Ok-Request.field-0-is c.in-Ok-Request.ensures.found in
+    subst (λ (m : Message). Reads (message_of m) c.args.whole.now.bytes) c.in-Ok-Request.field-0-is c.in-Ok-Request.ensures.found in
     other_request c.args.whole.now c.in-Ok-Request.request found (λ ping. let e = sym c.if-is_ping.false ∙ c.is_ping.ensures.1 ping in cc)
 
 pub returns : goal.returns
