@@ -38,10 +38,12 @@ pub use target::Target;
 pub use write::write_message;
 
 #[cfg(test)]
-mod framed_tests;
-#[cfg(test)]
-mod message_tests;
-#[cfg(test)]
 mod read_tests;
 #[cfg(test)]
+mod refuse_tests;
+#[cfg(test)]
 mod tests;
+#[cfg(test)]
+mod vectors;
+#[cfg(test)]
+mod write_tests;

@@ -123,7 +123,7 @@ fn located(reader: &mut Reader<'_>) -> Result<Located, MessageFault>
 
 /// Takes a message of a kind up to 6 within its bytes.
 #[tactic(auto, unfolding(crate::specs::MessageReading::kind_at))]
-pub(crate) fn of_kind(
+fn of_kind(
     alloc: Global,
     kind: u8,
     bytes: &[u8],

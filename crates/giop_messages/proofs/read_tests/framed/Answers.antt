@@ -1,7 +1,7 @@
 use Rattle.std.proofs.Common.{◌≡◌, ap, ◌∙◌, arith}
 use Rattle.giop_frames.specs.Feeds.{Feed}
 use Rattle.giop_messages.proofs.CallerLemmas.{first_messages}
-use Rattle.giop_messages.proofs.framed_tests.framed.Goals as goal
+use Rattle.giop_messages.proofs.read_tests.framed.Goals as goal
 
 pub returns-in-Ok-feed : goal.returns-in-Ok-feed
 returns-in-Ok-feed c =

@@ -1,62 +1,18 @@
-//! Messages as they are written, against octets that were spelled out by hand from CORBA 3.0.3, section 15.4.
+//! Messages, as they are written.
 ghost use Rattle.std.specs.Prelude.{IfOk};
 ghost use Rattle.giop_messages.specs.Message as Spec;
 ghost use Rattle.giop_messages.specs.Views.{message_of};
 
 use super::*;
+use crate::vectors::*;
 use cdr_core::Writer;
 use orb_base::limits::MAX_MESSAGE;
 use orb_base::{Due, List, Octets, Order, Text};
 use std::alloc::Global;
 use std::test::*;
 
-/// A request for `current` of the object `ping`.
-const PING: &[u8] =
-    b"GIOP\x01\x02\0\0\0\0\0$\0\0\0\x01\x03\0\0\0\0\0\0\0\0\0\0\x04ping\0\0\0\x08current\0\0\0\0\0";
-
-/// The same in the little order, with a service context.
-const LITTLE_PING: &[u8] =
-    b"GIOP\x01\x02\x01\00\0\0\0\x01\0\0\0\x03\0\0\0\0\0\0\0\x04\0\0\0ping\x08\0\0\0current\0\x01\0\0\0\x0a\0\0\0\x04\0\0\0\x01\0\x07\0";
-
-/// A request that binds a band: its context carries the low and the high end.
-const BIND: &[u8] =
-    b"GIOP\x01\x02\0\0\0\0\0>\0\0\0\x01\x03\0\0\0\0\0\0\0\0\0\0\x04ping\0\0\0\x14_bind_priority_band\0\0\0\0\x01\0\0\0\x0b\0\0\0\x06\0\0\0d\0\xc8";
-
-/// A request with a body behind a pad.
-const TWICE: &[u8] =
-    b"GIOP\x01\x02\0\0\0\0\0(\0\0\0\x01\x03\0\0\0\0\0\0\0\0\0\0\x01v\0\0\0\0\0\0\x06twice\0\0\0\0\0\0\0\0\0\0\x15";
-
-/// A reply with a body of a short.
-const SHORT_REPLY: &[u8] = b"GIOP\x01\x02\0\x01\0\0\0\x0e\0\0\0\x01\0\0\0\0\0\0\0\0\0d";
-
-/// The same in the little order.
-const LITTLE_REPLY: &[u8] = b"GIOP\x01\x02\x01\x01\x0e\0\0\0\x01\0\0\0\0\0\0\0\0\0\0\0\x07\0";
-
-/// A LocateRequest by key.
-const BY_KEY: &[u8] = b"GIOP\x01\x02\0\x03\0\0\0\x10\0\0\0\x05\0\0\0\0\0\0\0\x04ping";
-
-/// A LocateRequest by a profile of the tag 7.
-const BY_PROFILE: &[u8] =
-    b"GIOP\x01\x02\0\x03\0\0\0\x13\0\0\0\x05\0\x01\0\0\0\0\0\x07\0\0\0\x03abc";
-
-/// A LocateRequest by the second profile of a reference of the type `T`.
-const BY_REFERENCE: &[u8] =
-    b"GIOP\x01\x02\0\x03\0\0\0,\0\0\0\x05\0\x02\0\0\0\0\0\x01\0\0\0\x02T\0\0\0\0\0\0\x02\0\0\0\0\0\0\0\x01a\0\0\0\0\0\0\x01\0\0\0\0";
-
-/// A LocateReply.
-const HERE: &[u8] = b"GIOP\x01\x02\0\x04\0\0\0\x08\0\0\0\x05\0\0\0\x01";
-
-/// A CancelRequest.
-const CANCEL: &[u8] = b"GIOP\x01\x02\0\x02\0\0\0\x04\0\0\0\x05";
-
-/// A CloseConnection.
-const CLOSE: &[u8] = b"GIOP\x01\x02\0\x05\0\0\0\0";
-
-/// A MessageError.
-const ERROR: &[u8] = b"GIOP\x01\x02\0\x06\0\0\0\0";
-
 /// Whether the message has this length and is written so.
-fn spells(alloc: Global, order: Order, message: &Message, bytes: &[u8]) -> bool
+pub(crate) fn spells(alloc: Global, order: Order, message: &Message, bytes: &[u8]) -> bool
     requires { Spec.HasStatus (message_of message.now) }
 {
     let len = message_len(message);
@@ -158,7 +114,7 @@ fn reference(alloc: Global) -> Result<Target, Fail> {
 fn writes_a_request(rt: HostRuntime) -> Result<(), Fail> {
     let none = List::new(rt.alloc());
     let ping = request(rt.alloc(), b"ping", b"current", none, b"")?;
-    assert!(rt; spells(rt.alloc(), Order::Big, &ping, PING));
+    assert!(rt; spells(rt.alloc(), Order::Big, &ping, PING_REQUEST));
     Ok(())
 }
 
@@ -166,7 +122,7 @@ fn writes_a_request(rt: HostRuntime) -> Result<(), Fail> {
 fn writes_a_context_in_the_little_order(rt: HostRuntime) -> Result<(), Fail> {
     let sent = contexts(rt.alloc(), 10, &[1, 0, 7, 0])?;
     let ping = request(rt.alloc(), b"ping", b"current", sent, b"")?;
-    assert!(rt; spells(rt.alloc(), Order::Little, &ping, LITTLE_PING));
+    assert!(rt; spells(rt.alloc(), Order::Little, &ping, LITTLE_ENDIAN_PING));
     Ok(())
 }
 
@@ -174,7 +130,7 @@ fn writes_a_context_in_the_little_order(rt: HostRuntime) -> Result<(), Fail> {
 fn writes_the_ends_of_a_band(rt: HostRuntime) -> Result<(), Fail> {
     let ends = contexts(rt.alloc(), 11, &[0, 0, 0, 100, 0, 200])?;
     let bind = request(rt.alloc(), b"ping", b"_bind_priority_band", ends, b"")?;
-    assert!(rt; spells(rt.alloc(), Order::Big, &bind, BIND));
+    assert!(rt; spells(rt.alloc(), Order::Big, &bind, BIND_BAND_REQUEST));
     Ok(())
 }
 
@@ -182,21 +138,21 @@ fn writes_the_ends_of_a_band(rt: HostRuntime) -> Result<(), Fail> {
 fn writes_a_body_behind_a_pad(rt: HostRuntime) -> Result<(), Fail> {
     let none = List::new(rt.alloc());
     let twice = request(rt.alloc(), b"v", b"twice", none, &[0, 0, 0, 21])?;
-    assert!(rt; spells(rt.alloc(), Order::Big, &twice, TWICE));
+    assert!(rt; spells(rt.alloc(), Order::Big, &twice, TWICE_REQUEST));
     Ok(())
 }
 
 #[test]
 fn writes_a_reply(rt: HostRuntime) -> Result<(), Fail> {
     let reply = reply(rt.alloc(), &[0, 100])?;
-    assert!(rt; spells(rt.alloc(), Order::Big, &reply, SHORT_REPLY));
+    assert!(rt; spells(rt.alloc(), Order::Big, &reply, PING_REPLY));
     Ok(())
 }
 
 #[test]
 fn writes_a_reply_in_the_little_order(rt: HostRuntime) -> Result<(), Fail> {
     let reply = reply(rt.alloc(), &[7, 0])?;
-    assert!(rt; spells(rt.alloc(), Order::Little, &reply, LITTLE_REPLY));
+    assert!(rt; spells(rt.alloc(), Order::Little, &reply, LITTLE_ENDIAN_PING_REPLY));
     Ok(())
 }
 
@@ -204,7 +160,7 @@ fn writes_a_reply_in_the_little_order(rt: HostRuntime) -> Result<(), Fail> {
 fn writes_a_target_by_key(rt: HostRuntime) -> Result<(), Fail> {
     let key = octets(rt.alloc(), b"ping")?;
     let question = locate(Target::Key(key));
-    assert!(rt; spells(rt.alloc(), Order::Big, &question, BY_KEY));
+    assert!(rt; spells(rt.alloc(), Order::Big, &question, LOCATE_PING));
     Ok(())
 }
 
@@ -212,32 +168,32 @@ fn writes_a_target_by_key(rt: HostRuntime) -> Result<(), Fail> {
 fn writes_a_target_by_profile(rt: HostRuntime) -> Result<(), Fail> {
     let bytes = octets(rt.alloc(), b"abc")?;
     let question = locate(Target::Profile(Tagged { tag: 7, bytes }));
-    assert!(rt; spells(rt.alloc(), Order::Big, &question, BY_PROFILE));
+    assert!(rt; spells(rt.alloc(), Order::Big, &question, LOCATE_BY_PROFILE));
     Ok(())
 }
 
 #[test]
 fn writes_a_target_by_reference(rt: HostRuntime) -> Result<(), Fail> {
     let question = locate(reference(rt.alloc())?);
-    assert!(rt; spells(rt.alloc(), Order::Big, &question, BY_REFERENCE));
+    assert!(rt; spells(rt.alloc(), Order::Big, &question, LOCATE_BY_REFERENCE));
     Ok(())
 }
 
 #[test]
 fn writes_an_answer_where_an_object_is(rt: HostRuntime) {
     let here = Message::Located(Located { id: 5, status: 1 });
-    assert!(rt; spells(rt.alloc(), Order::Big, &here, HERE));
+    assert!(rt; spells(rt.alloc(), Order::Big, &here, OBJECT_HERE));
 }
 
 #[test]
 fn writes_a_cancel_request(rt: HostRuntime) {
-    assert!(rt; spells(rt.alloc(), Order::Big, &Message::Cancel(5), CANCEL));
+    assert!(rt; spells(rt.alloc(), Order::Big, &Message::Cancel(5), CANCEL_REQUEST));
 }
 
 #[test]
 fn writes_what_is_a_header_alone(rt: HostRuntime) {
-    assert!(rt; spells(rt.alloc(), Order::Big, &Message::Close, CLOSE));
-    assert!(rt; spells(rt.alloc(), Order::Big, &Message::Error, ERROR));
+    assert!(rt; spells(rt.alloc(), Order::Big, &Message::Close, CLOSE_CONNECTION));
+    assert!(rt; spells(rt.alloc(), Order::Big, &Message::Error, MESSAGE_ERROR));
 }
 
 #[test]
