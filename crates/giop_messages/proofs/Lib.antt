@@ -1,6 +1,4 @@
 pub mod StandardFacts
-pub mod Taking
-pub mod PlainLaws
 pub mod ReadingLaws
 pub mod WritingLaws
 pub mod OneReading

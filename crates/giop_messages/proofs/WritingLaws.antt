@@ -1,4 +1,4 @@
--- What a writer puts, part behind part, is the spelling.
+-- The parts of a system exception are its body.
 use Rattle.std.proofs.Common.{◌≡◌, ℕ, ◌+◌, ◌≤◌, List, [], ◌∷◌, ◌++◌, length, take, replicate, refl, sym, ap, subst, ◌∙◌, append_assoc, arith}
 use Rattle.std.specs.Prelude.{IfOk, Result, Ok, Err}
 use Rattle.std.specs.Int.{w32}
@@ -7,47 +7,10 @@ use Rattle.std.proofs.lemmas.List.{append-nil, length-append, take-replicate}
 use Rattle.orb_base.specs.declared.order.Order.{Order}
 use Rattle.orb_base.specs.declared.order.Order.TheVariants.{Big}
 use Rattle.orb_base.specs.declared.system.Sys.{Sys}
-use Rattle.cdr_core.specs.Alignment.{pad_len}
 use Rattle.cdr_core.specs.Field.{number, number_bytes, string_fields}
 use Rattle.cdr_core.specs.Spelling.{fields_bytes}
 use Rattle.cdr_core.proofs.CallerLemmas.{fields_end-is}
-use Rattle.giop_messages.specs.Message.{reply}
-use Rattle.giop_messages.specs.Layout.{body_fields}
-use Rattle.giop_messages.specs.Spelling.{spelled}
 use Rattle.giop_messages.specs.Exceptions.{exception_id, completion, parts_fields, exception_body}
-use Rattle.giop_messages.specs.Plain.{bare}
-use Rattle.giop_messages.proofs.Taking.{length-long}
-use Rattle.giop_messages.proofs.PlainLaws.{zeros}
-
--- ---- replies
-
-body_is : (body : List ℕ) → fields_bytes Big 24 (body_fields body) ≡ body
-body_is [] = refl
-body_is (b ∷ body) = append-nil (b ∷ body)
-
-reply_inner : ℕ → ℕ → List ℕ → List ℕ
-reply_inner id status body = number_bytes Big w32 id ++ (number_bytes Big w32 status ++ (number_bytes Big w32 0 ++ body))
-
-length-reply_inner : (id status : ℕ) (body : List ℕ) → length (reply_inner id status body) ≡ 12 + length body
-unfolding reply_inner
-length-reply_inner id status body = simp (length-append, length-long) (omega arith)
-
-reply_head : List ℕ
-reply_head = 71 ∷ 73 ∷ 79 ∷ 80 ∷ 1 ∷ 2 ∷ 0 ∷ 1 ∷ []
-
-spelled_reply : (id status : ℕ) (body : List ℕ) → spelled Big (reply (bare id status body)) ≡ reply_head ++ (number_bytes Big w32 (12 + length body) ++ reply_inner id status body)
-unfolding reply_inner reply_head
-spelled_reply id status body =
-    ap (λ (b : List ℕ). reply_head ++ (number_bytes Big w32 (length (reply_inner id status b)) ++ reply_inner id status b)) (body_is body)
-    ∙ ap (λ (n : ℕ). reply_head ++ (number_bytes Big w32 n ++ reply_inner id status body)) (length-reply_inner id status body)
-
-pub reply_is : (id status : ℕ) (body : List ℕ)
-    → 71 ∷ 73 ∷ 79 ∷ 80 ∷ 1 ∷ 2 ∷ 0 ∷ 1 ∷ [] ++ number_bytes Big w32 (12 + length body) ++ number_bytes Big w32 id ++ number_bytes Big w32 status ++ number_bytes Big w32 0 ++ body
-    ≡ spelled Big (reply (bare id status body))
-unfolding reply_inner reply_head
-reply_is id status body = simp append_assoc (sym (spelled_reply id status body))
-
--- ---- system exceptions
 
 length-exception : (order : Order) (text : List ℕ) (minor code : ℕ) → length text ≤ 64 → length (fields_bytes order 24 (parts_fields text minor code)) ≤ 1024
 length-exception order text minor code short =

@@ -8,8 +8,6 @@ pub mod Lengths
 pub mod Front
 pub mod Reading
 pub mod Exceptions
-pub mod Plain
-pub mod PlainReading
 pub mod MessageReading
 pub mod Refusing
 pub mod Framing

@@ -36,13 +36,7 @@ fn completion_status(completed: Completed) -> u32
 }
 
 /// Spells a repository id, a minor code and a completion status from place 24 on.
-fn spell(
-    alloc: Global,
-    order: Order,
-    id: &Text,
-    minor: u32,
-    code: u32,
-) -> Result<Octets, NoMemory>
+fn spell(alloc: Global, order: Order, id: &Text, minor: u32, code: u32) -> Result<Octets, NoMemory>
     requires { length id.now ≤ 64 }
     ensures { IfOk result (λ o. o.items ≡ fields_bytes order 24 (parts_fields id.now minor code)) }
 {

@@ -15,8 +15,8 @@ returns c =
     let minor = number w32 c.args.minor ∷ [] in
     let code = number w32 c.args.code ∷ [] in
     let all : c.put_u32-2.new.self ≡ written start (id ++ minor ++ code) =
-      written_both start c.put_u32.new.self c.put_u32-2.new.self (id ++ minor) code
-        (written_both start c.put_string.new.self c.put_u32.new.self id minor (c.in_ok-put_string.ensures ∙ ap (λ (p : Page). written p id) c.new-body.ensures) c.in_ok-put_u32.ensures)
-        c.in_ok-put_u32-2.ensures
+    written_both start c.put_u32.new.self c.put_u32-2.new.self (id ++ minor) code
+    (written_both start c.put_string.new.self c.put_u32.new.self id minor (c.in_ok-put_string.ensures ∙ ap (λ (p : Page). written p id) c.new-body.ensures) c.in_ok-put_u32.ensures)
+    c.in_ok-put_u32-2.ensures
     in
     c.finish.ensures ∙ ap (λ (p : Page). p.bytes) all
