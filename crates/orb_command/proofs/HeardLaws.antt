@@ -7,7 +7,7 @@ use Rattle.orb_base.specs.declared.limits.TheConstants.{MAX_MESSAGE}
 use Rattle.orb_base.specs.declared.order.Order.{Order}
 use Rattle.giop_frames.specs.Messages as Frames
 use Rattle.giop_frames.specs.Stream.{stream}
-use Rattle.giop_messages.specs.Message.{Request, Message, key, request}
+use Rattle.giop_messages.specs.Message.{Request, key, request}
 use Rattle.giop_messages.proofs.OneReading.{reads_one_way}
 use Rattle.lane_machine.specs.declared.call.How.{How}
 use Rattle.lane_machine.specs.declared.call.LaneCall.{LaneCall}

@@ -1,5 +1,5 @@
 -- What the pipe makes of the messages of its input.
-use Rattle.std.proofs.Common.{◌≡◌, ℕ, zero, suc, ◌+◌, ◌%◌, ◌<◌, ◌≤◌, Bool, true, false, List, [], ◌∷◌, ◌++◌, length, take, get_or, refl, sym, ap, subst, ◌∙◌, arith, append-nil, length-append}
+use Rattle.std.proofs.Common.{◌≡◌, ℕ, zero, suc, ◌+◌, ◌%◌, ◌<◌, ◌≤◌, false, List, [], ◌∷◌, ◌++◌, length, take, get_or, refl, sym, ap, subst, ◌∙◌, arith, length-append}
 use Rattle.std.proofs.lemmas.List.{take_more}
 use Rattle.std.specs.Prelude.{◌==◌, Option, Some, None, is_some, Result, Ok, Err, IfOk, codes, if◌then◌else◌}
 use Rattle.std.specs.List.{AllByRecursion, slice_get}
@@ -20,13 +20,12 @@ use Rattle.giop_messages.specs.declared.message_fault.MessageFault.{MessageFault
 use Rattle.giop_messages.specs.declared.message_fault.MessageFault.TheVariants as faults
 use Rattle.giop_messages.specs.MessageReading.{IsMessage, Fails}
 use Rattle.giop_messages.proofs.OneReading.{reads_one_way}
-use Rattle.lane_machine.specs.declared.call.LaneCall.{LaneCall}
 use Rattle.lane_machine.specs.declared.call.LaneCall.TheVariants.{Offer}
 use Rattle.orb_command.specs.Setup.{built_in, pipe_conn}
 use Rattle.orb_command.specs.Ping.{ping_request}
-use Rattle.orb_command.specs.Heard.{bind_operation, job_of, IsOffered, IsHeard, HearsEach}
+use Rattle.orb_command.specs.Heard.{bind_operation, IsOffered, IsHeard, HearsEach}
 use Rattle.orb_command.specs.declared.read_all.TheConstants.{MAX_PIPED}
-use Rattle.orb_command.specs.Built.{IsPing, IsBuilt}
+use Rattle.orb_command.specs.Built.{IsPing}
 use Rattle.orb_command.specs.PingRun.{ping_job, IsPingJob, ArePingJobs, offers}
 use Rattle.orb_command.specs.Hearing.{MeansJob, MeanJobs, MeansJobs, HeardAs}
 use Rattle.orb_command.proofs.StreamCounts.{few_messages}

@@ -1,33 +1,30 @@
 -- A run of the pipe's jobs, one after another, is what the pipe is defined to do with their calls.
-use Rattle.std.proofs.Common.{◌≡◌, ℕ, zero, suc, ◌+◌, ◌<◌, ◌≤◌, Bool, true, false, List, [], ◌∷◌, ◌++◌, refl, sym, ap, ◌∙◌, subst, inl, inr, arith, append_assoc, append-nil}
-use Rattle.std.specs.Prelude.{◌⊎◌, ◌==◌, ◌||◌, if◌then◌else◌, codes}
-use Rattle.std.specs.List.{list_any, flat_map}
+use Rattle.std.proofs.Common.{◌≡◌, ℕ, suc, ◌+◌, ◌<◌, ◌≤◌, Bool, true, false, List, [], ◌∷◌, ◌++◌, refl, sym, ap, ◌∙◌, subst, inl, inr, arith, append_assoc, append-nil}
+use Rattle.std.specs.Prelude.{◌⊎◌, ◌==◌, ◌||◌, if◌then◌else◌}
+use Rattle.std.specs.List.{list_any}
 use Rattle.std.proofs.lemmas.Bool.{ne_eqb}
 use Rattle.std.proofs.lemmas.Bool.Decides.{eqb_tells}
-use Rattle.std.proofs.lemmas.Grind.{flat_map-append}
 use Rattle.orb_base.specs.Outcomes.{no_memory, body_len}
 use Rattle.orb_base.specs.JobRecord.{JobRecord}
 use Rattle.orb_base.specs.declared.limits.TheConstants.{MAX_BODY}
 use Rattle.orb_base.specs.declared.order.Order.{Order}
 use Rattle.orb_base.specs.declared.outcome.Outcome.{Outcome}
 use Rattle.orb_base.specs.declared.item.Item.TheVariants.{Answered}
-use Rattle.lane_machine.specs.declared.call.How.{How}
-use Rattle.lane_machine.specs.declared.call.How.TheVariants.{Quiet, Shut}
 use Rattle.lane_machine.specs.declared.call.LaneCall.{LaneCall}
-use Rattle.lane_machine.specs.declared.call.LaneCall.TheVariants.{Offer, Take, Finish, Collect, End}
+use Rattle.lane_machine.specs.declared.call.LaneCall.TheVariants.{Offer, Take, Finish, Collect}
 use Rattle.lane_machine.specs.declared.call.LaneReply.{LaneReply}
 use Rattle.lane_machine.specs.declared.call.LaneReply.TheVariants as reply
-use Rattle.lane_machine.specs.declared.doing.Doing.TheVariants.{Free, Given, Busy}
+use Rattle.lane_machine.specs.declared.doing.Doing.TheVariants.{Free, Given}
 use Rattle.lane_machine.specs.State.{State}
 use Rattle.lane_machine.specs.Choice.{chosen_thread, next_job}
 use Rattle.lane_machine.specs.Machine.{step, is_over, offered}
-use Rattle.lane_machine.specs.Readiness.{is_ready, IsSound, owed}
-use Rattle.lane_machine.specs.History.{Entry, replay_by, Legal}
+use Rattle.lane_machine.specs.Readiness.{owed}
+use Rattle.lane_machine.specs.History.{Entry}
 use Rattle.lane_machine.specs.Histories.{History, replay, IsLegal}
 use Rattle.orb_command.specs.Setup.{built_in, pipe_conn, interface_of}
-use Rattle.orb_command.specs.Said.{said, item_bytes, call_bytes}
-use Rattle.orb_command.specs.Piped.{Run, applied, settled, grouped, closed_by, answer_of}
-use Rattle.orb_command.specs.PingRun.{ping_job, IsPingJob, ArePingJobs, offers, with_thread, IsSettled, Ran, Refused, Runs, farewell, ping_interface}
+use Rattle.orb_command.specs.Said.{said, item_bytes}
+use Rattle.orb_command.specs.Piped.{Run, settled, grouped, answer_of}
+use Rattle.orb_command.specs.PingRun.{ping_job, IsPingJob, ArePingJobs, offers, with_thread, IsSettled, Ran, Runs, ping_interface}
 
 -- ---- words
 

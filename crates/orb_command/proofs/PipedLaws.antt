@@ -1,13 +1,12 @@
 -- What was written is what the pipe answers.
-use Rattle.std.proofs.Common.{◌≡◌, ℕ, zero, suc, ◌+◌, ◌≤◌, ◌<◌, Bool, true, false, List, [], ◌∷◌, ◌++◌, length, drop, get_or, refl, sym, ap, ◌∙◌, subst, inl, inr, arith, lit≤, append-nil, append_assoc}
-use Rattle.std.specs.Prelude.{◌⊎◌, codes, option_map, IfSome, Option, Some, None, Result, Ok, Err}
-use Rattle.std.specs.List.{flat_map}
+use Rattle.std.proofs.Common.{◌≡◌, ℕ, ◌+◌, ◌≤◌, ◌<◌, Bool, true, false, List, [], ◌∷◌, ◌++◌, length, drop, get_or, refl, sym, ap, ◌∙◌, subst, inl, inr, arith, lit≤, append-nil, append_assoc}
+use Rattle.std.specs.Prelude.{◌⊎◌, option_map, IfSome, Some, None, Result, Ok, Err}
 use Rattle.std.proofs.lemmas.List.{drop_more}
 use Rattle.std.proofs.lemmas.Grind.{flat_map-append}
 use Rattle.orb_base.specs.JobRecord.{JobRecord}
 use Rattle.orb_base.specs.Outcomes.{no_memory, body_len}
 use Rattle.orb_base.specs.Outside.{Told, Rose}
-use Rattle.orb_base.specs.declared.limits.TheConstants.{MAX_BODY, MAX_MESSAGE}
+use Rattle.orb_base.specs.declared.limits.TheConstants.{MAX_MESSAGE}
 use Rattle.orb_base.specs.declared.outcome.Outcome.{Outcome}
 use Rattle.orb_base.specs.declared.answer.Answer.{Answer}
 use Rattle.orb_base.specs.declared.item.Item.TheVariants.{Answered}
@@ -24,8 +23,8 @@ use Rattle.lane_machine.specs.declared.call.LaneReply.TheVariants as reply
 use Rattle.lane_machine.specs.declared.doing.Doing.TheVariants.{Free}
 use Rattle.lane_machine.specs.State.{State}
 use Rattle.lane_machine.specs.Machine.{step, is_over}
-use Rattle.lane_machine.specs.Readiness.{is_ready, IsSound, owed}
-use Rattle.lane_machine.specs.History.{Entry, Legal, replay_by}
+use Rattle.lane_machine.specs.Readiness.{owed}
+use Rattle.lane_machine.specs.History.{Entry}
 use Rattle.lane_machine.specs.Histories.{History, replay, IsLegal}
 use Rattle.orb_command.specs.declared.course.Course.{Course}
 use Rattle.orb_command.specs.declared.course.Course.TheVariants.{Whole, Closing, Stopped}
@@ -39,10 +38,10 @@ use Rattle.orb_command.specs.declared.ends.WriteEnd.{WriteEnd}
 use Rattle.orb_command.specs.declared.ends.WriteEnd.TheVariants as write
 use Rattle.orb_command.specs.Setup.{built_in, pipe_conn}
 use Rattle.orb_command.specs.Said.{item_bytes, call_bytes, said}
-use Rattle.orb_command.specs.Piped.{Run, closed_by, answer_of, piped, piped_bytes}
+use Rattle.orb_command.specs.Piped.{Run, closed_by, answer_of, piped}
 use Rattle.orb_command.specs.Built.{IsBuilt, IsPiped}
-use Rattle.orb_command.specs.Hearing.{MeanJobs, HeardAs}
-use Rattle.orb_command.specs.PingRun.{IsPingJob, ArePingJobs, offers, opened, with_thread, Does, Becomes, IsSettled, IsAnswerTo, Carries, ping_interface, Ran, Refused, Runs, farewell, IsRun, AnswersOne, Underway, RanAll, RanFront, AnswersAll, SaysFarewell}
+use Rattle.orb_command.specs.Hearing.{MeanJobs}
+use Rattle.orb_command.specs.PingRun.{ArePingJobs, offers, opened, with_thread, Does, IsSettled, Carries, ping_interface, Ran, Refused, Runs, farewell, IsRun, AnswersOne, Underway, RanAll, RanFront, AnswersAll, SaysFarewell}
 use Rattle.orb_command.specs.Streams.{WroteSome}
 use Rattle.orb_command.specs.Pipe.{Outputs, WroteWhole, WroteFront, WroteAtWant, Wrote, Serves, Replies, Pipes, PipesTo}
 use Rattle.orb_command.proofs.StreamLaws.{wrote_start, wrote_nothing, wrote_behind, wrote_more, wrote_all}

@@ -1,14 +1,13 @@
 -- How long the replies without contexts are.
-use Rattle.std.proofs.Common.{◌≡◌, ℕ, ◌+◌, ◌≤◌, List, [], ◌∷◌, ◌++◌, length, length-append, arith}
+use Rattle.std.proofs.Common.{◌≡◌, ℕ, ◌+◌, ◌≤◌, List, [], ◌∷◌, length, length-append, arith}
 use Rattle.std.specs.Int.{w32}
 use Rattle.orb_base.specs.declared.limits.TheConstants.{MAX_BODY, MAX_MESSAGE}
 use Rattle.orb_base.specs.declared.order.Order.{Order}
-use Rattle.cdr_core.specs.Field.{Field, number, number_bytes}
+use Rattle.cdr_core.specs.Field.{number_bytes}
 use Rattle.cdr_core.specs.Spelling.{fields_bytes}
 use Rattle.cdr_core.proofs.CallerLemmas.{fields_end-is, length-number_bytes}
 use Rattle.orb_base.specs.declared.order.Order.TheVariants.{Big}
 use Rattle.giop_messages.specs.Message.{reply, close}
-use Rattle.giop_messages.specs.Layout.{body_fields}
 use Rattle.giop_messages.specs.Spelling.{framed, spelled, all_fields}
 use Rattle.orb_command.specs.Said.{bare}
 

@@ -3,9 +3,9 @@ use Rattle.std.proofs.Common.{◌≡◌, ℕ, ◌+◌, ◌≤◌, List, [], ◌�
 use Rattle.std.specs.Prelude.{Option, Some, None, option_to_list}
 use Rattle.std.specs.List.{flat_map}
 use Rattle.giop_frames.specs.declared.fault.FrameCause.{FrameCause}
-use Rattle.giop_frames.specs.Pieces.{Piece, Cut, cut}
+use Rattle.giop_frames.specs.Pieces.{Piece, cut}
 use Rattle.giop_frames.specs.Messages.{Message, Partial, completed, unfinished}
-use Rattle.giop_frames.specs.Stream.{Said, stream, said_of, said_behind, at_end, or_stopped, tail_cause, cause_of}
+use Rattle.giop_frames.specs.Stream.{Said, stream, said_behind, at_end, or_stopped, tail_cause, cause_of}
 use Rattle.giop_frames.specs.Laws.{ArePieces}
 use Rattle.giop_frames.proofs.LawProofs.{cuts_exactly}
 

@@ -7,18 +7,17 @@ use Rattle.orb_base.specs.declared.answer.Answer.{Answer}
 use Rattle.orb_base.specs.declared.limits.TheConstants.{MAX_BODY}
 use Rattle.orb_base.specs.declared.item.Item.TheVariants.{Answered}
 use Rattle.lane_machine.specs.declared.call.How.{How}
-use Rattle.lane_machine.specs.declared.call.LaneCall.{LaneCall}
 use Rattle.lane_machine.specs.declared.call.LaneCall.TheVariants.{Offer, Take, Finish, Collect, End}
 use Rattle.lane_machine.specs.declared.call.LaneReply.{LaneReply}
 use Rattle.lane_machine.specs.declared.call.LaneReply.TheVariants as reply
 use Rattle.lane_machine.specs.declared.doing.Doing.{Doing}
 use Rattle.lane_machine.specs.declared.doing.Doing.TheVariants.{Free, Given, Busy}
 use Rattle.lane_machine.specs.State.{State}
-use Rattle.lane_machine.specs.Choice.{chosen_thread, next_job}
-use Rattle.lane_machine.specs.Machine.{step, is_over, end_of}
+use Rattle.lane_machine.specs.Choice.{next_job}
+use Rattle.lane_machine.specs.Machine.{step, is_over}
 use Rattle.lane_machine.specs.Readiness.{is_ready, IsSound, owed}
 use Rattle.orb_command.specs.Setup.{pipe_conn}
-use Rattle.orb_command.specs.PingRun.{ping_job, IsPingJob, with_thread, Does, Becomes, Owes, IsSettled, Offers}
+use Rattle.orb_command.specs.PingRun.{IsPingJob, with_thread, Does, Becomes, Owes, IsSettled, Offers}
 use Rattle.orb_command.proofs.PipeRuns.{idle, shut, offer_runs, offer_closes}
 
 becomes : (s : State) (doing : Doing) (c b : ℕ) → s ≡ with_thread doing c b → Becomes s doing c b

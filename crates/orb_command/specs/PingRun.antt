@@ -1,5 +1,5 @@
 -- The states of the lane machine in which the pipe's requests run, one after another.
-use Rattle.std.specs.Prelude.{◌≡◌, ◌≤◌, ◌⊎◌, ℕ, suc, ◌+◌, Bool, true, false, List, [], ◌∷◌, ◌++◌, Option, Some, None, Result, Ok, Err, option_map, if◌then◌else◌, codes}
+use Rattle.std.specs.Prelude.{◌≡◌, ◌≤◌, ◌⊎◌, ℕ, suc, ◌+◌, Bool, true, false, List, [], ◌∷◌, ◌++◌, Option, Some, None, Result, Ok, Err, option_map, codes}
 use Rattle.orb_base.specs.Outcomes.{no_memory, body_len}
 use Rattle.orb_base.specs.Outside.{Told, Rose}
 use Rattle.orb_base.specs.declared.limits.TheConstants.{MAX_BODY}

@@ -1,4 +1,4 @@
-use Rattle.std.proofs.Common.{◌≤◌, ◌+◌, drop}
+use Rattle.std.proofs.Common.{◌≤◌, drop}
 use Rattle.lane_machine.specs.declared.doing.Doing.TheVariants.{Free}
 use Rattle.orb_command.specs.PingRun.{ArePingJobs, Does, Underway}
 use Rattle.orb_command.proofs.pipe.answer_all.Given as goal

@@ -1,5 +1,5 @@
 -- What is read of a message tells whether it is such a request.
-use Rattle.std.proofs.Common.{◌≡◌, length, refl, sym, ap, ◌∙◌, subst, inl, inr}
+use Rattle.std.proofs.Common.{length, sym, ap, ◌∙◌, subst, inl, inr}
 use Rattle.giop_frames.specs.Messages as Frames
 use Rattle.giop_messages.specs.Message.{request}
 use Rattle.giop_messages.specs.Reading.{Reads}

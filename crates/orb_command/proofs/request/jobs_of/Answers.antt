@@ -1,5 +1,4 @@
 -- One more message was read, and its job stands behind the others.
-use Rattle.std.proofs.Common.{sym, ap, ◌∙◌}
 use Rattle.orb_command.proofs.HearingLaws.{next_jobs}
 use Rattle.orb_command.proofs.request.jobs_of.Goals as goal
 
