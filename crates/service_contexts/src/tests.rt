@@ -150,6 +150,10 @@ fn the_first_context_of_an_id_counts(rt: HostRuntime) -> Result<(), Fail> {
 
 #[test]
 fn a_fault_names_the_first_context_without_a_reading(rt: HostRuntime) -> Result<(), Fail> {
+    let priority = Some(priority(100)?);
+    let range = Some(band(100, 200)?);
+    let none: [(u32, &[u8]); 2] = [(11, RANGE), (10, HUNDRED)];
+    assert_eq!(rt; told(rt.alloc(), &none)?, Ok(Contexts { priority, range }));
     let first: [(u32, &[u8]); 2] = [(10, &[0, 0]), (11, &[])];
     assert_eq!(rt; told(rt.alloc(), &first)?, Err(ContextFault { id: 10 }));
     let second: [(u32, &[u8]); 2] = [(11, &[]), (10, &[0, 0])];
@@ -180,6 +184,12 @@ const NO_RANGES: [&[u8]; 5] = [
 
 #[test]
 fn contexts_without_a_reading_are_refused(rt: HostRuntime) -> Result<(), Fail> {
+    let priority = Some(priority(100)?);
+    let range = Some(band(100, 200)?);
+    assert_eq!(rt;
+        told(rt.alloc(), &[(10, HUNDRED), (11, RANGE)])?,
+        Ok(Contexts { priority, range })
+    );
     for bytes in NO_PRIORITIES {
         assert_eq!(rt;
             told(rt.alloc(), &[(10, bytes)])?,
