@@ -1,5 +1,5 @@
 -- Whole encapsulations: what is read is what the bytes carry.
-use Rattle.std.proofs.Common.{◌≡◌, ℕ, suc, Option, List, ◌∷◌, ◌++◌, Some, Result, Ok, Err, IfOk, refl, sym, ap, subst, ◌∙◌}
+use Rattle.std.proofs.Common.{◌≡◌, ℕ, suc, Option, List, ◌∷◌, ◌++◌, Some, Result, Ok, Err, IfOk, refl, sym, subst, ◌∙◌}
 use Rattle.std.specs.Result.{result_ok}
 use Rattle.std.specs.Option.{option_map}
 use Rattle.orb_base.specs.Room.{Room}
@@ -9,7 +9,7 @@ use Rattle.orb_base.specs.declared.order.Order.{Order}
 use Rattle.cdr_core.specs.Field.{Field}
 use Rattle.cdr_core.specs.Cursor.{Cursor, AreBytes}
 use Rattle.cdr_core.specs.Reading.{entered}
-use Rattle.cdr_core.specs.Encapsulation.{order_byte, encapsulation, StandsIn}
+use Rattle.cdr_core.specs.Encapsulation.{order_byte, encapsulation}
 use Rattle.cdr_core.specs.Laws.{Holds}
 use Rattle.cdr_core.proofs.CallerLemmas.{entered_takes, entered_reads}
 use Rattle.cdr_core.proofs.LawProofs.{holds_within_law, encapsulates_back_law}

@@ -5,11 +5,10 @@ use Rattle.std.proofs.lemmas.List.Folds.{find-append}
 use Rattle.orb_base.specs.Span.{Span}
 use Rattle.orb_base.specs.Tagged.{Context}
 use Rattle.service_contexts.specs.declared.contexts.Contexts.{Contexts}
-use Rattle.service_contexts.specs.declared.contexts.ContextFault.{ContextFault}
 use Rattle.service_contexts.specs.declared.contexts.TheConstants.{PRIORITY_CONTEXT, RANGE_CONTEXT}
 use Rattle.service_contexts.specs.Carrying.{CarriesPriority, CarriesBand}
 use Rattle.service_contexts.specs.Laws.{IsExactly}
-use Rattle.service_contexts.specs.Telling.{first_of, TellsFirst, Tells, IsFaulty, IsFirstFault}
+use Rattle.service_contexts.specs.Telling.{first_of, TellsFirst, Tells, IsFirstFault}
 
 abbrev same : ℕ → Context → Bool
 same id context = eqb context.id id

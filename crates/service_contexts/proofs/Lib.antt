@@ -6,3 +6,4 @@ pub mod Taking
 pub mod Carried
 pub mod Firsts
 pub mod Faults
+pub mod StandardFacts

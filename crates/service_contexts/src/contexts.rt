@@ -79,7 +79,9 @@ fn with_priority(told: Contexts, next: &Context) -> Result<Contexts, ContextFaul
             priority: Some(priority),
             range: told.range,
         }),
-        None => Err(ContextFault { id: next.id }),
+        None => Err(ContextFault {
+            id: PRIORITY_CONTEXT,
+        }),
     }
 }
 
@@ -99,6 +101,6 @@ fn with_range(told: Contexts, next: &Context) -> Result<Contexts, ContextFault>
             priority: told.priority,
             range: Some(band),
         }),
-        None => Err(ContextFault { id: next.id }),
+        None => Err(ContextFault { id: RANGE_CONTEXT }),
     }
 }

@@ -1,5 +1,4 @@
 use Rattle.std.proofs.Common.{◌≡◌, ◌∷◌, ◌++◌, ℕ, List, sym, ap, subst, ◌∙◌}
-use Rattle.orb_base.specs.Span.{Span}
 use Rattle.orb_base.specs.Tagged.{Context}
 use Rattle.service_contexts.specs.Carrying.{CarriesBand}
 use Rattle.service_contexts.specs.Laws.{IsExactly}
@@ -26,7 +25,6 @@ returns-in-None-clause-fault c =
     let unmet = none_there c.args.told.range (sym c.is_some.ensures ∙ c.if-is_some.false) in
     let bytes : c.as_slice.result.now ≡ next.bytes = c.as_slice.ensures ∙ ap (λ (x : Context). x.bytes) c.next.view_is in
     let exact : IsExactly c.read_band.result (λ v. CarriesBand v next.bytes) = subst (λ (x : List ℕ). IsExactly c.read_band.result (λ v. CarriesBand v x)) bytes c.read_band.ensures.carries in
-    let id : next.id ≡ c.next.inside.id = sym (ap (λ (x : Context). x.id) c.next.view_is) in
     λ list behind h.
-    subst (λ (n : ℕ). IsFirstFault (list ++ next ∷ behind) (record { id = n })) id
+    subst (λ (n : ℕ). IsFirstFault (list ++ next ∷ behind) (record { id = n })) c.requires
     (band_faulty list behind next c.args.told c.read_band.result c.requires unmet c.in-None.is exact h)

@@ -1,8 +1,7 @@
-use Rattle.std.proofs.Common.{◌≡◌, ℕ, List, rules}
-use Rattle.orb_base.specs.Span.{Span}
+use Rattle.std.proofs.Common.{◌≡◌, rules}
 use Rattle.cdr_core.specs.Cursor.{AreBytes}
-use Rattle.service_contexts.specs.Layout.{IsPriority, IsBand, ModelValue, IsModelValue, priority_fields, band_fields, model_fields}
-use Rattle.service_contexts.specs.Reading.{priority_at, band_at, model_at, carried}
+use Rattle.service_contexts.specs.Layout.{ModelValue, IsModelValue, model_fields}
+use Rattle.service_contexts.specs.Reading.{model_at, carried}
 use Rattle.service_contexts.proofs.Carried.{exactly, model_law}
 use Rattle.service_contexts.proofs.model.read_model_policy.Goals as goal
 

@@ -1,8 +1,8 @@
-use Rattle.std.proofs.Common.{◌≡◌, ℕ, List, rules}
+use Rattle.std.proofs.Common.{◌≡◌, rules}
 use Rattle.orb_base.specs.Span.{Span}
 use Rattle.cdr_core.specs.Cursor.{AreBytes}
-use Rattle.service_contexts.specs.Layout.{IsPriority, IsBand, ModelValue, IsModelValue, priority_fields, band_fields, model_fields}
-use Rattle.service_contexts.specs.Reading.{priority_at, band_at, model_at, carried}
+use Rattle.service_contexts.specs.Layout.{IsBand, band_fields}
+use Rattle.service_contexts.specs.Reading.{band_at, carried}
 use Rattle.service_contexts.proofs.Carried.{exactly, band_law}
 use Rattle.service_contexts.proofs.read.read_band.Goals as goal
 
