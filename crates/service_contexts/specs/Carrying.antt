@@ -4,10 +4,12 @@ use Rattle.orb_base.specs.Span.{Span}
 use Rattle.orb_base.specs.declared.order.Order.{Order}
 use Rattle.cdr_core.specs.Field.{Field}
 use Rattle.cdr_core.specs.Encapsulation.{Encapsulates}
-use Rattle.service_contexts.specs.Layout.{IsPriority, IsBand, ModelValue, IsModelValue, AreBands, priority_fields, band_fields, model_fields, bands_fields}
+use Rattle.service_contexts.specs.Layout.{IsPriority, IsBand, ModelValue, IsModelValue, AreBands}
+use Rattle.service_contexts.specs.Layout.{priority_fields, band_fields, model_fields, bands_fields}
 
 -- the bytes are an encapsulation, in either order, of the fields of a value that may be carried, and any bytes behind
-pub record Carries (A : Type 0) (IsLawful : A → Type 0) (fields : A → List Field) (value : A) (bytes : List ℕ) : Type 0 where
+pub record Carries (A : Type 0) (IsLawful : A → Type 0) (fields : A → List Field) (value : A) (bytes : List ℕ)
+    : Type 0 where
   pub lawful : IsLawful value
   pub order : Order
   pub content : Encapsulates order (fields value) bytes

@@ -15,15 +15,18 @@ use Rattle.service_contexts.specs.Telling.{Tells, IsFirstFault}
 abbrev pub IsExactly : {A : Type 0} → Option A → (A → Type 0) → Type 0
 IsExactly {A} answer Fact = (value : A) → (answer ≡ Some value) ↔ Fact value
 
--- how a value is read and spelled: what its reading takes is what the bytes carry, what is spelled is read as that value,
--- in either order and whatever follows, and bytes carry at most one value
-pub record IsReadAsSpelled (A : Type 0) (IsLawful : A → Type 0) (fields : A → List Field) (one : Cursor → Taken A) : Type 0 where
-  pub exact : (bytes : List ℕ) → AreBytes bytes → IsExactly (carried one bytes) (λ value. Carries A IsLawful fields value bytes)
+-- a value is read as it is spelled: its reading takes what the bytes carry; what is spelled, in either order and whatever
+-- follows, is read as that value and carries it; bytes carry at most one
+pub record IsReadAsSpelled (A : Type 0) (IsLawful : A → Type 0) (fields : A → List Field) (one : Cursor → Taken A)
+    : Type 0 where
+  pub exact : (bytes : List ℕ) → AreBytes bytes
+      → IsExactly (carried one bytes) (λ value. Carries A IsLawful fields value bytes)
   pub back : (order : Order) (value : A) (behind : List ℕ) → IsLawful value
       → carried one (encapsulation order (fields value) ++ behind) ≡ Some value
   pub carried_back : (order : Order) (value : A) (behind : List ℕ) → IsLawful value
       → Carries A IsLawful fields value (encapsulation order (fields value) ++ behind)
-  pub one_way : (v w : A) (bytes : List ℕ) → Carries A IsLawful fields v bytes → Carries A IsLawful fields w bytes → v ≡ w
+  pub one_way : (v w : A) (bytes : List ℕ) → Carries A IsLawful fields v bytes → Carries A IsLawful fields w bytes
+      → v ≡ w
 
 -- contexts tell one thing, or have one first fault, and not both
 pub record TellOneThing (list : List Context) : Type 0 where

@@ -1,5 +1,5 @@
--- The fields of what two service contexts and two policies carry. The contexts: Real-time CORBA 1.2, CORBA priorities and
--- Priority banded connections. The layout of the policy values is own profile.
+-- The fields of what two service contexts and two policies carry. The contexts: Real-time CORBA 1.2, CORBA priorities
+-- and Priority banded connections. The layout of the policy values is own profile.
 use Rattle.std.specs.Prelude.{ℕ, ◌^◌, ◌<◌, ◌≤◌, List, [], ◌∷◌, length}
 use Rattle.std.specs.Int.{w16, w32}
 use Rattle.std.specs.List.{AllByRecursion, flat_map}

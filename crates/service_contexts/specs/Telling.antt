@@ -15,7 +15,8 @@ first_of id list = find (λ context. context.id == id) list
 -- what the first context of an id carries, or None where there is none of the id
 abbrev pub TellsFirst : {A : Type 0} → ℕ → (A → List ℕ → Type 0) → List Context → Option A → Type 0
 TellsFirst id Carried list None = first_of id list ≡ None
-TellsFirst id Carried list (Some value) = (context : Context) × (first_of id list ≡ Some context) × Carried value context.bytes
+TellsFirst id Carried list (Some value) =
+    (context : Context) × (first_of id list ≡ Some context) × Carried value context.bytes
 
 -- the contexts tell this of priorities: each that counts has a reading
 pub record Tells (list : List Context) (told : Contexts) : Type 0 where

@@ -51,15 +51,17 @@ fn put_bands(into: &mut Writer, bands: &[Band]) -> Result<(), NoMemory>
     Ok(())
 }
 
-/// The bands that the value of a priority banded connection policy carries, in either byte order. Ok(None) exactly where
-/// the bytes have no reading; bytes behind are ignored. Takes memory for the bands alone, as they are read.
+/// The bands that the value of a priority banded connection policy carries, in either byte order. Ok(None) exactly
+/// where the bytes have no reading; bytes behind are ignored. Takes memory for the bands alone, as they are read. Work
+/// grows with their number.
 #[tactic(auto, unfolding(crate::specs::Reading::carried))]
 pub fn read_bands_policy(
     alloc: Global,
     bytes: &[u8],
 ) -> Result<Option<orb_base::List<Band>>, NoMemory>
     ensures exact { IfOk result (λ bands. option_map items_of bands ≡ carried bands_at bytes.now) }
-    ensures carries { IfOk result (λ bands. IsExactly (option_map items_of bands) (λ spans. CarriesBands spans bytes.now)) }
+    ensures carries { IfOk result (λ bands.
+        IsExactly (option_map items_of bands) (λ spans. CarriesBands spans bytes.now)) }
 {
     match Reader::encapsulated(bytes) {
         Ok(mut reader) => take_bands(alloc, &mut reader),
@@ -73,7 +75,8 @@ fn take_bands(
     alloc: Global,
     reader: &mut Reader<'_>,
 ) -> Result<Option<orb_base::List<Band>>, NoMemory>
-    ensures { IfOk result (λ bands. Moves (option_map items_of bands) reader.new (bands_at reader.old)) }
+    ensures { IfOk result (λ bands.
+        Moves (option_map items_of bands) reader.new (bands_at reader.old)) }
 {
     match reader.take_count() {
         Ok(count) => take_so_many(alloc, count, reader),
@@ -87,7 +90,8 @@ fn take_so_many(
     count: u32,
     reader: &mut Reader<'_>,
 ) -> Result<Option<orb_base::List<Band>>, NoMemory>
-    ensures { IfOk result (λ bands. Moves (option_map items_of bands) reader.new (times band_at count reader.old)) }
+    ensures { IfOk result (λ bands.
+        Moves (option_map items_of bands) reader.new (times band_at count reader.old)) }
 {
     let mut bands = orb_base::List::new(alloc);
     for _ in 0..count {

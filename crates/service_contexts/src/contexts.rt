@@ -30,11 +30,12 @@ pub struct ContextFault {
     pub id: u32,
 }
 
-/// What the contexts of a message tell of priorities. The first context of each id counts, and the others are ignored. A
-/// fault names the first context in the list that counts and has no reading: it is no encapsulation, is cut short, or
+/// What the contexts of a message tell of priorities. The first context of each id counts, and the others are ignored.
+/// A fault names the first context in the list that counts and has no reading: it is no encapsulation, is cut short, or
 /// carries a negative priority or a low end above the high one. Takes no memory; one pass over the list.
 pub fn contexts_of(list: &orb_base::List<Context>) -> Result<Contexts, ContextFault>
     ensures told { (told : Contexts) → (result ≡ Ok told) ↔ Tells list.now.items told }
+    // One of the two comes, and one alone.
     ensures fault { (f : ContextFault) → (result ≡ Err f) ↔ IsFirstFault list.now.items f }
 {
     let mut told = Contexts {

@@ -3,7 +3,8 @@ ghost use Rattle.std.specs.Prelude.{ℕ, List};
 ghost use Rattle.orb_base.specs.Span.{Span};
 ghost use Rattle.orb_base.specs.Tagged.{Context};
 ghost use Rattle.service_contexts.specs.Laws.{IsReadAsSpelled, TellOneThing};
-ghost use Rattle.service_contexts.specs.Layout.{IsPriority, priority_fields, IsBand, band_fields, ModelValue, IsModelValue, model_fields, AreBands, bands_fields};
+ghost use Rattle.service_contexts.specs.Layout.{IsPriority, IsBand, ModelValue, IsModelValue, AreBands};
+ghost use Rattle.service_contexts.specs.Layout.{priority_fields, band_fields, model_fields, bands_fields};
 ghost use Rattle.service_contexts.specs.Reading.{priority_at, band_at, model_at, bands_at};
 
 /// What is spelled as a priority is read as that priority, in either order and whatever follows; what is read is what

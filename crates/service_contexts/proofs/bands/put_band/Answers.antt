@@ -12,7 +12,8 @@ returns-in_err-put_u16 c =
     let low : c.short_of.result ≡ c.args.band.low = c.short_of.ensures ∙ c.low.ensures in
     let front : HasFront c.args.into.now c.put_u16.new.self (number w16 c.args.band.low ∷ []) =
     subst (λ (n : ℕ). HasFront c.args.into.now c.put_u16.new.self (number w16 n ∷ [])) low c.in_err-put_u16.ensures in
-    rw p.1 (puts_first c.args.into.now c.put_u16.new.self (number w16 c.args.band.low ∷ []) (number w16 c.args.band.high ∷ []) front)
+    rw p.1 (puts_first c.args.into.now c.put_u16.new.self (number w16 c.args.band.low ∷ [])
+    (number w16 c.args.band.high ∷ []) front)
 
 pub returns : goal.returns
 returns c =
@@ -21,5 +22,7 @@ returns c =
     let first : c.put_u16.new.self ≡ written c.args.into.now (number w16 c.args.band.low ∷ []) =
     subst (λ (n : ℕ). c.put_u16.new.self ≡ written c.args.into.now (number w16 n ∷ [])) low c.in_ok-put_u16.ensures in
     let second : Puts c.put_u16-2.result c.put_u16.new.self c.put_u16-2.new.self (number w16 c.args.band.high ∷ []) =
-    subst (λ (n : ℕ). Puts c.put_u16-2.result c.put_u16.new.self c.put_u16-2.new.self (number w16 n ∷ [])) high c.put_u16-2.ensures in
-    puts_then c.put_u16-2.result c.args.into.now c.put_u16.new.self c.put_u16-2.new.self (number w16 c.args.band.low ∷ []) (number w16 c.args.band.high ∷ []) first second
+    subst (λ (n : ℕ). Puts c.put_u16-2.result c.put_u16.new.self c.put_u16-2.new.self (number w16 n ∷ [])) high
+    c.put_u16-2.ensures in
+    puts_then c.put_u16-2.result c.args.into.now c.put_u16.new.self c.put_u16-2.new.self
+    (number w16 c.args.band.low ∷ []) (number w16 c.args.band.high ∷ []) first second

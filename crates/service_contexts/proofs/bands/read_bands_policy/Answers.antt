@@ -10,5 +10,6 @@ pub returns-in-Ok-clause-carries : goal.returns-in-Ok-clause-carries
 unfolding carried
 returns-in-Ok-clause-carries c =
     let fits : AreBytes c.args.bytes.now = search rules in
-    let same : IfOk c.take_bands.result (λ bands. option_map items_of bands ≡ carried bands_at c.args.bytes.now) = search rules in
+    let same : IfOk c.take_bands.result (λ bands. option_map items_of bands ≡ carried bands_at c.args.bytes.now) =
+    search rules in
     bands_exactly c.take_bands.result c.args.bytes.now fits same

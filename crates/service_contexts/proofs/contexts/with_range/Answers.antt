@@ -15,16 +15,20 @@ returns-then-is_some-clause-told c =
 pub returns-in-Some-clause-told : goal.returns-in-Some-clause-told
 returns-in-Some-clause-told c =
     let unmet = none_there c.args.told.range (sym c.is_some.ensures ∙ c.if-is_some.false) in
-    let bytes : c.as_slice.result.now ≡ c.args.next.now.bytes = c.as_slice.ensures ∙ ap (λ (x : Context). x.bytes) c.next.view_is in
-    let carried = subst (CarriesBand c.in-Some.band) bytes ((c.read_band.ensures.carries c.in-Some.band).0 c.in-Some.is) in
+    let bytes : c.as_slice.result.now ≡ c.args.next.now.bytes = c.as_slice.ensures
+    ∙ ap (λ (x : Context). x.bytes) c.next.view_is in
+    let carried =
+    subst (CarriesBand c.in-Some.band) bytes ((c.read_band.ensures.carries c.in-Some.band).0 c.in-Some.is) in
     λ list h. band_counts list c.args.next.now c.args.told c.in-Some.band c.requires unmet carried h
 
 pub returns-in-None-clause-fault : goal.returns-in-None-clause-fault
 returns-in-None-clause-fault c =
     let next : Context = c.args.next.now in
     let unmet = none_there c.args.told.range (sym c.is_some.ensures ∙ c.if-is_some.false) in
-    let bytes : c.as_slice.result.now ≡ next.bytes = c.as_slice.ensures ∙ ap (λ (x : Context). x.bytes) c.next.view_is in
-    let exact : IsExactly c.read_band.result (λ v. CarriesBand v next.bytes) = subst (λ (x : List ℕ). IsExactly c.read_band.result (λ v. CarriesBand v x)) bytes c.read_band.ensures.carries in
+    let bytes : c.as_slice.result.now ≡ next.bytes = c.as_slice.ensures
+    ∙ ap (λ (x : Context). x.bytes) c.next.view_is in
+    let exact : IsExactly c.read_band.result (λ v. CarriesBand v next.bytes) =
+    subst (λ (x : List ℕ). IsExactly c.read_band.result (λ v. CarriesBand v x)) bytes c.read_band.ensures.carries in
     λ list behind h.
     subst (λ (n : ℕ). IsFirstFault (list ++ next ∷ behind) (record { id = n })) c.requires
     (band_faulty list behind next c.args.told c.read_band.result c.requires unmet c.in-None.is exact h)
