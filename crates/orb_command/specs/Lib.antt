@@ -10,3 +10,5 @@ pub mod Words
 pub mod Streams
 pub mod Pipe
 pub mod Command
+pub mod Shown
+pub mod DumpText

@@ -3,6 +3,7 @@
 
 mod answered;
 mod command;
+mod dump_line;
 mod ends;
 mod heard;
 mod laws;
@@ -13,6 +14,7 @@ mod pipe;
 mod read_all;
 mod request;
 mod setup;
+mod shown;
 mod streams;
 mod turn;
 mod words;
