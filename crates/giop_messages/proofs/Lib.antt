@@ -11,5 +11,8 @@ mod PartLoop
 mod MessageFound
 mod KindFound
 pub mod WholeFound
+pub mod Headed
+pub mod FromFrames
 mod PartsAgain
 pub mod WholeAgain
+pub mod CallerLemmas

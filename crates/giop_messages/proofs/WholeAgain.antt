@@ -5,7 +5,7 @@ use Rattle.std.proofs.lemmas.Bool.{le-ltb}
 use Rattle.orb_base.specs.declared.order.Order.{Order}
 use Rattle.cdr_core.specs.Field.{Field, number, run, string_fields}
 use Rattle.cdr_core.specs.Spelling.{IsSpelled}
-use Rattle.cdr_core.specs.Cursor.{Cursor, cursor}
+use Rattle.cdr_core.specs.Cursor.{Cursor, cursor, AreBytes}
 use Rattle.cdr_core.specs.Passing.{Spans}
 use Rattle.cdr_core.specs.Reading.{number_at}
 use Rattle.cdr_core.proofs.CallerLemmas.{spans_split, number_reads}
@@ -18,6 +18,7 @@ use Rattle.giop_messages.specs.Reading.{HasBody, ReadsIn, Reads}
 use Rattle.giop_messages.specs.Views.{message_of}
 use Rattle.giop_messages.specs.MessageReading.{IsMessage, basic, body_from, status_at, asked_at, request_at, reply_at, cancel_at, locate_at, located_at, as_message, kind_at, message_at, Answers}
 use Rattle.giop_messages.proofs.MessageFound.{done, octet_len, long_len}
+use Rattle.giop_messages.proofs.Headed.{IsHeaded, headed}
 use Rattle.giop_messages.proofs.WholeFound.{behind_header, rest_is}
 use Rattle.giop_messages.proofs.OneReading.{heads, behind_heads, flag_order}
 use Rattle.giop_messages.proofs.PartsAgain.{contexts_again, text_again, target_again, reserved_again}
@@ -88,7 +89,7 @@ kind_again bytes c d octets (located l) three f p body = ap (as_message located)
 kind_again bytes c d octets close three f p body = refl
 kind_again bytes c d octets error three f p body = refl
 
-in_order : (w : Frames.Message) (z : Order) (m : Message) → IsMessage w → ReadsIn z m w.bytes → message_at w ≡ Ok m
+in_order : (w : Frames.Message) (z : Order) (m : Message) → IsHeaded w → ReadsIn z m w.bytes → message_at w ≡ Ok m
 unfolding message_at
 in_order w z m i q =
     let behind : List ℕ = q.named ++ q.rest in
@@ -102,5 +103,5 @@ in_order w z m i q =
     let body : HasBody m d.place (drop d.place w.bytes) = subst (HasBody m d.place) (sym (rest_is w i q.named q.rest whole)) q.body in
     ap (λ (k : ℕ). kind_at k w.bytes c) h.kinds ∙ kind_again w.bytes c d q.reserved m q.three q.fits spans body
 
-pub only_so : (r : Result program.Message MessageFault) (w : Frames.Message) → IsMessage w → Answers message_of r (message_at w) → (m : Message) → Reads m w.bytes → Answers message_of r (Ok m)
-only_so r w i e m p = subst (Answers message_of r) (in_order w p.0 m i p.1) e
+pub only_so : (r : Result program.Message MessageFault) (w : Frames.Message) → IsMessage w → AreBytes w.bytes → Answers message_of r (message_at w) → (m : Message) → Reads m w.bytes → Answers message_of r (Ok m)
+only_so r w i fits e m p = subst (Answers message_of r) (in_order w p.0 m (headed w i fits) p.1) e

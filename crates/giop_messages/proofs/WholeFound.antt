@@ -18,6 +18,7 @@ use Rattle.giop_messages.specs.declared.message.Message as program
 use Rattle.giop_messages.specs.Views.{message_of}
 use Rattle.giop_messages.specs.MessageReading.{IsMessage, request_at, reply_at, cancel_at, locate_at, located_at, as_message, kind_at, message_at, Answers}
 use Rattle.giop_messages.proofs.MessageFound.{ok_is}
+use Rattle.giop_messages.proofs.Headed.{IsHeaded, headed}
 use Rattle.giop_messages.proofs.KindFound.{either, Meant, request_found, reply_found, cancel_found, locate_found, located_found, zeros, three_zeros}
 
 as_ok : {A : Type 0} (of : A → Message) (r : Result A MessageFault) (m : Message) → as_message of r ≡ Ok m → (x : A) × (r ≡ Ok x) × (of x ≡ m)
@@ -65,20 +66,20 @@ header_len : (order : Order) (flags kind size : ℕ) → length (header order fl
 header_len order flags kind size = omega (arith, length-append (magic ++ 1 ∷ 2 ∷ flags ∷ kind ∷ []) (number_bytes order w32 size), length-number_bytes order w32 size)
 
 -- what stands behind the header
-pub behind_header : (w : Frames.Message) (i : IsMessage w) → drop 12 w.bytes ≡ i.behind
+pub behind_header : (w : Frames.Message) (i : IsHeaded w) → drop 12 w.bytes ≡ i.behind
 behind_header w i =
     let front = header w.order i.flags w.kind (length i.behind) in
     ap (drop 12) i.parts ∙ drop_at front i.behind 12 (header_len w.order i.flags w.kind (length i.behind))
 
 -- what stands behind the named fields
-pub rest_is : (w : Frames.Message) (i : IsMessage w) (named rest : List ℕ) → i.behind ≡ named ++ rest → drop (12 + length named) w.bytes ≡ rest
+pub rest_is : (w : Frames.Message) (i : IsHeaded w) (named rest : List ℕ) → i.behind ≡ named ++ rest → drop (12 + length named) w.bytes ≡ rest
 rest_is w i named rest e =
     let front = header w.order i.flags w.kind (length i.behind) in
     let parts : w.bytes ≡ (front ++ named) ++ rest = i.parts ∙ ap (λ (x : List ℕ). front ++ x) e ∙ sym (append_assoc front named rest) in
     let len : length (front ++ named) ≡ 12 + length named = length-append front named ∙ ap (λ (n : ℕ). n + length named) (header_len w.order i.flags w.kind (length i.behind)) in
     ap (drop (12 + length named)) parts ∙ drop_at (front ++ named) rest (12 + length named) len
 
-pub message_found : (w : Frames.Message) (m : Message) → IsMessage w → AreBytes w.bytes → message_at w ≡ Ok m → ReadsIn w.order m w.bytes
+pub message_found : (w : Frames.Message) (m : Message) → IsHeaded w → AreBytes w.bytes → message_at w ≡ Ok m → ReadsIn w.order m w.bytes
 unfolding message_at
 message_found w m i fits e =
     let c : Cursor = cursor w.order 12 (drop 12 w.bytes) in
@@ -109,5 +110,5 @@ message_found w m i fits e =
     }
 
 pub found_so : (r : Result program.Message MessageFault) (w : Frames.Message) → IsMessage w → AreBytes w.bytes → Answers message_of r (message_at w) → IfOk r (λ m. Reads (message_of m) w.bytes)
-found_so (Ok m) w i fits e = (w.order, message_found w (message_of m) i fits e)
+found_so (Ok m) w i fits e = (w.order, message_found w (message_of m) (headed w i fits) fits e)
 found_so (Err f) w i fits e = tt

@@ -11,3 +11,5 @@ pub mod Exceptions
 pub mod Plain
 pub mod PlainReading
 pub mod MessageReading
+pub mod Framing
+pub mod Causes

@@ -1,29 +1,30 @@
 -- The reading of a message from left to right, with the first fault that is met: CORBA 3.0.3, section 15.4. The causes and
 -- their order are own profile.
-use Rattle.std.specs.Prelude.{◌≡◌, ◌-◌, ◌/◌, ◌%◌, ◌^◌, ◌<◌, ◌≤◌, ℕ, zero, suc, List, [], ◌∷◌, ◌++◌, length, drop, Result, Ok, Err, nat_lt, ◌==◌, if◌then◌else◌}
+use Rattle.std.specs.Prelude.{◌≡◌, ◌-◌, ◌≤◌, ℕ, zero, suc, true, false, List, [], ◌∷◌, length, drop, Result, Ok, Err, nat_lt, ◌==◌, if◌then◌else◌}
 use Rattle.std.specs.Int.{w8, w16, w32}
 use Rattle.cdr_core.specs.Alignment.{pad_len}
 use Rattle.cdr_core.specs.Cursor as Cdr
 use Rattle.cdr_core.specs.Cursor.{Cursor, cursor}
 use Rattle.cdr_core.specs.Reading.{number_at, count_at, octets_at, string_at}
 use Rattle.giop_frames.specs.Messages as Frames
+use Rattle.giop_frames.specs.Pieces.{order_of, has_more, kind_of, piece_len}
+use Rattle.giop_frames.specs.Stream.{has_magic, has_version}
 use Rattle.giop_messages.specs.declared.message_fault.MessageFault.{MessageFault}
 use Rattle.giop_messages.specs.declared.message_fault.MessageFault.TheVariants as faults
 use Rattle.orb_base.specs.Tagged.{Context, Tagged}
 use Rattle.giop_messages.specs.Message.{Target, key, profile, addressing, Request, Reply, Locate, Located, Message, request, reply, cancel, locate, located, close, error}
-use Rattle.giop_messages.specs.Layout.{header, order_flag}
 
--- one unfragmented message, as a framer gives it
+-- one unfragmented message, as a framer gives it: its header says so, and counts what stands behind it
 pub record IsMessage (m : Frames.Message) : Type 0 where
-  pub flags : ℕ
-  pub behind : List ℕ
-  pub octet : flags < 2 ^ 8
-  pub order_bit : flags % 2 ≡ order_flag m.order
-  pub unfragmented : flags / 2 % 2 ≡ 0
-  pub few_kinds : m.kind ≤ 6
   pub long : 12 ≤ length m.bytes
+  pub magic : has_magic m.bytes ≡ true
+  pub version : has_version m.bytes ≡ true
+  pub order : order_of m.bytes ≡ m.order
+  pub unfragmented : has_more m.bytes ≡ false
+  pub kind : kind_of m.bytes ≡ m.kind
+  pub few_kinds : m.kind ≤ 6
+  pub size : piece_len m.bytes ≡ length m.bytes
   pub short : length m.bytes ≤ 262144
-  pub parts : m.bytes ≡ header m.order flags m.kind (length behind) ++ behind
 
 -- a value and the cursor behind it, or the first fault
 abbrev pub Parsed : Type 0 → Type 0

@@ -7,6 +7,7 @@ ghost use Rattle.giop_messages.specs.Message.{Message, Fits, request};
 ghost use Rattle.giop_messages.specs.Spelling.{spelled, all_fields};
 ghost use Rattle.giop_messages.specs.Reading.{ReadsIn, Reads};
 ghost use Rattle.giop_messages.specs.Plain.{plain};
+ghost use Rattle.giop_messages.specs.Framing.{StreamsMessages, FeedsMessages, ReadsMessages};
 
 /// What a message is spelled as is read as that message, in either order.
 pub fn spelled_is_read()
@@ -24,4 +25,11 @@ pub fn reads_one_way()
 pub fn plain_request_is_read()
     ensures { (id : ℕ) (key : List ℕ) → id < 2 ^ 32 → length key < 2 ^ 31
         → ReadsIn Big (request (plain id key)) (spelled Big (request (plain id key))) }
+{}
+
+/// What a framer appends, under a limit of at most 262,144 bytes, can be read as messages: `read_message` requires no more.
+pub fn framed_is_message()
+    ensures stream { StreamsMessages }
+    ensures feed { FeedsMessages }
+    ensures whole { ReadsMessages }
 {}

@@ -15,8 +15,8 @@ ghost use Rattle.giop_messages.specs.Lengths.{Ends, held};
 use crate::message::Message;
 use crate::reply::Reply;
 use crate::request::Request;
-use orb_base::{Context, Tagged};
 use crate::target::Target;
+use orb_base::{Context, Tagged};
 
 /// The place behind a field of this alignment and length.
 fn behind(place: usize, alignment: usize, len: usize) -> usize

@@ -14,6 +14,7 @@ mod part;
 mod read;
 mod read_basic;
 mod read_parts;
+mod refused;
 mod reply;
 mod request;
 mod target;
@@ -22,7 +23,7 @@ mod writer;
 
 pub use exceptions::system_exception_body;
 pub use flags::due_of;
-pub use laws::{plain_request_is_read, reads_one_way, spelled_is_read};
+pub use laws::{framed_is_message, plain_request_is_read, reads_one_way, spelled_is_read};
 pub use length::message_len;
 pub use locate::Locate;
 pub use located::Located;
@@ -30,11 +31,14 @@ pub use message::Message;
 pub use message_fault::MessageFault;
 pub use orb_base::{Context, Tagged};
 pub use read::read_message;
+pub use refused::Fault;
 pub use reply::{Reply, plain_reply};
 pub use request::{PlainRequest, Request, plain_request};
 pub use target::Target;
 pub use write::write_message;
 
+#[cfg(test)]
+mod framed_tests;
 #[cfg(test)]
 mod message_tests;
 #[cfg(test)]

@@ -1,6 +1,11 @@
 //! Why the bytes of a message have no reading.
+ghost use Rattle.std.specs.Prelude.{◌≡◌};
+ghost use Rattle.giop_messages.specs.declared.message_fault.MessageFault.TheVariants.{Cdr, NoMemory};
+ghost use Rattle.giop_messages.specs.Causes.{cause_of};
 
+use crate::refused::Fault;
 use cdr_core::CdrFault;
+use std::alloc::AllocError;
 use thiserror::Error;
 
 /// What is wrong with a message: the first fault from left to right. A place counts bytes from the message's first
@@ -20,4 +25,34 @@ pub enum MessageFault {
     /// Memory was wanting.
     #[error("out of memory")]
     NoMemory,
+}
+
+impl MessageFault {
+    /// The cause without its place, as a fault of the connection that the message came over. None for want of memory.
+    pub fn cause(self) -> Option<Fault>
+        ensures { result ≡ cause_of self }
+    {
+        match self {
+            MessageFault::Cdr(fault) => Some(Fault::Message(fault.cause)),
+            MessageFault::BadTarget(_) => Some(Fault::BadTarget),
+            MessageFault::BadStatus(_) => Some(Fault::BadStatus),
+            MessageFault::NoMemory => None,
+        }
+    }
+}
+
+impl From<CdrFault> for MessageFault {
+    ghost from_gives = { λ fault e. e ≡ Cdr fault };
+
+    fn from(fault: CdrFault) -> MessageFault {
+        MessageFault::Cdr(fault)
+    }
+}
+
+impl From<AllocError> for MessageFault {
+    ghost from_gives = { λ _ e. e ≡ NoMemory };
+
+    fn from(_: AllocError) -> MessageFault {
+        MessageFault::NoMemory
+    }
 }

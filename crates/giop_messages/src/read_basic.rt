@@ -13,72 +13,51 @@ use std::alloc::Global;
 pub fn u8_at(reader: &mut Reader<'_>) -> Result<u8, MessageFault>
     ensures { Gives (λ n. n) result reader.new (basic (number_at w8 reader.old)) }
 {
-    match reader.take_u8() {
-        Ok(number) => Ok(number),
-        Err(fault) => Err(MessageFault::Cdr(fault)),
-    }
+    Ok(reader.take_u8()?)
 }
 
 /// Takes an unsigned short.
 pub fn u16_at(reader: &mut Reader<'_>) -> Result<u16, MessageFault>
     ensures { Gives (λ n. n) result reader.new (basic (number_at w16 reader.old)) }
 {
-    match reader.take_u16() {
-        Ok(number) => Ok(number),
-        Err(fault) => Err(MessageFault::Cdr(fault)),
-    }
+    Ok(reader.take_u16()?)
 }
 
 /// Takes an unsigned long.
 pub fn u32_at(reader: &mut Reader<'_>) -> Result<u32, MessageFault>
     ensures { Gives (λ n. n) result reader.new (basic (number_at w32 reader.old)) }
 {
-    match reader.take_u32() {
-        Ok(number) => Ok(number),
-        Err(fault) => Err(MessageFault::Cdr(fault)),
-    }
+    Ok(reader.take_u32()?)
 }
 
 /// Takes a count of what stands behind it.
 pub fn count_at(reader: &mut Reader<'_>) -> Result<u32, MessageFault>
     ensures { Gives (λ n. n) result reader.new (basic (count_at reader.old)) }
 {
-    match reader.take_count() {
-        Ok(count) => Ok(count),
-        Err(fault) => Err(MessageFault::Cdr(fault)),
-    }
+    Ok(reader.take_count()?)
 }
 
 /// A copy of the bytes.
 pub fn copied(alloc: Global, bytes: &[u8]) -> Result<Octets, MessageFault>
     ensures { Answers (λ o. o.items) result (Ok bytes.now) }
 {
-    match Vec::from_slice(alloc, bytes) {
-        Ok(copy) => Ok(List::from_vec(copy)),
-        Err(_) => Err(MessageFault::NoMemory),
-    }
+    Ok(List::from_vec(Vec::from_slice(alloc, bytes)?))
 }
 
 /// Takes an octet sequence. Copies its bytes once.
 pub fn octets_at(alloc: Global, reader: &mut Reader<'_>) -> Result<Octets, MessageFault>
     ensures { Gives (λ o. o.items) result reader.new (basic (octets_at reader.old)) }
 {
-    match reader.take_octets() {
-        Ok(bytes) => copied(alloc, bytes),
-        Err(fault) => Err(MessageFault::Cdr(fault)),
-    }
+    copied(alloc, reader.take_octets()?)
 }
 
 /// Takes a string. Copies its bytes once.
 pub fn text_at(alloc: Global, reader: &mut Reader<'_>) -> Result<Text, MessageFault>
     ensures { Gives (λ t. t) result reader.new (basic (string_at reader.old)) }
 {
-    match reader.take_string() {
-        Ok(bytes) => match Text::new(alloc, bytes) {
-            Ok(text) => Ok(text),
-            Err(_) => Err(MessageFault::NoMemory),
-        },
-        Err(fault) => Err(MessageFault::Cdr(fault)),
+    match Text::new(alloc, reader.take_string()?) {
+        Ok(text) => Ok(text),
+        Err(_) => Err(MessageFault::NoMemory),
     }
 }
 

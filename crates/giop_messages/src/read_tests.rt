@@ -1,6 +1,7 @@
 use super::*;
 use crate::read::of_kind;
 use cdr_core::{CdrCause, CdrFault, Reader};
+use giop_frames::FrameCause;
 use orb_base::Order;
 use std::alloc::Global;
 use std::test::*;
@@ -171,5 +172,38 @@ fn tells_each_cause_at_its_place(rt: HostRuntime) {
             Err(told) => Some(*told),
         };
         assert_eq!(rt; told, Some(fault));
+    }
+}
+
+#[test]
+fn shows_a_fault_by_the_name_of_its_cause(rt: HostRuntime) -> Result<(), Fail> {
+    for (fault, name) in [
+        (Fault::Frame(FrameCause::BadMagic), "BadMagic"),
+        (Fault::Message(CdrCause::Short), "Short"),
+        (Fault::BadTarget, "BadTarget"),
+        (Fault::BadStatus, "BadStatus"),
+        (Fault::WrongWay, "WrongWay"),
+        (Fault::Cut, "Cut"),
+    ] {
+        let shown = format!(in rt.alloc(); "{fault}")
+            .ok()
+            .ok_or("memory is left")?;
+        assert_eq!(rt; shown.as_str(), name);
+    }
+    Ok(())
+}
+
+#[test]
+fn names_the_cause_without_its_place(rt: HostRuntime) {
+    for (fault, cause) in [
+        (
+            cdr(CdrCause::Short, 18),
+            Some(Fault::Message(CdrCause::Short)),
+        ),
+        (MessageFault::BadTarget(16), Some(Fault::BadTarget)),
+        (MessageFault::BadStatus(16), Some(Fault::BadStatus)),
+        (MessageFault::NoMemory, None),
+    ] {
+        assert_eq!(rt; fault.cause(), cause);
     }
 }

@@ -1,6 +1,5 @@
-use Rattle.std.proofs.Common.{◌≡◌, ◌∷◌, [], length, take, sym, ap, ◌∙◌}
+use Rattle.std.proofs.Common.{◌≡◌, ◌∷◌, [], length, sym, ap, ◌∙◌}
 use Rattle.std.specs.Int.{w32}
-use Rattle.std.specs.List.{flat_map}
 use Rattle.cdr_core.specs.Field.{number, octets_fields}
 use Rattle.orb_base.specs.Tagged.{Tagged}
 use Rattle.giop_messages.specs.Layout.{tagged_fields}

@@ -2,7 +2,6 @@ use Rattle.std.proofs.Common.{◌≡◌, ◌∷◌, [], length, sym, ap, ◌∙�
 use Rattle.std.specs.Int.{w16, w32}
 use Rattle.cdr_core.specs.Field.{number, octets_fields}
 use Rattle.orb_base.specs.Tagged.{Tagged}
-use Rattle.giop_messages.specs.Layout.{tagged_fields}
 use Rattle.giop_messages.proofs.LengthLaws.{ends_then, ends_u16}
 use Rattle.giop_messages.proofs.length.behind_target.Goals as goal
 

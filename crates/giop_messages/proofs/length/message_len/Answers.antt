@@ -1,4 +1,4 @@
-use Rattle.std.proofs.Common.{◌≡◌, ap, inl, inr}
+use Rattle.std.proofs.Common.{ap, inl, inr}
 use Rattle.giop_messages.specs.Message as Spec
 use Rattle.giop_messages.specs.Layout.{target_fields}
 use Rattle.giop_messages.proofs.LengthLaws.{length_is, ends_same, cancel_len, locate_len, located_len, close_len, error_len}

@@ -1,4 +1,4 @@
-use Rattle.std.proofs.Common.{◌≡◌, ◌∷◌, ◌++◌, [], length, refl, sym, ap, ◌∙◌, lit<}
+use Rattle.std.proofs.Common.{◌≡◌, ◌∷◌, [], length, refl, sym, ap, ◌∙◌, lit<}
 use Rattle.std.specs.Int.{w32}
 use Rattle.cdr_core.specs.Field.{number}
 use Rattle.giop_messages.specs.Message as Spec

@@ -1,6 +1,6 @@
 use Rattle.std.proofs.Common.{◌≡◌, ◌∷◌, ◌++◌, [], length, refl, sym, ap, ◌∙◌, lit<}
 use Rattle.std.specs.Int.{w8, w32}
-use Rattle.cdr_core.specs.Field.{Field, number, run, string_fields}
+use Rattle.cdr_core.specs.Field.{number, run, string_fields}
 use Rattle.giop_messages.specs.Message as Spec
 use Rattle.giop_messages.specs.Layout.{target_fields, contexts_fields, body_fields}
 use Rattle.giop_messages.proofs.LengthLaws.{ends_then, ends_same, ends_known}

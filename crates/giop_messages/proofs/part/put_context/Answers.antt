@@ -1,13 +1,8 @@
-use Rattle.std.proofs.Common.{◌≡◌, ◌+◌, ◌∷◌, ◌++◌, [], length, take, Err, sym, ap, ◌∙◌}
+use Rattle.std.proofs.Common.{◌∷◌, []}
 use Rattle.std.proofs.lemmas.Result.{err_from_is_err_and}
-use Rattle.std.specs.Int.{w8, w16, w32}
-use Rattle.std.specs.List.{flat_map}
-use Rattle.cdr_core.specs.Field.{Field, number, run, string_fields, octets_fields}
+use Rattle.std.specs.Int.{w32}
+use Rattle.cdr_core.specs.Field.{number, octets_fields}
 use Rattle.cdr_core.proofs.CallerLemmas.{puts_then, puts_first}
-use Rattle.giop_messages.specs.Message as Spec
-use Rattle.giop_messages.specs.Layout.{magic, order_flag, tagged_fields, target_fields, context_fields, contexts_fields, profiles_fields, body_fields}
-use Rattle.giop_messages.specs.TargetView.{target_of}
-use Rattle.giop_messages.proofs.PutLaws.{written_none, written_both, front_then, room_first, room_then, list_next, list_front, list_room, list_done, few_tagged, few_contexts}
 use Rattle.giop_messages.proofs.part.put_context.Goals as goal
 
 pub returns-in_err-put_u32 : goal.returns-in_err-put_u32
