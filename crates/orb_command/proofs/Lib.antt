@@ -8,3 +8,6 @@ pub mod CommandLaws
 pub mod Replays
 pub mod HeardLaws
 pub mod ShownLaws
+pub mod DumpLaws
+pub mod DumpPieces
+pub mod DumpRuns

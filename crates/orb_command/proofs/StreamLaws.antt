@@ -82,3 +82,24 @@ gave_last limit bytes into n left left' left'' taken taken' taken'' so_far few f
 -- nothing was taken
 pub gave_none : (limit : ℕ) (left taken : Told) → GaveFew limit left left taken taken
 gave_none limit left taken = record { bytes = []; few = omega arith; gave = gave_start left taken }
+
+-- bytes were written behind others
+pub wrote_behind : (a b : List ℕ) (held held' held'' : Told) → held' ≡ option_map (λ h. h ++ a) held → held'' ≡ option_map (λ h. h ++ b) held' → held'' ≡ option_map (λ h. h ++ (a ++ b)) held
+wrote_behind a b held held' held'' first then =
+    then ∙ ap (option_map (λ h. h ++ b)) first ∙ map_map (λ h. h ++ b) (λ h. h ++ a) held ∙ map_as (λ h. (h ++ a) ++ b) (λ h. h ++ (a ++ b)) (λ h. append_assoc h a b) held
+
+-- and of those a front alone
+pub wrote_all : (a b rest : List ℕ) (held held' held'' : Told) → held' ≡ option_map (λ h. h ++ a) held → WroteSome b rest held' held'' → WroteSome (a ++ b) rest held held''
+wrote_all a b rest held held' held'' first some = record {
+  front = a ++ some.front;
+  parts = ap (λ (x : List ℕ). a ++ x) some.parts ∙ sym (append_assoc a some.front rest);
+  wrote = wrote_behind a some.front held held' held'' first some.wrote;
+}
+
+-- where more was to follow
+pub wrote_more : (a b rest more : List ℕ) (held held' held'' : Told) → held' ≡ option_map (λ h. h ++ a) held → WroteSome b rest held' held'' → WroteSome (a ++ (b ++ more)) (rest ++ more) held held''
+wrote_more a b rest more held held' held'' first some = record {
+  front = a ++ some.front;
+  parts = ap (λ (x : List ℕ). a ++ (x ++ more)) some.parts ∙ ap (λ (x : List ℕ). a ++ x) (append_assoc some.front rest more) ∙ sym (append_assoc a some.front (rest ++ more));
+  wrote = wrote_behind a some.front held held' held'' first some.wrote;
+}

@@ -12,3 +12,6 @@ pub mod Pipe
 pub mod Command
 pub mod Shown
 pub mod DumpText
+pub mod DumpEnding
+pub mod Dump
+pub mod DumpSteps

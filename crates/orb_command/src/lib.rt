@@ -3,7 +3,10 @@
 
 mod answered;
 mod command;
+mod dump;
+mod dump_end;
 mod dump_line;
+mod dump_lines;
 mod ends;
 mod heard;
 mod laws;
@@ -12,6 +15,7 @@ mod note;
 mod ping;
 mod pipe;
 mod read_all;
+mod refusal;
 mod request;
 mod setup;
 mod shown;
@@ -22,11 +26,13 @@ mod write_all;
 
 pub use answered::Answered;
 pub use command::orb_main;
+pub use dump_end::{DumpEnd, MAX_DUMPED};
 pub use ends::{PipeFault, Piped, ReadEnd, WriteEnd};
 pub use laws::{built_in_is_distinct, hears_one_way, piped_is_replayed};
 pub use note::Note;
 pub use pipe::pipe_run;
 pub use read_all::MAX_PIPED;
+pub use refusal::Refusal;
 
 #[cfg(test)]
 mod tests;
