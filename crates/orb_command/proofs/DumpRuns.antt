@@ -14,7 +14,7 @@ use Rattle.orb_command.specs.declared.dump_end.DumpEnd.{DumpEnd}
 use Rattle.orb_command.specs.declared.dump_end.DumpEnd.TheVariants.{Done, Refused, Spent, ReadFault, WriteFault}
 use Rattle.orb_command.specs.declared.dump_end.TheConstants.{MAX_DUMPED}
 use Rattle.orb_command.specs.DumpEnding.{first_refusal, lines_before, refusal_of, at_end, dumped, dump_text, dump_ending}
-use Rattle.orb_command.specs.Dump.{WroteAll, WroteFront, DumpsBytes, Dumps}
+use Rattle.orb_command.specs.Dump.{WroteText, WroteFrontOf, DumpsBytes, Dumps}
 use Rattle.orb_command.specs.DumpSteps.{IsGoing, WritesFront, DumpsPiece}
 use Rattle.orb_command.specs.Streams.{Gave}
 use Rattle.std.proofs.lemmas.List.{take-append-le}
@@ -26,7 +26,7 @@ pub record DumpsSoFar (f : Feed) (count : ℕ) (left left' taken taken' held hel
   pub gave : Gave f.fed left left' taken taken'
   pub count_is : count ≡ length f.fed
   pub few : length f.fed ≤ MAX_DUMPED
-  pub wrote : WroteAll (dump_text f.fed) held held'
+  pub wrote : WroteText (dump_text f.fed) held held'
   pub read_on : reads.0 ≤ reads.1
   pub no_end : ends.1 ≡ ends.0
   pub wrote_on : writes.0 ≤ writes.1
@@ -52,7 +52,7 @@ dump_start f left taken held reads ends writes is =
       gave = rw none (gave_start left taken);
       count_is = rw none refl;
       few = rw none (omega arith);
-      wrote = subst (λ (t : List ℕ). WroteAll t held held) (sym (ap dump_text none ∙ first_text)) ((gave_start held held).to_taken);
+      wrote = subst (λ (t : List ℕ). WroteText t held held) (sym (ap dump_text none ∙ first_text)) ((gave_start held held).to_taken);
       read_on = omega arith;
       no_end = refl;
       wrote_on = omega arith;
@@ -105,26 +105,26 @@ dump_on f f' count count' left left' left'' taken taken' taken'' held held' held
   gave = took.gave;
   count_is = took.count_is;
   few = took.few;
-  wrote = subst (λ (t : List ℕ). WroteAll t held held'') (sym piece.1.text_is) (wrote_behind (dump_text f.fed) piece.1.text held held' held'' h.wrote piece.1.wrote);
+  wrote = subst (λ (t : List ℕ). WroteText t held held'') (sym piece.1.text_is) (wrote_behind (dump_text f.fed) piece.1.text held held' held'' h.wrote piece.1.wrote);
   read_on = took.read_on;
   no_end = took.no_end;
   wrote_on = omega (arith, h.wrote_on, piece.2);
 }
 
 -- a front of the text, behind all of the text before
-front_on : (f f' : Feed) (held held' held'' : Told) → WroteAll (dump_text f.fed) held held' → WritesFront f f' held' held'' → WroteFront (dump_text f'.fed) held held''
+front_on : (f f' : Feed) (held held' held'' : Told) → WroteText (dump_text f.fed) held held' → WritesFront f f' held' held'' → WroteFrontOf (dump_text f'.fed) held held''
 front_on f f' held held' held'' all front =
-    subst (λ (t : List ℕ). WroteFront t held held'') (sym front.text_is)
+    subst (λ (t : List ℕ). WroteFrontOf t held held'') (sym front.text_is)
     (front.wrote.0, wrote_all (dump_text f.fed) front.text front.wrote.0 held held' held'' all front.wrote.1)
 
 rose_on : (w0 w1 w2 : ℕ) → w0 ≤ w1 → Rose w1 w2 → Rose w0 w2
 rose_on w0 w1 w2 le rose = omega arith
 
 -- or ends with it
-end_came : (end : DumpEnd) (f f' : Feed) (held held' held'' : Told) (reads : ℕ × ℕ) (w0 w1 w2 : ℕ) → WroteAll (dump_text f.fed) held held' → w0 ≤ w1 → DumpsPiece (Ok (Some end)) f f' held' held'' (w1, w2) → DumpsBytes (Ok end) f'.fed false held held'' reads (w0, w2)
+end_came : (end : DumpEnd) (f f' : Feed) (held held' held'' : Told) (reads : ℕ × ℕ) (w0 w1 w2 : ℕ) → WroteText (dump_text f.fed) held held' → w0 ≤ w1 → DumpsPiece (Ok (Some end)) f f' held' held'' (w1, w2) → DumpsBytes (Ok end) f'.fed false held held'' reads (w0, w2)
 end_came (Refused r) f f' held held' held'' reads w0 w1 w2 all le piece = (
   ending_refused f'.fed false r piece.0,
-  subst (λ (t : List ℕ). WroteAll t held held'') (sym piece.1.text_is) (wrote_behind (dump_text f.fed) piece.1.text held held' held'' all piece.1.wrote),
+  subst (λ (t : List ℕ). WroteText t held held'') (sym piece.1.text_is) (wrote_behind (dump_text f.fed) piece.1.text held held' held'' all piece.1.wrote),
 )
 end_came WriteFault f f' held held' held'' reads w0 w1 w2 all le piece = (rose_on w0 w1 w2 le piece.0, front_on f f' held held' held'' all piece.1)
 end_came Done f f' held held' held'' reads w0 w1 w2 all le piece = absurd piece
@@ -142,7 +142,7 @@ dump_ends end f f' count count' left left' left'' taken taken' taken'' held held
 }
 
 -- want of memory
-want_came : (r : Result DumpEnd NoMemory) (bytes : List ℕ) (ended : Bool) (held held' : Told) (reads writes : ℕ × ℕ) → IsErr r → WroteFront (dump_text bytes) held held' → DumpsBytes r bytes ended held held' reads writes
+want_came : (r : Result DumpEnd NoMemory) (bytes : List ℕ) (ended : Bool) (held held' : Told) (reads writes : ℕ × ℕ) → IsErr r → WroteFrontOf (dump_text bytes) held held' → DumpsBytes r bytes ended held held' reads writes
 want_came (Ok x) bytes ended held held' reads writes e h = absurd (cc)
 want_came (Err x) bytes ended held held' reads writes e h = h
 
@@ -177,7 +177,7 @@ rose_from : (e0 e1 e2 : ℕ) → e1 ≡ e0 → Rose e1 e2 → Rose e0 e2
 rose_from e0 e1 e2 same rose = omega arith
 
 -- the end of the input
-end_done : (end : DumpEnd) (rest : Option ℕ) (bytes : List ℕ) (held held' : Told) (reads writes : ℕ × ℕ) → end ≡ at_end rest → dump_ending bytes true ≡ Some (at_end rest) → WroteAll (dump_text bytes) held held' → DumpsBytes (Ok end) bytes true held held' reads writes
+end_done : (end : DumpEnd) (rest : Option ℕ) (bytes : List ℕ) (held held' : Told) (reads writes : ℕ × ℕ) → end ≡ at_end rest → dump_ending bytes true ≡ Some (at_end rest) → WroteText (dump_text bytes) held held' → DumpsBytes (Ok end) bytes true held held' reads writes
 end_done end None bytes held held' reads writes is ending all = subst (λ (x : DumpEnd). DumpsBytes (Ok x) bytes true held held' reads writes) (sym is) (ending, all)
 end_done end (Some offset) bytes held held' reads writes is ending all = subst (λ (x : DumpEnd). DumpsBytes (Ok x) bytes true held held' reads writes) (sym is) (ending, all)
 
@@ -203,7 +203,7 @@ dump_failed f count left left' left'' taken taken' taken'' held held' r0 r1 r2 e
   gave = same_gave f.fed left left' left'' taken taken' taken'' h.gave same_left same_taken;
   few = h.few;
   met = no_end ∙ h.no_end;
-  came = (ending_open f.fed h.going.sound (omega (arith, h.count_is)), rose_on r0 r1 r2 h.read_on rose, h.wrote);
+  came = (rose_on r0 r1 r2 h.read_on rose, (ending_open f.fed h.going.sound (omega (arith, h.count_is)), h.wrote));
 }
 
 -- as many bytes as are taken at most

@@ -11,7 +11,7 @@ use Rattle.orb_command.specs.declared.refusal.Refusal.{Refusal}
 use Rattle.orb_command.specs.declared.dump_end.DumpEnd.{DumpEnd}
 use Rattle.orb_command.specs.declared.dump_end.DumpEnd.TheVariants.{Done, Refused, Spent, ReadFault, WriteFault}
 use Rattle.orb_command.specs.DumpEnding.{broken, dumped, refusal_of, dump_text}
-use Rattle.orb_command.specs.Dump.{WroteAll, WroteFront}
+use Rattle.orb_command.specs.Dump.{WroteText, WroteFrontOf}
 
 -- a dump goes on: nothing is refused of what was fed, and memory was not wanting
 pub record IsGoing (f : Feed) : Type 0 where
@@ -43,13 +43,13 @@ pub record GrowsText (f f' : Feed) : Type 0 where
 pub record WritesOn (f f' : Feed) (held held' : Told) : Type 0 where
   pub text : List ℕ
   pub text_is : dump_text f'.fed ≡ dump_text f.fed ++ text
-  pub wrote : WroteAll text held held'
+  pub wrote : WroteText text held held'
 
 -- a front of it was written
 pub record WritesFront (f f' : Feed) (held held' : Told) : Type 0 where
   pub text : List ℕ
   pub text_is : dump_text f'.fed ≡ dump_text f.fed ++ text
-  pub wrote : WroteFront text held held'
+  pub wrote : WroteFrontOf text held held'
 
 -- a dump that goes on, or ends
 abbrev pub DumpsPiece : Result (Option DumpEnd) NoMemory → Feed → Feed → Told → Told → ℕ × ℕ → Type 0

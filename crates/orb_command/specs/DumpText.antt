@@ -49,7 +49,8 @@ fields_text error = []
 -- it has with its header
 abbrev pub head_text : Frames.Message → Message → List ℕ
 head_text whole message =
-    decimal whole.at ++ codes " " ++ kind_name message ++ codes " " ++ order_name whole.order ++ codes " " ++ decimal (length whole.bytes)
+    decimal whole.at ++ codes " " ++ kind_name message ++ codes " " ++ order_name whole.order
+    ++ codes " " ++ decimal (length whole.bytes)
 
 -- the line of a whole message
 abbrev pub dump_line : Frames.Message → Message → List ℕ

@@ -9,7 +9,8 @@ is_plain octet = nat_le 0x21 octet && (nat_le octet 0x7E && not (octet == 0x25))
 
 -- a plain octet as it is, and each other one as `%` with its two upper-case hexadecimal digits
 unfoldable pub shown_octet : ℕ → List ℕ
-shown_octet octet = if is_plain octet then octet ∷ [] else 0x25 ∷ digit_glyph true (octet / 16) ∷ digit_glyph true (octet % 16) ∷ []
+shown_octet octet =
+    if is_plain octet then octet ∷ [] else 0x25 ∷ digit_glyph true (octet / 16) ∷ digit_glyph true (octet % 16) ∷ []
 
 -- one behind the other
 unfoldable pub shown : List ℕ → List ℕ
