@@ -9,9 +9,10 @@ pub mod Hearing
 pub mod Words
 pub mod Streams
 pub mod Pipe
-pub mod Command
 pub mod Shown
 pub mod DumpText
 pub mod DumpEnding
 pub mod Dump
 pub mod DumpSteps
+pub mod DumpAnswer
+pub mod Command

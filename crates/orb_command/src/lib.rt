@@ -7,6 +7,7 @@ mod dump;
 mod dump_end;
 mod dump_line;
 mod dump_lines;
+mod dump_note;
 mod ends;
 mod heard;
 mod laws;
@@ -26,6 +27,7 @@ mod write_all;
 
 pub use answered::Answered;
 pub use command::orb_main;
+pub use dump::dump_run;
 pub use dump_end::{DumpEnd, MAX_DUMPED};
 pub use ends::{PipeFault, Piped, ReadEnd, WriteEnd};
 pub use laws::{built_in_is_distinct, hears_one_way, piped_is_replayed};
@@ -34,5 +36,7 @@ pub use pipe::pipe_run;
 pub use read_all::MAX_PIPED;
 pub use refusal::Refusal;
 
+#[cfg(test)]
+mod dump_tests;
 #[cfg(test)]
 mod tests;
