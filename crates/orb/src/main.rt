@@ -5,8 +5,8 @@ mod note_text;
 mod std_sink;
 mod std_source;
 
-use note_text::note_text;
-use orb_command::orb_main;
+use note_text::NoteText;
+use orb_command::{Note, orb_main};
 use std::alloc::Global;
 use std::process::ExitCode;
 use std::rt::Env;
@@ -32,9 +32,11 @@ fn main(rt: HostRuntime) -> ExitCode {
     let mut input = StdSource::new(rt.stdin());
     let mut out = StdSink::new(rt.stdout());
     let answered = orb_main(rt.alloc(), words.as_slice(), &mut input, &mut out);
-    if let Some(text) = note_text(answered.note) {
+    if answered.note != Note::Nothing {
         // A note that can't be printed changes nothing.
-        let _ = rt.eprintln(text);
+        let _ = rt.eprintln(NoteText {
+            note: answered.note,
+        });
     }
     ExitCode::from(answered.status)
 }

@@ -1,5 +1,5 @@
 -- The answers of the top call where its words mean the pipe.
-use Rattle.std.proofs.Common.{ℕ, refl, inr}
+use Rattle.std.proofs.Common.{ℕ, refl}
 use Rattle.std.specs.Prelude.{Result, Ok, Err}
 use Rattle.orb_base.specs.Outside.{Told}
 use Rattle.orb_command.specs.declared.ends.ReadEnd.{ReadEnd}
@@ -9,17 +9,22 @@ use Rattle.orb_command.specs.declared.ends.WriteEnd.TheVariants as write
 use Rattle.orb_command.specs.declared.ends.Piped.{Piped}
 use Rattle.orb_command.specs.declared.ends.PipeFault.{PipeFault}
 use Rattle.orb_command.specs.declared.ends.PipeFault.TheVariants as fault
-use Rattle.orb_command.specs.declared.meaning.Meaning.TheVariants.{Pipe}
+use Rattle.orb_base.specs.declared.no_memory.NoMemory.{NoMemory}
+use Rattle.orb_command.specs.declared.dump_end.DumpEnd.{DumpEnd}
+use Rattle.orb_command.specs.declared.dump_end.TheConstants.{MAX_DUMPED}
+use Rattle.orb_command.specs.Streams.{GaveFew}
+use Rattle.orb_command.specs.Dump.{Dumps}
+use Rattle.orb_command.specs.DumpAnswer.{dump_note, DumpAnswers}
 use Rattle.orb_command.specs.Ping.{ping_outcome}
 use Rattle.orb_command.specs.Pipe.{Pipes, PipesTo}
-use Rattle.orb_command.specs.Command.{Answers, note_of, note_of_ends}
+use Rattle.orb_command.specs.Command.{PipeAnswers, note_of, note_of_ends}
 
-ends_answer : (read_end : ReadEnd) (write_end : WriteEnd) (left held held' : Told) (reads ends writes : ℕ × ℕ) → PipesTo read_end write_end ping_outcome left held held' reads ends writes → Answers (note_of_ends read_end write_end) Pipe left held held' reads ends writes
-ends_answer read.Ended write.Done left held held' reads ends writes h = (refl, h.0, h.1)
-ends_answer read.RunClosed write.Closed left held held' reads ends writes h = (refl, h.0, h.1)
-ends_answer read.RunClosed write.WriteFault left held held' reads ends writes h = (refl, h.0, h.1)
-ends_answer read.Stopped write.WriteFault left held held' reads ends writes h = (refl, h.0, h.1)
-ends_answer read.ReadFault write.Done left held held' reads ends writes h = (refl, h.0, h.1)
+ends_answer : (read_end : ReadEnd) (write_end : WriteEnd) (left held held' : Told) (reads ends writes : ℕ × ℕ) → PipesTo read_end write_end ping_outcome left held held' reads ends writes → PipeAnswers (note_of_ends read_end write_end) left held held' reads ends writes
+ends_answer read.Ended write.Done left held held' reads ends writes h = (h.0, h.1)
+ends_answer read.RunClosed write.Closed left held held' reads ends writes h = (h.0, h.1)
+ends_answer read.RunClosed write.WriteFault left held held' reads ends writes h = (h.0, h.1)
+ends_answer read.Stopped write.WriteFault left held held' reads ends writes h = (h.0, h.1)
+ends_answer read.ReadFault write.Done left held held' reads ends writes h = (h.0, h.1)
 ends_answer read.Ended write.Closed left held held' reads ends writes h = absurd h
 ends_answer read.Ended write.WriteFault left held held' reads ends writes h = absurd h
 ends_answer read.RunClosed write.Done left held held' reads ends writes h = absurd h
@@ -28,7 +33,14 @@ ends_answer read.Stopped write.Closed left held held' reads ends writes h = absu
 ends_answer read.ReadFault write.Closed left held held' reads ends writes h = absurd h
 ends_answer read.ReadFault write.WriteFault left held held' reads ends writes h = absurd h
 
-pub pipes_answers : (ran : Result Piped PipeFault) (left held held' : Told) (reads ends writes : ℕ × ℕ) → Pipes ran ping_outcome left held held' reads ends writes → Answers (note_of ran) Pipe left held held' reads ends writes
+pub pipes_answers : (ran : Result Piped PipeFault) (left held held' : Told) (reads ends writes : ℕ × ℕ) → Pipes ran ping_outcome left held held' reads ends writes → PipeAnswers (note_of ran) left held held' reads ends writes
 pipes_answers (Ok piped) left held held' reads ends writes h = ends_answer piped.read piped.write left held held' reads ends writes h
-pipes_answers (Err fault.NotBuilt) left held held' reads ends writes h = (inr (refl, h.0), h.1)
-pipes_answers (Err fault.NoMemory) left held held' reads ends writes h = (refl, h)
+pipes_answers (Err fault.NotBuilt) left held held' reads ends writes h = (h.0, h.1)
+pipes_answers (Err fault.NoMemory) left held held' reads ends writes h = h
+
+-- the answers where the words mean a dump
+pub dumps_answers : (answer : Result DumpEnd NoMemory) (left left' taken taken' held held' : Told) (reads ends writes : ℕ × ℕ) → Dumps answer left left' taken taken' held held' reads ends writes → DumpAnswers (dump_note answer) left left' taken taken' held held' reads ends writes
+dumps_answers answer left left' taken taken' held held' reads ends writes h = record { answer = answer; told = refl; dumps = h }
+
+pub dumps_few : (answer : Result DumpEnd NoMemory) (left left' taken taken' held held' : Told) (reads ends writes : ℕ × ℕ) → Dumps answer left left' taken taken' held held' reads ends writes → GaveFew MAX_DUMPED left left' taken taken'
+dumps_few answer left left' taken taken' held held' reads ends writes h = record { bytes = h.bytes; few = h.few; gave = h.gave }

@@ -10,3 +10,7 @@ pub mod PipedLaws
 pub mod CommandLaws
 pub mod Replays
 pub mod HeardLaws
+pub mod ShownLaws
+pub mod DumpLaws
+pub mod DumpPieces
+pub mod DumpRuns

@@ -1,10 +1,10 @@
 -- The answers of the top call: for each note its cause, and what was written.
-use Rattle.std.specs.Prelude.{◌≡◌, ◌⊎◌, ℕ, true, false, IfSome, Result, Ok, Err}
+use Rattle.std.specs.Prelude.{◌≡◌, ◌+◌, ℕ, true, false, IfSome, Result, Ok, Err}
 use Rattle.orb_base.specs.Outside.{Told, Rose}
 use Rattle.orb_command.specs.declared.meaning.Meaning.{Meaning}
-use Rattle.orb_command.specs.declared.meaning.Meaning.TheVariants.{Pipe, Unbuilt, Unread}
+use Rattle.orb_command.specs.declared.meaning.Meaning.TheVariants.{Pipe, Dump, Unbuilt, Unread}
 use Rattle.orb_command.specs.declared.note.Note.{Note}
-use Rattle.orb_command.specs.declared.note.Note.TheVariants.{Nothing, Usage, ReadFault, WriteFault, Memory, Limit, NotBuilt}
+use Rattle.orb_command.specs.declared.note.Note.TheVariants.{Nothing, Usage, ReadFault, WriteFault, Input, Memory, Limit, NotBuilt}
 use Rattle.orb_command.specs.declared.ends.ReadEnd.{ReadEnd}
 use Rattle.orb_command.specs.declared.ends.ReadEnd.TheVariants as read
 use Rattle.orb_command.specs.declared.ends.WriteEnd.{WriteEnd}
@@ -12,9 +12,12 @@ use Rattle.orb_command.specs.declared.ends.WriteEnd.TheVariants as write
 use Rattle.orb_command.specs.declared.ends.Piped.{Piped}
 use Rattle.orb_command.specs.declared.ends.PipeFault.{PipeFault}
 use Rattle.orb_command.specs.declared.ends.PipeFault.TheVariants as fault
+use Rattle.orb_command.specs.declared.read_all.TheConstants.{MAX_PIPED}
+use Rattle.orb_command.specs.declared.dump_end.TheConstants.{MAX_DUMPED}
 use Rattle.orb_command.specs.Ping.{ping_outcome}
 use Rattle.orb_command.specs.Built.{IsBuilt, IsPiped}
 use Rattle.orb_command.specs.Pipe.{WroteWhole, WroteFront, WroteAtWant}
+use Rattle.orb_command.specs.DumpAnswer.{DumpAnswers}
 
 -- the exit status of a note
 abbrev pub status_of : Note → ℕ
@@ -22,6 +25,7 @@ status_of Nothing = 0
 status_of Usage = 1
 status_of ReadFault = 3
 status_of WriteFault = 4
+status_of (Input _ _) = 8
 status_of Memory = 12
 status_of Limit = 13
 status_of NotBuilt = 14
@@ -41,18 +45,32 @@ note_of (Ok piped) = note_of_ends piped.read piped.write
 note_of (Err fault.NotBuilt) = NotBuilt
 note_of (Err fault.NoMemory) = Memory
 
--- what each note means, by what the words mean, what the source tells to be left before, and what the sink tells to be
--- held before and after; `reads`, `ends` and `writes` are the counts of the source's faults and ends and of the sink's
--- faults, before and after
-abbrev pub Answers : Note → Meaning → Told → Told → Told → ℕ × ℕ → ℕ × ℕ → ℕ × ℕ → Type 0
-Answers Nothing meaning left held held' reads ends writes =
-    (meaning ≡ Pipe) × Rose ends.0 ends.1 × IfSome left (λ input. WroteWhole (IsPiped ping_outcome input) false held held')
-Answers Usage meaning left held held' reads ends writes = (meaning ≡ Unread) × (held' ≡ held)
-Answers ReadFault meaning left held held' reads ends writes = (meaning ≡ Pipe) × Rose reads.0 reads.1 × (held' ≡ held)
-Answers WriteFault meaning left held held' reads ends writes =
-    (meaning ≡ Pipe) × Rose writes.0 writes.1 × IfSome left (λ input. WroteFront (IsPiped ping_outcome input) held held')
-Answers Memory meaning left held held' reads ends writes = (meaning ≡ Pipe) × IfSome left (λ input. WroteAtWant ping_outcome input held held')
-Answers Limit meaning left held held' reads ends writes =
-    (meaning ≡ Pipe) × Rose ends.0 ends.1 × IfSome left (λ input. WroteWhole (IsPiped ping_outcome input) true held held')
-Answers NotBuilt meaning left held held' reads ends writes =
-    ((meaning ≡ Unbuilt) ⊎ ((meaning ≡ Pipe) × IfSome left (λ input. ¬ IsBuilt input))) × (held' ≡ held)
+-- what each note of `pipe` means, by what the source tells to be left before, and what the sink tells to be held before and
+-- after; `reads`, `ends` and `writes` are the counts of the source's faults and ends and of the sink's faults, before and
+-- after
+abbrev pub PipeAnswers : Note → Told → Told → Told → ℕ × ℕ → ℕ × ℕ → ℕ × ℕ → Type 0
+PipeAnswers Nothing left held held' reads ends writes =
+    Rose ends.0 ends.1 × IfSome left (λ input. WroteWhole (IsPiped ping_outcome input) false held held')
+PipeAnswers ReadFault left held held' reads ends writes = Rose reads.0 reads.1 × (held' ≡ held)
+PipeAnswers WriteFault left held held' reads ends writes =
+    Rose writes.0 writes.1 × IfSome left (λ input. WroteFront (IsPiped ping_outcome input) held held')
+PipeAnswers Memory left held held' reads ends writes = IfSome left (λ input. WroteAtWant ping_outcome input held held')
+PipeAnswers Limit left held held' reads ends writes =
+    Rose ends.0 ends.1 × IfSome left (λ input. WroteWhole (IsPiped ping_outcome input) true held held')
+PipeAnswers NotBuilt left held held' reads ends writes = IfSome left (λ input. ¬ IsBuilt input) × (held' ≡ held)
+PipeAnswers Usage left held held' reads ends writes = ⊥
+PipeAnswers (Input _ _) left held held' reads ends writes = ⊥
+
+-- what each note means, by what the words mean; the source tells what is left and what was taken, before and after
+abbrev pub Answers : Meaning → Note → Told → Told → Told → Told → Told → Told → ℕ × ℕ → ℕ × ℕ → ℕ × ℕ → Type 0
+Answers Pipe note left left' taken taken' held held' reads ends writes = PipeAnswers note left held held' reads ends writes
+Answers Dump note left left' taken taken' held held' reads ends writes = DumpAnswers note left left' taken taken' held held' reads ends writes
+Answers Unbuilt note left left' taken taken' held held' reads ends writes = (note ≡ NotBuilt) × (held' ≡ held)
+Answers Unread note left left' taken taken' held held' reads ends writes = (note ≡ Usage) × (held' ≡ held)
+
+-- how many bytes are taken at most: of a piped input one more than it may have, so that a longer one is seen
+abbrev pub most_taken : Meaning → ℕ
+most_taken Pipe = MAX_PIPED + 1
+most_taken Dump = MAX_DUMPED
+most_taken Unbuilt = 0
+most_taken Unread = 0

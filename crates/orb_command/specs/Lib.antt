@@ -9,4 +9,10 @@ pub mod PingRun
 pub mod Hearing
 pub mod Words
 pub mod Pipe
+pub mod Shown
+pub mod DumpText
+pub mod DumpEnding
+pub mod Dump
+pub mod DumpSteps
+pub mod DumpAnswer
 pub mod Command

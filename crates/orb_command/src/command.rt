@@ -3,15 +3,16 @@ ghost use Rattle.std.specs.Prelude.{◌≡◌, ◌+◌, string_bytes};
 ghost use Rattle.orb_command.specs.Words.{command_of};
 ghost use Rattle.orb_command.specs.Ping.{ping_outcome};
 ghost use Rattle.orb_command.specs.Streams.{GaveFew};
-ghost use Rattle.orb_command.specs.Command.{Answers, status_of, note_of};
+ghost use Rattle.orb_command.specs.Command.{Answers, most_taken, status_of, note_of};
 
 use crate::answered::Answered;
+use crate::dump::dump_run;
+use crate::dump_note::dump_note;
 use crate::ends::{PipeFault, Piped, ReadEnd, WriteEnd};
 use crate::meaning::Meaning;
 use crate::note::Note;
 use crate::ping::Ping;
 use crate::pipe::pipe_run;
-use crate::read_all::MAX_PIPED;
 use crate::words::read_words;
 use orb_base::{Sink, Source};
 use std::alloc::Global;
@@ -26,6 +27,7 @@ fn answered(note: Note) -> Answered
         Note::Usage => 1,
         Note::ReadFault => 3,
         Note::WriteFault => 4,
+        Note::Input(_, _) => 8,
         Note::Memory => 12,
         Note::Limit => 13,
         Note::NotBuilt => 14,
@@ -55,7 +57,7 @@ fn note_for(ran: Result<Piped, PipeFault>) -> Note
 /// Does all that the program does: reads the words, runs the command over the input and the output, and answers the
 /// status with its note. `pipe` answers each request of its input; the other commands aren't built yet. It returns
 /// where each read and write returns.
-#[tactic(auto, using(crate::proofs::CommandLaws::pipes_answers, crate::proofs::StreamLaws::gave_none))]
+#[tactic(auto, using(crate::proofs::CommandLaws::pipes_answers, crate::proofs::CommandLaws::dumps_answers, crate::proofs::CommandLaws::dumps_few, crate::proofs::StreamLaws::gave_none))]
 pub fn orb_main<I: Source, O: Sink>(
     alloc: Global,
     words: &[String],
@@ -66,13 +68,15 @@ pub fn orb_main<I: Source, O: Sink>(
     // to its end and its whole answer was written; 1 exactly where the words mean no command; 14 exactly where they
     // mean one that isn't built, or the input isn't of the built form; 3 and 4 only where a count of faults rose.
     ensures status { result.status ≡ status_of result.note }
-    ensures answers { Answers result.note (command_of string_bytes words.now) (I.left input.old) (O.held out.old) (O.held out.new)
+    ensures answers { Answers (command_of string_bytes words.now) result.note (I.left input.old) (I.left input.new)
+        (I.taken input.old) (I.taken input.new) (O.held out.old) (O.held out.new)
         (I.faults input.old, I.faults input.new) (I.ends input.old, I.ends input.new) (O.faults out.old, O.faults out.new) }
     // An input is taken no further than it takes to see that it is too long.
-    ensures few { GaveFew (MAX_PIPED + 1) (I.left input.old) (I.left input.new) (I.taken input.old) (I.taken input.new) }
+    ensures few { GaveFew (most_taken (command_of string_bytes words.now)) (I.left input.old) (I.left input.new) (I.taken input.old) (I.taken input.new) }
 {
     match read_words(words) {
         Meaning::Pipe => answered(note_for(pipe_run(alloc, input, out, &Ping::new(alloc)))),
+        Meaning::Dump => answered(dump_note(dump_run(alloc, input, out))),
         Meaning::Unbuilt => answered(Note::NotBuilt),
         Meaning::Unread => answered(Note::Usage),
     }

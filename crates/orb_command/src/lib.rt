@@ -4,6 +4,11 @@
 mod answered;
 mod command;
 mod course;
+mod dump;
+mod dump_end;
+mod dump_line;
+mod dump_lines;
+mod dump_note;
 mod ends;
 mod laws;
 mod meaning;
@@ -11,9 +16,11 @@ mod note;
 mod ping;
 mod pipe;
 mod read_all;
+mod refusal;
 mod replies;
 mod request;
 mod setup;
+mod shown;
 mod streams;
 mod turn;
 mod words;
@@ -21,11 +28,16 @@ mod write_all;
 
 pub use answered::Answered;
 pub use command::orb_main;
+pub use dump::dump_run;
+pub use dump_end::{DumpEnd, MAX_DUMPED};
 pub use ends::{PipeFault, Piped, ReadEnd, WriteEnd};
 pub use laws::{built_in_is_distinct, hears_one_way, piped_is_replayed};
 pub use note::Note;
 pub use pipe::pipe_run;
 pub use read_all::MAX_PIPED;
+pub use refusal::Refusal;
 
+#[cfg(test)]
+mod dump_tests;
 #[cfg(test)]
 mod tests;

@@ -5,6 +5,8 @@
 pub enum Meaning {
     /// The command `pipe`.
     Pipe,
+    /// The command `dump`.
+    Dump,
     /// A command, or options of one, that isn't built yet.
     Unbuilt,
     /// No command.

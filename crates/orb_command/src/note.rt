@@ -1,5 +1,7 @@
 //! What a run came to.
 
+use giop_messages::Fault;
+
 /// What a run came to, as the program prints it on standard error.
 #[derive(Clone, Copy, Debug, PartialEq, Eq, Hash)]
 pub enum Note {
@@ -11,6 +13,8 @@ pub enum Note {
     ReadFault,
     /// The output failed.
     WriteFault,
+    /// The input is refused at this offset.
+    Input(u64, Fault),
     /// Memory was wanting.
     Memory,
     /// A limit of the run was met.

@@ -465,7 +465,12 @@ fn words_are_read_first(rt: HostRuntime) -> Result<(), Fail> {
         ("serve alone", ["serve"].as_slice(), 14, Note::NotBuilt),
         ("call alone", ["call"].as_slice(), 14, Note::NotBuilt),
         ("refs alone", ["refs"].as_slice(), 14, Note::NotBuilt),
-        ("dump alone", ["dump"].as_slice(), 14, Note::NotBuilt),
+        (
+            "dump with an option",
+            ["dump", "--config"].as_slice(),
+            14,
+            Note::NotBuilt,
+        ),
         ("idl alone", ["idl"].as_slice(), 14, Note::NotBuilt),
         ("load alone", ["load"].as_slice(), 14, Note::NotBuilt),
     ] {

@@ -15,6 +15,8 @@ pub fn read_words(words: &[String]) -> Meaning
                 Meaning::Unread
             } else if word.as_str() == "pipe" {
                 Meaning::Pipe
+            } else if word.as_str() == "dump" {
+                Meaning::Dump
             } else {
                 Meaning::Unbuilt
             }

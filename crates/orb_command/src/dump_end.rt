@@ -1,0 +1,21 @@
+//! How a dump came out.
+
+use crate::refusal::Refusal;
+
+/// Bytes of an input that a dump takes.
+pub const MAX_DUMPED: usize = 67_108_864;
+
+/// How a dump came out.
+#[derive(Clone, Copy, Debug, PartialEq, Eq, Hash)]
+pub enum DumpEnd {
+    /// The input was read to its end, and each message has its line.
+    Done,
+    /// The input is refused; the messages before the fault have their lines.
+    Refused(Refusal),
+    /// `MAX_DUMPED` bytes were taken without a fault; the end was not looked for.
+    Spent,
+    /// The source failed; the messages before that have their lines.
+    ReadFault,
+    /// The sink failed. A front of the lines was written.
+    WriteFault,
+}
