@@ -319,9 +319,12 @@ back_of (x ∷ xs) ys h = back_of xs ys (All-tail IsMessage x (xs ++ ys) h)
 appended : (whole new whole' : List Message) → whole' ≡ whole ++ new → All IsMessage whole → All IsMessage new → All IsMessage whole'
 appended whole new whole' e h k = subst (All IsMessage) (sym e) (All-append IsMessage whole new h k)
 
+-- those that the later stream has and the earlier has not
+pub added_messages : (f f' : Feed) (new : List Message) → f'.limit ≤ 262144 → (said f').messages ≡ (said f).messages ++ new → All IsMessage new
+added_messages f f' new few e = back_of (said f).messages new (subst (All IsMessage) e (streams_messages f'.limit f'.fed few))
+
 added_is : (f f' : Feed) (whole whole' : List Message) → f'.limit ≤ 262144 → Adds f f' whole whole' → All IsMessage whole → All IsMessage whole'
-added_is f f' whole whole' few a h =
-    appended whole a.new whole' a.gives h (back_of (said f).messages a.new (subst (All IsMessage) a.says_new (streams_messages f'.limit f'.fed few)))
+added_is f f' whole whole' few a h = appended whole a.new whole' a.gives h (added_messages f f' a.new few a.says_new)
 
 front_is : (f f' : Feed) (whole whole' : List Message) → f'.limit ≤ 262144 → AddsFront f f' whole whole' → All IsMessage whole → All IsMessage whole'
 front_is f f' whole whole' few a h =

@@ -122,10 +122,11 @@ abbrev pub FailsAmong : List Part → Cursor → MessageFault → Type 0
 FailsAmong [] c fault = ⊥
 FailsAmong (part ∷ parts) c fault = FailsAs part c fault ⊎ ((d : Cursor) × StandsAs part c d × FailsAmong parts d fault)
 
--- an octet, and a number of four bytes
+-- an octet
 abbrev pub octet : Part
 octet = basic (integer w8)
 
+-- a number of four bytes
 abbrev pub long : Part
 long = basic (integer w32)
 
