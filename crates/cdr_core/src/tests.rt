@@ -169,6 +169,36 @@ fn places_of_an_encapsulation_count_from_its_order_byte(rt: HostRuntime) -> Resu
     Ok(())
 }
 
+/// The same content without a count before it, and bytes that are none.
+#[test]
+fn bytes_are_an_encapsulation_as_a_whole(rt: HostRuntime) -> Result<(), Fail> {
+    for octets in [[0, 0, 0, 100, 5], [1, 0, 100, 0, 5]] {
+        let mut inner = Reader::encapsulated(&octets)?;
+        assert_eq!(rt; (inner.place(), inner.left()), (1, 4));
+        assert_eq!(rt; inner.take_u16(), Ok(100));
+        assert_eq!(rt; (inner.place(), inner.take_u8()), (4, Ok(5)));
+    }
+    assert!(rt;
+        matches!(
+            Reader::encapsulated(&[]),
+            Err(CdrFault {
+                cause: CdrCause::Short,
+                place: 0
+            })
+        )
+    );
+    assert!(rt;
+        matches!(
+            Reader::encapsulated(&[2, 0]),
+            Err(CdrFault {
+                cause: CdrCause::BadBool,
+                place: 0
+            })
+        )
+    );
+    Ok(())
+}
+
 #[test]
 fn an_encapsulation_is_spelled_by_a_writer_of_its_own(rt: HostRuntime) -> Result<(), Fail> {
     for (order, byte, want) in [

@@ -18,7 +18,7 @@ order_front : (a b : List ℕ) → 12 ≤ length a → order_of (a ++ b) ≡ ord
 unfolding order_of
 order_front a b h = rw (at_front a b 6 (omega arith) h) refl
 
-kind_front : (a b : List ℕ) → 12 ≤ length a → kind_of (a ++ b) ≡ kind_of a
+pub kind_front : (a b : List ℕ) → 12 ≤ length a → kind_of (a ++ b) ≡ kind_of a
 unfolding kind_of
 kind_front a b h = at_front a b 7 (omega arith) h
 

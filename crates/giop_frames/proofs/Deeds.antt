@@ -104,18 +104,18 @@ cancels_it us us' bytes i s hf hm hk l f is = drops us us' bytes i s.distinct (l
 pub stays : (us : List Partial) (bytes : List ℕ) → is_fragment bytes ≡ false → has_more bytes ≡ false → ((kind_of bytes == 2) && nat_le 16 (length bytes)) ≡ false → StepsBy bytes us us
 stays us bytes hf hm n = λ at. sym (step_idle (record { at = at; bytes = bytes }) us (last_opens_none bytes hm) hf (λ v. idle_ends v bytes hf n))
 
-completes_none : (us : List Partial) (p : Piece) → has_more p.bytes ≡ true → completed us p ≡ None
+pub completes_none : (us : List Partial) (p : Piece) → has_more p.bytes ≡ true → completed us p ≡ None
 unfolding completed
 completes_none us p h =
     ap (λ (b : Bool). cond b None (cond (is_fragment p.bytes) (option_map (joined p) (open_at (id_of p.bytes) us)) (Some (lone p)))) h
 
-completes_joined : (us : List Partial) (p : Piece) → has_more p.bytes ≡ false → is_fragment p.bytes ≡ true → completed us p ≡ option_map (joined p) (open_at (id_of p.bytes) us)
+pub completes_joined : (us : List Partial) (p : Piece) → has_more p.bytes ≡ false → is_fragment p.bytes ≡ true → completed us p ≡ option_map (joined p) (open_at (id_of p.bytes) us)
 unfolding completed
 completes_joined us p h f =
     ap (λ (b : Bool). cond b None (cond (is_fragment p.bytes) (option_map (joined p) (open_at (id_of p.bytes) us)) (Some (lone p)))) h
     ∙ ap (λ (b : Bool). cond b (option_map (joined p) (open_at (id_of p.bytes) us)) (Some (lone p))) f
 
-completes_lone : (us : List Partial) (p : Piece) → has_more p.bytes ≡ false → is_fragment p.bytes ≡ false → completed us p ≡ Some (lone p)
+pub completes_lone : (us : List Partial) (p : Piece) → has_more p.bytes ≡ false → is_fragment p.bytes ≡ false → completed us p ≡ Some (lone p)
 unfolding completed
 completes_lone us p h f =
     ap (λ (b : Bool). cond b None (cond (is_fragment p.bytes) (option_map (joined p) (open_at (id_of p.bytes) us)) (Some (lone p)))) h

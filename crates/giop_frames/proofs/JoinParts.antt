@@ -49,7 +49,7 @@ finish_gives r q whole whole' x s us us' tail tail' bytes n e hu ht h ready hb h
     (finish_reads r whole whole' x us' (subst R (sym e) ready) (verdict_as x x us tail None refl hu ht h) (subst D hb ok) err))))
 
 -- a read in parts
-all_behind : (n : ℕ) (bytes : List ℕ) → take (length bytes - n) (drop n bytes) ≡ drop n bytes
+pub all_behind : (n : ℕ) (bytes : List ℕ) → take (length bytes - n) (drop n bytes) ≡ drop n bytes
 all_behind n bytes = ap (λ (k : ℕ). take k (drop n bytes)) (sym (length-drop n bytes)) ∙ take-length (drop n bytes)
 
 take_more : (n m : ℕ) (xs : List ℕ) → n + m ≤ length xs → take n xs ++ take m (drop n xs) ≡ take (n + m) xs

@@ -13,3 +13,7 @@ pub mod Following
 pub mod Framed
 pub mod Feedings
 pub mod LawProofs
+pub mod PieceHeads
+pub mod PieceStreams
+pub mod PieceSeals
+pub mod PieceLaws

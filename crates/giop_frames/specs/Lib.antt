@@ -8,3 +8,4 @@ pub mod Bounds
 pub mod Joining
 pub mod Feeding
 pub mod Laws
+pub mod Splitting

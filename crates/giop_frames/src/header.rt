@@ -83,16 +83,18 @@ pub(crate) fn id_of(bytes: &[u8]) -> u32
     u32_of(order_of(bytes), &bytes[12..16])
 }
 
+/// Whether the bytes begin with "GIOP".
 #[tactic(auto, unfolding(crate::specs::Stream::has_magic))]
-fn has_magic(bytes: &[u8]) -> bool
+pub(crate) fn has_magic(bytes: &[u8]) -> bool
     requires { 12 ≤ length bytes.now }
     ensures { result ≡ Rule.has_magic bytes.now }
 {
     bytes[0] == 71 && bytes[1] == 73 && bytes[2] == 79 && bytes[3] == 80
 }
 
+/// Whether the version is 1.2.
 #[tactic(auto, unfolding(crate::specs::Stream::has_version))]
-fn has_version(bytes: &[u8]) -> bool
+pub(crate) fn has_version(bytes: &[u8]) -> bool
     requires { 12 ≤ length bytes.now }
     ensures { result ≡ Rule.has_version bytes.now }
 {

@@ -1,6 +1,7 @@
 //! GIOP framing: the messages of a stream of bytes that comes in any pieces (CORBA 3.0.3, section 15.4).
 #![tactic(auto)]
 
+mod cutting;
 mod fault;
 mod framer;
 mod header;
@@ -13,10 +14,15 @@ mod told;
 mod unfinished;
 mod whole;
 
+pub use cutting::{can_split, split};
 pub use fault::{FeedFault, FrameCause, FrameFault};
 pub use framer::Framer;
 pub use stream::read_stream;
 pub use whole::Whole;
 
+#[cfg(test)]
+mod load_tests;
+#[cfg(test)]
+mod split_tests;
 #[cfg(test)]
 mod tests;

@@ -61,7 +61,7 @@ fn go_on(partials: &mut Vec<Unfinished>, bytes: &[u8]) -> Result<(), NoMemory>
 }
 
 #[tactic(auto, unfolding(cdr_core::specs::Field::number_bytes))]
-fn long_of(order: Order, n: u32) -> [u8; 4]
+pub(crate) fn long_of(order: Order, n: u32) -> [u8; 4]
     ensures { result ≡ number_bytes order w32 n }
 {
     match order {

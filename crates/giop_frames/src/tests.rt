@@ -18,20 +18,20 @@ const INTERLEAVED: [u8; 128] = [
 ];
 
 /// The ping of id 1 in one piece.
-const PING: [u8; 48] = [
+pub(crate) const PING: [u8; 48] = [
     0x47, 0x49, 0x4f, 0x50, 1, 2, 0, 0, 0, 0, 0, 0x24, 0, 0, 0, 1, 3, 0, 0, 0, 0, 0, 0, 0, 0, 0, 0,
     4, 0x70, 0x69, 0x6e, 0x67, 0, 0, 0, 8, 0x63, 0x75, 0x72, 0x72, 0x65, 0x6e, 0x74, 0, 0, 0, 0, 0,
 ];
 
 /// A first piece of id 1, of 24 bytes.
-const FIRST: [u8; 24] = [
+pub(crate) const FIRST: [u8; 24] = [
     0x47, 0x49, 0x4f, 0x50, 1, 2, 2, 0, 0, 0, 0, 0x0c, 0, 0, 0, 1, 3, 0, 0, 0, 0, 0, 0, 0,
 ];
 
 type Answer = (Result<(), FeedFault>, Option<u64>);
 
 /// Feeds the bytes in pieces of at most `n`, up to the first fault: the last answer, and the rest.
-fn fed_by(
+pub(crate) fn fed_by(
     alloc: Global,
     limit: usize,
     bytes: &[u8],
@@ -237,7 +237,7 @@ fn a_cancel_request_drops_the_open_message(rt: HostRuntime) -> Result<(), Fail> 
 }
 
 /// A Request of exactly 262,144 bytes.
-fn long_message(alloc: Global) -> Result<Vec<u8>, NoMemory> {
+pub(crate) fn long_message(alloc: Global) -> Result<Vec<u8>, NoMemory> {
     let mut bytes = Vec::new(alloc);
     bytes.extend_from_slice(&[0x47, 0x49, 0x4f, 0x50, 1, 2, 0, 0, 0, 3, 0xff, 0xf4])?;
     for _ in 0..262_132u32 {

@@ -100,7 +100,7 @@ target_found c x fits e =
 -- ---- the parts of a request and a reply
 
 -- three octets that are read
-record Reserved (c d : Cursor) : Type 0 where
+pub record Reserved (c d : Cursor) : Type 0 where
   pub octets : List ℕ
   pub three : length octets ≡ 3
   pub passed : Passed c d (run 1 octets ∷ [])
@@ -108,7 +108,7 @@ record Reserved (c d : Cursor) : Type 0 where
 pub no_pad : (place : ℕ) → pad_len 1 place ≡ 0
 no_pad place = omega arith
 
-reserved_found : (c : Cursor) (x : ℕ × Cursor) → AreBytes c.rest → reserved_at c ≡ Ok x → Reserved c x.1
+pub reserved_found : (c : Cursor) (x : ℕ × Cursor) → AreBytes c.rest → reserved_at c ≡ Ok x → Reserved c x.1
 unfolding reserved_at
 reserved_found c x fits e =
     let a = bind_ok _ _ x e in
@@ -129,7 +129,7 @@ reserved_found c x fits e =
       };
     }
 
-status_found : (c : Cursor) (x : ℕ × Cursor) → AreBytes c.rest → status_at c ≡ Ok x → Passed c x.1 (number w32 x.0 ∷ []) × (x.0 ≤ 5)
+pub status_found : (c : Cursor) (x : ℕ × Cursor) → AreBytes c.rest → status_at c ≡ Ok x → Passed c x.1 (number w32 x.0 ∷ []) × (x.0 ≤ 5)
 unfolding status_at
 status_found c x fits e =
     let a = bind_ok _ _ x e in
@@ -140,7 +140,7 @@ status_found c x fits e =
     ]
 
 -- the id, the flags and the target of a request that are read
-record Asked (c : Cursor) (x : (ℕ × ℕ × Target) × Cursor) : Type 0 where
+pub record Asked (c : Cursor) (x : (ℕ × ℕ × Target) × Cursor) : Type 0 where
   pub octets : List ℕ
   pub three : length octets ≡ 3
   pub passed : Passed c x.1 (number w32 x.0.0 ∷ number w8 x.0.1 ∷ run 1 octets ∷ target_fields x.0.2)
@@ -148,7 +148,7 @@ record Asked (c : Cursor) (x : (ℕ × ℕ × Target) × Cursor) : Type 0 where
   pub flags : x.0.1 < 2 ^ 8
   pub target : FitsTarget x.0.2
 
-asked_found : (c : Cursor) (x : (ℕ × ℕ × Target) × Cursor) → AreBytes c.rest → asked_at c ≡ Ok x → Asked c x
+pub asked_found : (c : Cursor) (x : (ℕ × ℕ × Target) × Cursor) → AreBytes c.rest → asked_at c ≡ Ok x → Asked c x
 unfolding asked_at
 asked_found c x fits e =
     let a = bind_ok _ _ x e in

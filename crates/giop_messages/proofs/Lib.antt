@@ -1,6 +1,4 @@
 pub mod StandardFacts
-pub mod Taking
-pub mod PlainLaws
 pub mod ReadingLaws
 pub mod WritingLaws
 pub mod OneReading
@@ -13,6 +11,10 @@ mod KindFound
 pub mod WholeFound
 pub mod Headed
 pub mod FromFrames
+pub mod FirstFault
+pub mod HeaderFault
+pub mod FaultAgain
+pub mod RefusalAgain
 mod PartsAgain
 pub mod WholeAgain
 pub mod CallerLemmas

@@ -19,7 +19,7 @@ use Rattle.giop_messages.proofs.MessageFound.{done, short_len, long_len}
 use Rattle.giop_messages.proofs.KindFound.{no_pad}
 
 -- between no fields one stands where one stood
-same_cursor : (c d : Cursor) → Spans c d [] → c ≡ d
+pub same_cursor : (c d : Cursor) → Spans c d [] → c ≡ d
 same_cursor c d p =
     let none : p.spelling ≡ [] = p.spelled in
     let order = sym p.order in
@@ -37,13 +37,13 @@ Again {A} one fields fit = (c d : Cursor) (a : A) → fit a → Spans c d (field
 abbrev TakeRoom : {A : Type 0} → (A → List Field) → Type 0
 TakeRoom {A} fields = (c d : Cursor) (a : A) → Spans c d (fields a) → suc (length d.rest) ≤ length c.rest
 
-tagged_again : Again tagged_at tagged_fields FitsTagged
+pub tagged_again : Again tagged_at tagged_fields FitsTagged
 unfolding tagged_at
 tagged_again c d t f p =
     let h = spans_split c d (number w32 t.tag ∷ []) (octets_fields t.bytes) p in
     rw (ap basic (number_reads w32 c h.middle t.tag long_len f.tag h.first), ap basic (octets_reads h.middle d t.bytes f.bytes h.others)) refl
 
-context_again : Again context_at context_fields FitsContext
+pub context_again : Again context_at context_fields FitsContext
 unfolding context_at
 context_again c d t f p =
     let h = spans_split c d (number w32 t.id ∷ []) (octets_fields t.bytes) p in

@@ -8,12 +8,10 @@ use Rattle.cdr_core.specs.Alignment.{pad_len}
 use Rattle.cdr_core.specs.Field.{fields_end}
 use Rattle.cdr_core.specs.Spelling.{fields_bytes}
 use Rattle.cdr_core.proofs.CallerLemmas.{spelled_zeros, fields_bytes-append, fields_end-is}
-use Rattle.giop_messages.specs.Message.{Message, request, reply, cancel, locate, located, close, error, kind_of, Fits, FitsRequest, FitContexts}
+use Rattle.giop_messages.specs.Message.{Message, request, reply, cancel, locate, located, close, error, kind_of, Fits}
 use Rattle.giop_messages.specs.Layout.{order_flag, named_fields, body_fields, body_of}
 use Rattle.giop_messages.specs.Spelling.{all_fields, framed, spelled}
 use Rattle.giop_messages.specs.Reading.{HasBody, ReadsIn}
-use Rattle.giop_messages.specs.Plain.{plain}
-use Rattle.giop_messages.proofs.PlainLaws.{inner_is, plain_size}
 
 flag_fits : (order : Order) → order_flag order < 2 ^ 8
 flag_fits Big = lit< tt
@@ -66,19 +64,3 @@ spelled_reads order message fits size =
       body = has_body order message (12 + length named) (fields_end 12 names) (sym (fields_end-is order 12 names));
       fits = fits;
     }
-
-no_contexts : FitContexts []
-no_contexts = record { few = lit< tt; each = tt }
-
-fits_plain : (id : ℕ) (key : List ℕ) → id < 2 ^ 32 → length key < 2 ^ 31 → FitsRequest (plain id key)
-fits_plain id key id_fits key_fits = record {
-  id = id_fits;
-  flags = lit< tt;
-  target = omega arith;
-  operation = record { no_nul = refl; short = lit< tt };
-  contexts = no_contexts;
-}
-
-pub plain_reads : (id : ℕ) (key : List ℕ) → id < 2 ^ 32 → length key < 2 ^ 31 → ReadsIn Big (request (plain id key)) (spelled Big (request (plain id key)))
-plain_reads id key id_fits key_fits =
-    spelled_reads Big (request (plain id key)) (fits_plain id key id_fits key_fits) (omega (arith, plain_size id key, ap length (inner_is id key)))

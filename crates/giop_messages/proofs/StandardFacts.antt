@@ -1,14 +1,21 @@
 -- Whole messages, byte by byte: CORBA 3.0.3, section 15.4.
-use Rattle.std.proofs.Common.{◌≡◌, [], ◌∷◌, refl}
+use Rattle.std.proofs.Common.{◌≡◌, ℕ, List, [], ◌∷◌, refl}
 use Rattle.std.specs.Prelude.{codes}
 use Rattle.orb_base.specs.declared.order.Order.TheVariants.{Big, Little}
 use Rattle.orb_base.specs.declared.system.SysName.TheVariants.{ObjectNotExist}
 use Rattle.orb_base.specs.declared.system.Completed.TheVariants.{No}
 use Rattle.cdr_core.specs.Field.{number_bytes}
-use Rattle.giop_messages.specs.Message.{cancel, close, error, key, locate, located, reply, request}
+use Rattle.giop_messages.specs.Message.{Request, Reply, cancel, close, error, key, locate, located, reply, request}
 use Rattle.giop_messages.specs.Spelling.{spelled}
 use Rattle.giop_messages.specs.Exceptions.{exception_body}
-use Rattle.giop_messages.specs.Plain.{plain, bare}
+
+-- the operation `current` of an object, with a reply due, no contexts and no body
+abbrev plain : ℕ → List ℕ → Request
+plain id object = record { id = id; flags = 3; target = key object; operation = codes "current"; contexts = []; body = [] }
+
+-- a reply without contexts
+abbrev bare : ℕ → ℕ → List ℕ → Reply
+bare id status body = record { id = id; status = status; contexts = []; body = body }
 
 -- a request for `current` of the object `ping`
 ping_request : spelled Big (request (plain 1 (codes "ping"))) ≡

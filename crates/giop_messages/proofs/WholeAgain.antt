@@ -26,7 +26,7 @@ use Rattle.giop_messages.proofs.PartsAgain.{contexts_again, text_again, target_a
 long_again : (c d : Cursor) (n : ℕ) → n < 2 ^ 32 → Spans c d (number w32 n ∷ []) → basic (number_at w32 c) ≡ Ok (n, d)
 long_again c d n f p = ap basic (number_reads w32 c d n long_len f p)
 
-status_again : (c d : Cursor) (n : ℕ) → n ≤ 5 → Spans c d (number w32 n ∷ []) → status_at c ≡ Ok (n, d)
+pub status_again : (c d : Cursor) (n : ℕ) → n ≤ 5 → Spans c d (number w32 n ∷ []) → status_at c ≡ Ok (n, d)
 unfolding status_at
 status_again c d n f p =
     let few : ltb 5 n ≡ false = le-ltb 5 n f in

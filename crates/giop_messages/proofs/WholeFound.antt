@@ -11,7 +11,7 @@ use Rattle.cdr_core.proofs.CallerLemmas.{length-number_bytes}
 use Rattle.cdr_core.proofs.Parts.{AreBytes-drop}
 use Rattle.giop_frames.specs.Messages as Frames
 use Rattle.giop_messages.specs.declared.message_fault.MessageFault.{MessageFault}
-use Rattle.giop_messages.specs.Message.{Message, request, reply, cancel, locate, located, close, error, kind_of, Fits}
+use Rattle.giop_messages.specs.Message.{Message, request, reply, cancel, locate, located, close, error, kind_of, Fits, HasStatus}
 use Rattle.giop_messages.specs.Layout.{magic, header, named_fields}
 use Rattle.giop_messages.specs.Reading.{HasBody, ReadsIn, Reads}
 use Rattle.giop_messages.specs.declared.message.Message as program
@@ -112,3 +112,18 @@ message_found w m i fits e =
 pub found_so : (r : Result program.Message MessageFault) (w : Frames.Message) → IsMessage w → AreBytes w.bytes → Answers message_of r (message_at w) → IfOk r (λ m. Reads (message_of m) w.bytes)
 found_so (Ok m) w i fits e = (w.order, message_found w (message_of m) (headed w i fits) fits e)
 found_so (Err f) w i fits e = tt
+
+-- a message that bytes mean may be written again
+pub has_status : (m : Message) (bytes : List ℕ) → Reads m bytes → HasStatus m
+has_status (request r) bytes p = tt
+has_status (reply r) bytes p = p.1.fits.status
+has_status (cancel id) bytes p = tt
+has_status (locate l) bytes p = tt
+has_status (located l) bytes p = tt
+has_status close bytes p = tt
+has_status error bytes p = tt
+
+-- and so may one that is read
+pub read_has_status : (r : Result program.Message MessageFault) (bytes : List ℕ) → IfOk r (λ m. Reads (message_of m) bytes) → IfOk r (λ m. HasStatus (message_of m))
+read_has_status (Ok m) bytes p = has_status (message_of m) bytes p
+read_has_status (Err f) bytes p = tt

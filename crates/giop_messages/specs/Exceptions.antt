@@ -31,9 +31,13 @@ completion Yes = 0
 completion No = 1
 completion Maybe = 2
 
--- the repository id, the minor code and the completion status
+-- a repository id, a minor code and a completion status
+abbrev pub parts_fields : List ℕ → ℕ → ℕ → List Field
+parts_fields id minor code = string_fields id ++ number w32 minor ∷ number w32 code ∷ []
+
+-- those of an exception
 abbrev pub exception_fields : Sys → List Field
-exception_fields system = string_fields (exception_id system.name) ++ number w32 system.minor ∷ number w32 (completion system.completed) ∷ []
+exception_fields system = parts_fields (exception_id system.name) system.minor (completion system.completed)
 
 -- the body of a reply without contexts, which begins at place 24
 abbrev pub exception_body : Order → Sys → List ℕ

@@ -8,8 +8,7 @@ pub mod Lengths
 pub mod Front
 pub mod Reading
 pub mod Exceptions
-pub mod Plain
-pub mod PlainReading
 pub mod MessageReading
+pub mod Refusing
 pub mod Framing
 pub mod Causes

@@ -1,17 +1,11 @@
 //! System exceptions as bodies of replies: CORBA 3.0.3, sections 4.12 and 15.4.3.2.
 ghost use Rattle.std.specs.Prelude.{◌≡◌, ◌≤◌, length, IfOk};
-ghost use Rattle.orb_base.specs.declared.order.Order.TheVariants.{Big};
-ghost use Rattle.giop_messages.specs.Exceptions.{exception_id, completion, exception_body};
+ghost use Rattle.cdr_core.specs.Spelling.{fields_bytes};
+ghost use Rattle.giop_messages.specs.Exceptions.{exception_id, completion, parts_fields, exception_body};
 
-use crate::writer::put_u32;
-use orb_base::{Completed, List, NoMemory, Octets, Sys, SysName};
+use cdr_core::Writer;
+use orb_base::{Completed, NoMemory, Octets, Order, Sys, SysName, Text};
 use std::alloc::Global;
-
-/// As many octets as a pad to 4 can have.
-const PAD: [u8; 3] = [0; 3];
-
-/// Bytes that a body has at most beside the repository id: three numbers and the pad.
-const MOST_BESIDE: usize = 15;
 
 /// The repository id of an exception.
 fn repository_id(name: SysName) -> &'static [u8]
@@ -41,20 +35,28 @@ fn completion_status(completed: Completed) -> u32
     }
 }
 
-/// Writes the body of a big-endian reply without contexts whose status is SYSTEM_EXCEPTION: the
-/// repository id, the minor code and the completion status. It begins at place 24.
-pub fn system_exception_body(alloc: Global, system: Sys) -> Result<Octets, NoMemory>
-    ensures { IfOk result (λ o. (o.items ≡ exception_body Big system) × (length o.items ≤ 1024)) }
+/// Spells a repository id, a minor code and a completion status from place 24 on.
+fn spell(alloc: Global, order: Order, id: &Text, minor: u32, code: u32) -> Result<Octets, NoMemory>
+    requires { length id.now ≤ 64 }
+    ensures { IfOk result (λ o. o.items ≡ fields_bytes order 24 (parts_fields id.now minor code)) }
 {
-    let id = repository_id(system.name);
-    let len = id.len() + 1;
-    let mut out = List::new(alloc);
-    out.reserve(len + MOST_BESIDE)?;
-    put_u32(&mut out, len as u32)?;
-    out.append(id)?;
-    out.append(&[0])?;
-    out.append(&PAD[..(4 - len % 4) % 4])?;
-    put_u32(&mut out, system.minor)?;
-    put_u32(&mut out, completion_status(system.completed))?;
-    Ok(out)
+    let mut body = Writer::new(alloc, order, 24);
+    body.put_string(id)?;
+    body.put_u32(minor)?;
+    body.put_u32(code)?;
+    Ok(body.finish())
+}
+
+/// Writes the body of a reply without contexts whose status is SYSTEM_EXCEPTION, in the byte order of the reply: the
+/// repository id, the minor code and the completion status. It begins at place 24 of the reply. Constant work.
+pub fn system_exception_body(alloc: Global, order: Order, system: Sys) -> Result<Octets, NoMemory>
+    ensures spelled { IfOk result (λ o. o.items ≡ exception_body order system) }
+    ensures short { IfOk result (λ o. length o.items ≤ 1024) }
+{
+    let id = match Text::new(alloc, repository_id(system.name)) {
+        Ok(id) => id,
+        Err(_) => return Err(NoMemory),
+    };
+    let code = completion_status(system.completed);
+    spell(alloc, order, &id, system.minor, code)
 }

@@ -1,12 +1,10 @@
 //! Laws that tie the definitions of messages to one another.
 ghost use Rattle.std.specs.Prelude.{◌≡◌, ℕ, ◌<◌, ◌^◌, List, length};
 ghost use Rattle.orb_base.specs.declared.order.Order.{Order};
-ghost use Rattle.orb_base.specs.declared.order.Order.TheVariants.{Big};
 ghost use Rattle.cdr_core.specs.Spelling.{fields_bytes};
-ghost use Rattle.giop_messages.specs.Message.{Message, Fits, request};
+ghost use Rattle.giop_messages.specs.Message.{Message, Fits};
 ghost use Rattle.giop_messages.specs.Spelling.{spelled, all_fields};
 ghost use Rattle.giop_messages.specs.Reading.{ReadsIn, Reads};
-ghost use Rattle.giop_messages.specs.Plain.{plain};
 ghost use Rattle.giop_messages.specs.Framing.{StreamsMessages, FeedsMessages, ReadsMessages};
 
 /// What a message is spelled as is read as that message, in either order.
@@ -19,12 +17,6 @@ pub fn spelled_is_read()
 /// Whole bytes are read as at most one message.
 pub fn reads_one_way()
     ensures { (m n : Message) (bytes : List ℕ) → Reads m bytes → Reads n bytes → m ≡ n }
-{}
-
-/// What a plain request is spelled as is read as that request.
-pub fn plain_request_is_read()
-    ensures { (id : ℕ) (key : List ℕ) → id < 2 ^ 32 → length key < 2 ^ 31
-        → ReadsIn Big (request (plain id key)) (spelled Big (request (plain id key))) }
 {}
 
 /// What a framer appends, under a limit of at most 262,144 bytes, can be read as messages: `read_message` requires no more.

@@ -1,7 +1,6 @@
 //! Messages of GIOP 1.2, read and written (CORBA 3.0.3, section 15.4).
 #![tactic(auto)]
 
-mod cursor;
 mod exceptions;
 mod flags;
 mod laws;
@@ -19,11 +18,10 @@ mod reply;
 mod request;
 mod target;
 mod write;
-mod writer;
 
 pub use exceptions::system_exception_body;
 pub use flags::due_of;
-pub use laws::{framed_is_message, plain_request_is_read, reads_one_way, spelled_is_read};
+pub use laws::{framed_is_message, reads_one_way, spelled_is_read};
 pub use length::message_len;
 pub use locate::Locate;
 pub use located::Located;
@@ -32,16 +30,18 @@ pub use message_fault::MessageFault;
 pub use orb_base::{Context, Tagged};
 pub use read::read_message;
 pub use refused::Fault;
-pub use reply::{Reply, plain_reply};
-pub use request::{PlainRequest, Request, plain_request};
+pub use reply::Reply;
+pub use request::Request;
 pub use target::Target;
 pub use write::write_message;
 
 #[cfg(test)]
-mod framed_tests;
-#[cfg(test)]
-mod message_tests;
+mod exception_tests;
 #[cfg(test)]
 mod read_tests;
 #[cfg(test)]
-mod tests;
+mod refuse_tests;
+#[cfg(test)]
+mod vectors;
+#[cfg(test)]
+mod write_tests;

@@ -1,9 +1,12 @@
 //! The reading of whole messages.
-ghost use Rattle.std.specs.Prelude.{IfOk};
+ghost use Rattle.std.specs.Prelude.{◌≢◌, IfOk, IfErr, Err};
 ghost use Rattle.cdr_core.specs.Cursor.{AreBytes};
 ghost use Rattle.giop_messages.specs.Message as Spec;
 ghost use Rattle.giop_messages.specs.MessageReading.{IsMessage, Gives, Answers, reserved_at, status_at, asked_at, request_at, reply_at, cancel_at, locate_at, located_at, kind_at, message_at};
 ghost use Rattle.giop_messages.specs.Reading.{Reads};
+ghost use Rattle.giop_messages.specs.Refusing.{Refuses};
+ghost use Rattle.giop_messages.specs.declared.message_fault.MessageFault.{MessageFault as Refusal};
+ghost use Rattle.giop_messages.specs.declared.message_fault.MessageFault.TheVariants.{NoMemory};
 ghost use Rattle.giop_messages.specs.TargetView.{target_of};
 ghost use Rattle.giop_messages.specs.Views.{message_of};
 
@@ -120,7 +123,7 @@ fn located(reader: &mut Reader<'_>) -> Result<Located, MessageFault>
 
 /// Takes a message of a kind up to 6 within its bytes.
 #[tactic(auto, unfolding(crate::specs::MessageReading::kind_at))]
-pub(crate) fn of_kind(
+fn of_kind(
     alloc: Global,
     kind: u8,
     bytes: &[u8],
@@ -164,6 +167,10 @@ pub fn read_message(alloc: Global, whole: &Whole) -> Result<Message, MessageFaul
     ensures found { IfOk result (λ m. Reads (message_of m) whole.now.bytes) }
     // What the bytes mean is read, unless memory is wanting.
     ensures only { (m : Spec.Message) → Reads m whole.now.bytes → Answers message_of result (Ok m) }
+    // A fault that is told is the header's first fault.
+    ensures fails { IfErr result (λ fault. fault ≢ NoMemory → Refuses whole.now fault) }
+    // The header's first fault is told, unless memory is wanting.
+    ensures told { (fault : Refusal) → Refuses whole.now fault → Answers message_of result (Err fault) }
 {
     behind_header(alloc, whole)
 }

@@ -3,15 +3,17 @@ use Rattle.std.proofs.Common.{◌≡◌, ℕ, zero, suc, List, [], ◌∷◌, Op
 use Rattle.std.specs.Prelude.{slice_get}
 use Rattle.orb_base.specs.Priorities.{mandated, lane_of}
 use Rattle.orb_base.specs.declared.conn_id.ConnId.{ConnId}
+use Rattle.orb_base.specs.declared.limits.TheConstants.{MAX_MESSAGE}
 use Rattle.orb_base.specs.declared.order.Order.{Order}
-use Rattle.giop_messages.specs.Message.{Request, Message, key, request}
-use Rattle.giop_messages.specs.Reading.{ReadsIn}
-use Rattle.giop_messages.proofs.OneReading.{order_one, reads_one_way}
+use Rattle.giop_frames.specs.Messages as Frames
+use Rattle.giop_frames.specs.Stream.{stream}
+use Rattle.giop_messages.specs.Message.{Request, key, request}
+use Rattle.giop_messages.proofs.OneReading.{reads_one_way}
 use Rattle.lane_machine.specs.declared.call.How.{How}
 use Rattle.lane_machine.specs.declared.call.LaneCall.{LaneCall}
 use Rattle.lane_machine.specs.declared.call.LaneCall.TheVariants.{Offer}
 use Rattle.orb_command.specs.Setup.{Setup, Object, HasDistinctKeys, built_in}
-use Rattle.orb_command.specs.Heard.{job_of, IsOffered, Hears, nothing, one}
+use Rattle.orb_command.specs.Heard.{job_of, IsOffered, IsHeard, HearsEach, Hears}
 
 some_is : {A : Type 0} (x y : A) → ◌≡◌ {A = Option A} (Some x) (Some y) → x ≡ y
 some_is x y e = cc
@@ -32,20 +34,26 @@ one_call setup conn serial order size r call other distinct p q =
     ∙ ap (λ (x : ℕ × Object × ℕ). Offer (job_of conn serial order size r x.0 (mandated x.1.model x.1.server None) x.2)) {x = (p.target, p.object, p.lane)} {y = (q.target, q.object, q.lane)} (λ i. (targets i, objects i, lanes i))
     ∙ sym q.meant
 
-no_bytes : (order : Order) (m : Message) → ReadsIn order m [] → ⊥
-no_bytes order m reads = let e = reads.parts in cc
+one_heard : (setup : Setup) (conn : ConnId) (serial : ℕ) (m : Frames.Message) (call other : LaneCall) → HasDistinctKeys setup → IsHeard setup conn serial m call → IsHeard setup conn serial m other → call ≡ other
+one_heard setup conn serial m call other distinct p q =
+    let requests : p.r ≡ q.r = request_is p.r q.r (reads_one_way (request p.r) (request q.r) m.bytes (m.order, p.reads) (m.order, q.reads)) in
+    one_call setup conn serial m.order (length m.bytes) p.r call other distinct p.offered
+    (subst (λ (r : Request). IsOffered setup conn serial m.order (length m.bytes) r other) (sym requests) q.offered)
+
+each_one_way : (setup : Setup) (conn : ConnId) (serial : ℕ) (ms : List Frames.Message) (calls other : List LaneCall) → HasDistinctKeys setup → HearsEach setup conn serial ms calls → HearsEach setup conn serial ms other → calls ≡ other
+each_one_way setup conn serial [] [] [] distinct p q = refl
+each_one_way setup conn serial [] [] (o ∷ other) distinct p q = absurd q
+each_one_way setup conn serial [] (c ∷ calls) other distinct p q = absurd p
+each_one_way setup conn serial (m ∷ ms) [] other distinct p q = absurd p
+each_one_way setup conn serial (m ∷ ms) (c ∷ calls) [] distinct p q = absurd q
+each_one_way setup conn serial (m ∷ ms) (c ∷ calls) (o ∷ other) distinct p q =
+    let same = one_heard setup conn serial m c o distinct p.0 q.0 in
+    let later = each_one_way setup conn (suc serial) ms calls other distinct p.1 q.1 in
+    ap (λ (x : LaneCall). x ∷ calls) same ∙ ap (λ (xs : List LaneCall). o ∷ xs) later
 
 pub hears_one_way : (setup : Setup) (conn : ConnId) (bytes : List ℕ) (calls other : List LaneCall) (how how' : How) → HasDistinctKeys setup → Hears setup conn bytes calls how → Hears setup conn bytes other how' → (calls ≡ other) × (how ≡ how')
-hears_one_way setup conn bytes calls other how how' distinct (nothing empty are is) (nothing empty' are' is') = (are ∙ sym are', is ∙ sym is')
-hears_one_way setup conn bytes calls other how how' distinct (nothing empty are is) (one order r call reads offered are' is') =
-    absurd (no_bytes order (request r) (subst (λ (x : List ℕ). ReadsIn order (request r) x) empty reads))
-hears_one_way setup conn bytes calls other how how' distinct (one order r call reads offered are is) (nothing empty are' is') =
-    absurd (no_bytes order (request r) (subst (λ (x : List ℕ). ReadsIn order (request r) x) empty reads))
-hears_one_way setup conn bytes calls other how how' distinct (one order r call reads offered are is) (one order' r' call' reads' offered' are' is') =
-    let orders : order' ≡ order = order_one order order' (request r) (request r') bytes reads reads' in
-    let requests : r ≡ r' = request_is r r' (reads_one_way (request r) (request r') bytes (order, reads) (order', reads')) in
-    let same : call ≡ call' = one_call setup conn 0 order (length bytes) r call call' distinct offered (subst (λ (x : Request). IsOffered setup conn 0 order (length bytes) x call') (sym requests) (subst (λ (o : Order). IsOffered setup conn 0 o (length bytes) r' call') orders offered')) in
-    (are ∙ ap (λ (c : LaneCall). c ∷ []) same ∙ sym are', is ∙ sym is')
+hears_one_way setup conn bytes calls other how how' distinct p q =
+    (each_one_way setup conn 0 (stream MAX_MESSAGE bytes).messages calls other distinct p.each q.each, p.quiet ∙ sym q.quiet)
 
 past_end : (k : ℕ) (x : Object) → slice_get built_in.objects (suc k) ≡ Some x → ⊥
 past_end k x e = cc

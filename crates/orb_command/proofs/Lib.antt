@@ -1,7 +1,10 @@
 pub mod StandardFacts
-pub mod OneRequest
+pub mod CanOpen
 pub mod StreamLaws
-pub mod BuiltInput
+pub mod StreamCounts
+pub mod HearingLaws
+pub mod ReplyLaws
+pub mod PipeRuns
 pub mod Turns
 pub mod PipedLaws
 pub mod CommandLaws

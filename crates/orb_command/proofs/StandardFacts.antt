@@ -1,6 +1,7 @@
 -- The definitions on the ping of the format document: the request of id 1 at priority 100, and its reply.
 use Rattle.std.specs.Prelude.{◌≡◌, [], ◌∷◌, refl}
 use Rattle.cdr_core.specs.Field.{number_bytes}
+use Rattle.orb_base.specs.declared.order.Order.TheVariants.{Big}
 use Rattle.lane_machine.specs.declared.call.How.TheVariants.{Quiet}
 use Rattle.lane_machine.specs.declared.call.LaneCall.TheVariants.{Offer}
 use Rattle.lane_machine.specs.Choice.{chosen_thread, next_job}
@@ -10,7 +11,7 @@ use Rattle.orb_command.specs.Ping.{ping_outcome}
 use Rattle.orb_command.specs.PingRun.{ping_job}
 use Rattle.orb_command.specs.Piped.{piped_bytes}
 
-ping_is_answered : piped_bytes built_in ping_outcome 1 (Offer (ping_job 1) ∷ []) Quiet [] ≡ 71 ∷ 73 ∷ 79 ∷ 80 ∷ 1 ∷ 2 ∷ 0 ∷ 1 ∷ 0 ∷ 0 ∷ 0 ∷ 14 ∷ 0 ∷ 0 ∷ 0 ∷ 1 ∷ 0 ∷ 0 ∷ 0 ∷ 0 ∷ 0 ∷ 0 ∷ 0 ∷ 0 ∷ 0 ∷ 100 ∷ []
+ping_is_answered : piped_bytes built_in ping_outcome 1 (Offer (ping_job 0 Big 48 1) ∷ []) Quiet [] ≡ 71 ∷ 73 ∷ 79 ∷ 80 ∷ 1 ∷ 2 ∷ 0 ∷ 1 ∷ 0 ∷ 0 ∷ 0 ∷ 14 ∷ 0 ∷ 0 ∷ 0 ∷ 1 ∷ 0 ∷ 0 ∷ 0 ∷ 0 ∷ 0 ∷ 0 ∷ 0 ∷ 0 ∷ 0 ∷ 100 ∷ []
 unfolding chosen_thread next_job owed number_bytes
 ping_is_answered = refl
 

@@ -1,67 +1,143 @@
--- The steps of the machine at the pipe's one request.
-use Rattle.std.proofs.Common.{◌≡◌, Bool, true, false, ◌&&◌, List, [], ◌∷◌, refl, sym, ap, ◌∙◌, subst, count_by, filter, length}
-use Rattle.std.proofs.lemmas.List.Sums.{length-filter}
-use Rattle.std.specs.List.{list_all}
+-- The steps of the machine at the pipe's requests.
+use Rattle.std.proofs.Common.{◌≡◌, ℕ, ◌+◌, ◌≤◌, [], ◌∷◌, Bool, true, false, refl, sym, ap, ◌∙◌, subst, inl, inr}
+use Rattle.std.specs.Prelude.{◌⊎◌}
 use Rattle.orb_base.specs.JobRecord.{JobRecord}
-use Rattle.orb_base.specs.declared.conn_id.ConnId.{ConnId}
+use Rattle.orb_base.specs.Outcomes.{body_len}
 use Rattle.orb_base.specs.declared.answer.Answer.{Answer}
-use Rattle.lane_machine.specs.declared.call.How.TheVariants.{Quiet}
-use Rattle.lane_machine.specs.declared.call.LaneCall.TheVariants.{Offer, Finish, Collect, End}
+use Rattle.orb_base.specs.declared.limits.TheConstants.{MAX_BODY}
+use Rattle.orb_base.specs.declared.item.Item.TheVariants.{Answered}
+use Rattle.lane_machine.specs.declared.call.How.{How}
+use Rattle.lane_machine.specs.declared.call.LaneCall.TheVariants.{Offer, Take, Finish, Collect, End}
+use Rattle.lane_machine.specs.declared.call.LaneReply.{LaneReply}
 use Rattle.lane_machine.specs.declared.call.LaneReply.TheVariants as reply
 use Rattle.lane_machine.specs.declared.doing.Doing.{Doing}
 use Rattle.lane_machine.specs.declared.doing.Doing.TheVariants.{Free, Given, Busy}
-use Rattle.lane_machine.specs.State.{Thread, State}
-use Rattle.lane_machine.specs.Choice.{is_free, chosen_thread, next_job}
-use Rattle.lane_machine.specs.Machine.{step}
-use Rattle.lane_machine.specs.Readiness.{is_ready, works_for, owed}
+use Rattle.lane_machine.specs.State.{State}
+use Rattle.lane_machine.specs.Choice.{next_job}
+use Rattle.lane_machine.specs.Machine.{step, is_over}
+use Rattle.lane_machine.specs.Readiness.{is_ready, IsSound, owed}
 use Rattle.orb_command.specs.Setup.{pipe_conn}
-use Rattle.orb_command.specs.PingRun.{ping_job, opened, given_state, busy_state, answered_state, IsIdle}
+use Rattle.orb_command.specs.PingRun.{IsPingJob, with_thread, Does, Becomes, Owes, IsSettled, Offers}
+use Rattle.orb_command.proofs.PipeRuns.{idle, shut, offer_runs, offer_closes}
 
-pub offer_ready : (s : State) (job : JobRecord) → s ≡ opened → job ≡ ping_job job.id → is_ready s (Offer job) ≡ true
+becomes : (s : State) (doing : Doing) (c b : ℕ) → s ≡ with_thread doing c b → Becomes s doing c b
+becomes s doing c b is = subst (λ (z : State). Becomes z doing c b) (sym is) (refl, refl, refl)
+
+-- ---- Offer
+
+pub offer_ready : (s : State) (job : JobRecord) → Does Free s → IsPingJob job → is_ready s (Offer job) ≡ true
 unfolding owed
-offer_ready s job machine is =
-    subst (λ (z : State). is_ready z (Offer job) ≡ true) (sym machine) (subst (λ (j : JobRecord). is_ready opened (Offer j) ≡ true) (sym is) refl)
+offer_ready s job free ping =
+    subst (λ (z : State). is_ready z (Offer job) ≡ true) (sym free)
+    (subst (λ (j : JobRecord). is_ready (idle s.calls s.bytes) (Offer j) ≡ true) (sym ping) refl)
 
-pub offer_step : (s : State) (job : JobRecord) → s ≡ opened → job ≡ ping_job job.id → step s (Offer job) ≡ (given_state job, reply.Run 0 false)
-unfolding chosen_thread
-offer_step s job machine is =
-    ap (λ (z : State). step z (Offer job)) machine ∙ subst (λ (j : JobRecord). step opened (Offer j) ≡ (given_state j, reply.Run 0 false)) (sym is) refl
+pub offer_sound : (s : State) (job : JobRecord) → Does Free s → IsPingJob job → IsSound s (Offer job)
+offer_sound s job free ping =
+    subst (λ (z : State). IsSound z (Offer job)) (sym free)
+    (subst (λ (j : JobRecord). IsSound (idle s.calls s.bytes) (Offer j)) (sym ping) (λ _. refl))
 
-pub finish_step : (s : State) (answer : Answer) → s ≡ busy_state answer.job → answer.job ≡ ping_job answer.job.id → step s (Finish 0 answer) ≡ (answered_state answer.job answer.outcome, reply.Finished)
+idle_offers : (c b : ℕ) (job : JobRecord) → IsPingJob job → (over : Bool) → is_over (idle c b) job.size ≡ over
+    → ((over ≡ false) × (step (idle c b) (Offer job) ≡ (with_thread (Given job) (c + 1) (b + job.size), reply.Run 0 false)))
+    ⊎ ((over ≡ true) × (step (idle c b) (Offer job) ≡ (shut c b, reply.Closing)))
+idle_offers c b job ping true is = inr (refl, offer_closes c b job is)
+idle_offers c b job ping false is =
+    inl (
+      refl,
+      subst (λ (j : JobRecord). is_over (idle c b) j.size ≡ false → step (idle c b) (Offer j) ≡ (with_thread (Given j) (c + 1) (b + j.size), reply.Run 0 false)) (sym ping)
+          (λ not_over. offer_runs c b job.serial job.size job.id job.order not_over) is,
+    )
+
+-- an idle machine gives the request to its thread, or closes
+pub offer_steps : (s : State) (job : JobRecord) → Does Free s → IsPingJob job
+    → ((is_over s job.size ≡ false) × (step s (Offer job) ≡ (with_thread (Given job) (s.calls + 1) (s.bytes + job.size), reply.Run 0 false)))
+    ⊎ ((is_over s job.size ≡ true) × (step s (Offer job) ≡ (record s { closing = true }, reply.Closing)))
+offer_steps s job free ping =
+    subst (λ (z : State). ((is_over z job.size ≡ false) × (step z (Offer job) ≡ (with_thread (Given job) (s.calls + 1) (s.bytes + job.size), reply.Run 0 false)))
+    ⊎ ((is_over z job.size ≡ true) × (step z (Offer job) ≡ (record z { closing = true }, reply.Closing)))) (sym free)
+    (idle_offers s.calls s.bytes job ping (is_over (idle s.calls s.bytes) job.size) refl)
+
+-- what came of it, by the reply
+pub offered_closing : (s s' : State) (job : JobRecord) (answer : LaneReply) → Does Free s → IsPingJob job → s' ≡ (step s (Offer job)).0 → answer ≡ (step s (Offer job)).1
+    → answer ≡ reply.Closing → Offers false s job s'
+offered_closing s s' job answer free ping new came closing =
+    elim (offer_steps s job free ping) [
+      | inl run ↦ absurd (let e : ◌≡◌ {A = LaneReply} (reply.Run 0 false) reply.Closing = sym (ap (λ (x : State × LaneReply). x.1) run.1) ∙ sym came ∙ closing in cc)
+      | inr shut ↦ (shut.0, new ∙ ap (λ (x : State × LaneReply). x.0) shut.1)
+    ]
+
+pub offered_given : (s s' : State) (job : JobRecord) (answer : LaneReply) → Does Free s → IsPingJob job → s' ≡ (step s (Offer job)).0 → answer ≡ (step s (Offer job)).1
+    → (answer ≡ reply.Closing → ⊥) → Offers true s job s'
+offered_given s s' job answer free ping new came other =
+    elim (offer_steps s job free ping) [
+      | inl run ↦ (run.0, becomes s' (Given job) (s.calls + 1) (s.bytes + job.size) (new ∙ ap (λ (x : State × LaneReply). x.0) run.1))
+      | inr shut ↦ absurd (other (came ∙ ap (λ (x : State × LaneReply). x.1) shut.1))
+    ]
+
+-- ---- Take, Finish, Collect
+
+pub take_ready : (s : State) (job : JobRecord) → Does (Given job) s → is_ready s (Take 0) ≡ true
+take_ready s job given = subst (λ (z : State). is_ready z (Take 0) ≡ true) (sym given) refl
+
+pub take_sound : (s : State) (job : JobRecord) → Does (Given job) s → IsSound s (Take 0)
+take_sound s job given = subst (λ (z : State). IsSound z (Take 0)) (sym given) refl
+
+pub take_steps : (s : State) (job : JobRecord) → Does (Given job) s → step s (Take 0) ≡ (with_thread (Busy job) s.calls s.bytes, reply.Given job)
+take_steps s job given = ap (λ (z : State). step z (Take 0)) given
+
+pub taken_so : (s s' : State) (job taken : JobRecord) → Does (Given job) s → s' ≡ (step s (Take 0)).0 → reply.Given taken ≡ (step s (Take 0)).1
+    → (taken ≡ job) × Becomes s' (Busy job) s.calls s.bytes
+taken_so s s' job taken given new came =
+    let steps = take_steps s job given in
+    let e : ◌≡◌ {A = LaneReply} (reply.Given taken) (reply.Given job) = came ∙ ap (λ (x : State × LaneReply). x.1) steps in
+    (cc, becomes s' (Busy job) s.calls s.bytes (new ∙ ap (λ (x : State × LaneReply). x.0) steps))
+
+pub finish_sound : (s : State) (answer : Answer) → Does (Busy answer.job) s → body_len answer.outcome ≤ MAX_BODY → IsSound s (Finish 0 answer)
+finish_sound s answer busy short = subst (λ (z : State). IsSound z (Finish 0 answer)) (sym busy) (refl, short)
+
+pub finish_steps : (s : State) (answer : Answer) → Does (Busy answer.job) s → IsPingJob answer.job
+    → step s (Finish 0 answer) ≡ (record (with_thread Free s.calls (s.bytes + body_len answer.outcome)) { out = Answered answer ∷ [] }, reply.Finished)
 unfolding next_job
-finish_step s answer machine is =
-    ap (λ (z : State). step z (Finish 0 answer)) machine
-    ∙ subst (λ (j : JobRecord). step (busy_state j) (Finish 0 (record { job = j; outcome = answer.outcome })) ≡ (answered_state j answer.outcome, reply.Finished)) (sym is) refl
+finish_steps s answer busy ping =
+    ap (λ (z : State). step z (Finish 0 answer)) busy
+    ∙ subst (λ (j : JobRecord). step (with_thread (Busy j) s.calls s.bytes) (Finish 0 (record { job = j; outcome = answer.outcome }))
+    ≡ (record (with_thread Free s.calls (s.bytes + body_len answer.outcome)) { out = Answered (record { job = j; outcome = answer.outcome }) ∷ [] }, reply.Finished)) (sym ping) refl
 
--- free threads work for nobody
-free_works : (conn : ConnId) (doing : Doing) → is_free doing ≡ true → works_for conn doing ≡ false
-free_works conn Free free = refl
-free_works conn (Given job) free = cc
-free_works conn (Busy job) free = cc
+pub finished_so : (s s' : State) (answer : Answer) → Does (Busy answer.job) s → IsPingJob answer.job → s' ≡ (step s (Finish 0 answer)).0
+    → Owes answer s' × (s'.calls ≡ s.calls) × (s'.bytes ≡ s.bytes + body_len answer.outcome)
+finished_so s s' answer busy ping new =
+    subst (λ (z : State). Owes answer z × (z.calls ≡ s.calls) × (z.bytes ≡ s.bytes + body_len answer.outcome))
+    (sym (new ∙ ap (λ (x : State × LaneReply). x.0) (finish_steps s answer busy ping))) (refl, refl, refl)
 
-both : (a b : Bool) → (a && b) ≡ true → (a ≡ true) × (b ≡ true)
-both true b h = (refl, h)
-both false b h = (cc, cc)
+abbrev owing : ℕ → ℕ → Answer → State
+owing c b answer = record (with_thread Free c b) { out = Answered answer ∷ [] }
 
-none_pass : (conn : ConnId) (threads : List Thread) → list_all (λ thread. is_free thread.doing) threads ≡ true → filter (λ thread. works_for conn thread.doing) threads ≡ []
-none_pass conn [] free = refl
-none_pass conn (thread ∷ threads) free =
-    let here = both (is_free thread.doing) (list_all (λ t. is_free t.doing) threads) free in
-    rw (free_works conn thread.doing here.0) (none_pass conn threads here.1)
+pub collect_ready : (s : State) (answer : Answer) → Owes answer s → IsPingJob answer.job → is_ready s (Collect pipe_conn) ≡ true
+collect_ready s answer owes ping =
+    subst (λ (z : State). is_ready z (Collect pipe_conn) ≡ true) (sym owes)
+    (subst (λ (j : JobRecord). is_ready (owing s.calls s.bytes (record { job = j; outcome = answer.outcome })) (Collect pipe_conn) ≡ true) (sym ping) refl)
 
-none_works : (conn : ConnId) (threads : List Thread) → list_all (λ thread. is_free thread.doing) threads ≡ true → count_by (λ thread. works_for conn thread.doing) threads ≡ 0
-none_works conn threads free =
-    sym (length-filter (λ thread. works_for conn thread.doing) threads) ∙ ap length (none_pass conn threads free)
+collect_steps : (s : State) (answer : Answer) → Owes answer s → IsPingJob answer.job
+    → step s (Collect pipe_conn) ≡ (with_thread Free s.calls s.bytes, reply.Handed (Answered answer))
+collect_steps s answer owes ping =
+    ap (λ (z : State). step z (Collect pipe_conn)) owes
+    ∙ subst (λ (j : JobRecord). step (owing s.calls s.bytes (record { job = j; outcome = answer.outcome })) (Collect pipe_conn)
+    ≡ (with_thread Free s.calls s.bytes, reply.Handed (Answered (record { job = j; outcome = answer.outcome })))) (sym ping) refl
 
-pub owed_idle : (s : State) (conn : ConnId) → list_all (λ thread. is_free thread.doing) s.threads ≡ true → s.waiting ≡ [] → s.out ≡ [] → owed s conn ≡ 0
+pub collected_reply : (s : State) (answer : Answer) (answered : LaneReply) → Owes answer s → IsPingJob answer.job → answered ≡ (step s (Collect pipe_conn)).1
+    → answered ≡ reply.Handed (Answered answer)
+collected_reply s answer answered owes ping came = came ∙ ap (λ (x : State × LaneReply). x.1) (collect_steps s answer owes ping)
+
+pub collected_so : (s s' : State) (answer : Answer) → Owes answer s → IsPingJob answer.job → s' ≡ (step s (Collect pipe_conn)).0 → Becomes s' Free s.calls s.bytes
+collected_so s s' answer owes ping new = becomes s' Free s.calls s.bytes (new ∙ ap (λ (x : State × LaneReply). x.0) (collect_steps s answer owes ping))
+
+-- ---- End
+
+abbrev settled : ℕ → ℕ → Bool → State
+settled c b closing = record (with_thread Free c b) { closing = closing }
+
+pub end_sound : (s : State) (how : How) → IsSettled s → IsSound s (End pipe_conn how)
+end_sound s how is = subst (λ (z : State). IsSound z (End pipe_conn how)) (sym is) refl
+
+pub end_ready : (s : State) (how : How) → IsSettled s → is_ready (step s (End pipe_conn how)).0 (Collect pipe_conn) ≡ true
 unfolding owed
-owed_idle s conn free waits out = rw (waits, out, none_works conn s.threads free) refl
-
-pub end_ready : (s : State) → IsIdle s → is_ready (step s (End pipe_conn Quiet)).0 (Collect pipe_conn) ≡ true
-end_ready s idle =
-    let nothing : owed (step s (End pipe_conn Quiet)).0 pipe_conn ≡ 0 = owed_idle (step s (End pipe_conn Quiet)).0 pipe_conn idle.free idle.nothing_waits idle.nothing_out in
-    rw (nothing, idle.nothing_out, idle.none_ended) refl
-
--- and that ending changes nothing any more
-pub end_collects : (s : State) → IsIdle s → step (step s (End pipe_conn Quiet)).0 (Collect pipe_conn) ≡ ((step s (End pipe_conn Quiet)).0, reply.Done)
-end_collects s idle = rw (idle.nothing_out, idle.none_ended) refl
+end_ready s how is = subst (λ (z : State). is_ready (step z (End pipe_conn how)).0 (Collect pipe_conn) ≡ true) (sym is) refl

@@ -1,5 +1,5 @@
 -- The answers of the top call: for each note its cause, and what was written.
-use Rattle.std.specs.Prelude.{◌≡◌, ◌+◌, ℕ, IfSome, Result, Ok, Err}
+use Rattle.std.specs.Prelude.{◌≡◌, ◌+◌, ℕ, true, false, IfSome, Result, Ok, Err}
 use Rattle.orb_base.specs.Outside.{Told, Rose}
 use Rattle.orb_command.specs.declared.meaning.Meaning.{Meaning}
 use Rattle.orb_command.specs.declared.meaning.Meaning.TheVariants.{Pipe, Dump, Unbuilt, Unread}
@@ -15,8 +15,8 @@ use Rattle.orb_command.specs.declared.ends.PipeFault.TheVariants as fault
 use Rattle.orb_command.specs.declared.read_all.TheConstants.{MAX_PIPED}
 use Rattle.orb_command.specs.declared.dump_end.TheConstants.{MAX_DUMPED}
 use Rattle.orb_command.specs.Ping.{ping_outcome}
-use Rattle.orb_command.specs.Built.{IsBuilt}
-use Rattle.orb_command.specs.Pipe.{WroteAnswer, WroteFront, WroteAtWant}
+use Rattle.orb_command.specs.Built.{IsBuilt, IsPiped}
+use Rattle.orb_command.specs.Pipe.{WroteWhole, WroteFront, WroteAtWant}
 use Rattle.orb_command.specs.DumpAnswer.{DumpAnswers}
 
 -- the exit status of a note
@@ -32,9 +32,11 @@ status_of NotBuilt = 14
 
 -- the note of a run of the pipe
 abbrev pub note_of_ends : ReadEnd → WriteEnd → Note
-note_of_ends read.Ended write.Done = Nothing
+note_of_ends read.Ended _ = Nothing
+note_of_ends read.RunClosed write.Done = Limit
+note_of_ends read.RunClosed write.Closed = Limit
+note_of_ends read.RunClosed write.WriteFault = WriteFault
 note_of_ends read.ReadFault _ = ReadFault
-note_of_ends read.Ended write.WriteFault = WriteFault
 note_of_ends read.Stopped _ = WriteFault
 
 -- the note of a run, or of the reason why there was none
@@ -43,24 +45,27 @@ note_of (Ok piped) = note_of_ends piped.read piped.write
 note_of (Err fault.NotBuilt) = NotBuilt
 note_of (Err fault.NoMemory) = Memory
 
--- what each note of `pipe` means, by what the source tells to be left before, and what the sink tells to be held before and
--- after; `reads`, `ends` and `writes` are the counts of the source's faults and ends and of the sink's faults, before and
--- after
+-- what each note of `pipe` means, by what the source tells to be left before, and what the sink tells to be held before
+-- and after; `reads`, `ends` and `writes` are the counts of the source's faults and ends and of the sink's faults, before
+-- and after
 abbrev pub PipeAnswers : Note → Told → Told → Told → ℕ × ℕ → ℕ × ℕ → ℕ × ℕ → Type 0
-PipeAnswers Nothing left held held' reads ends writes = Rose ends.0 ends.1 × IfSome left (λ input. WroteAnswer ping_outcome input held held')
+PipeAnswers Nothing left held held' reads ends writes =
+    Rose ends.0 ends.1 × IfSome left (λ input. WroteWhole (IsPiped ping_outcome input) false held held')
 PipeAnswers ReadFault left held held' reads ends writes = Rose reads.0 reads.1 × (held' ≡ held)
 PipeAnswers WriteFault left held held' reads ends writes =
-    Rose writes.0 writes.1 × IfSome left (λ input. WroteFront ping_outcome input held held')
+    Rose writes.0 writes.1 × IfSome left (λ input. WroteFront (IsPiped ping_outcome input) held held')
 PipeAnswers Memory left held held' reads ends writes = IfSome left (λ input. WroteAtWant ping_outcome input held held')
+PipeAnswers Limit left held held' reads ends writes =
+    Rose ends.0 ends.1 × IfSome left (λ input. WroteWhole (IsPiped ping_outcome input) true held held')
 PipeAnswers NotBuilt left held held' reads ends writes = IfSome left (λ input. ¬ IsBuilt input) × (held' ≡ held)
 PipeAnswers Usage left held held' reads ends writes = ⊥
 PipeAnswers (Input _ _) left held held' reads ends writes = ⊥
-PipeAnswers Limit left held held' reads ends writes = ⊥
 
 -- what each note means, by what the words mean; the source tells what is left and what was taken, before and after
 abbrev pub Answers : Meaning → Note → Told → Told → Told → Told → Told → Told → ℕ × ℕ → ℕ × ℕ → ℕ × ℕ → Type 0
 Answers Pipe note left left' taken taken' held held' reads ends writes = PipeAnswers note left held held' reads ends writes
-Answers Dump note left left' taken taken' held held' reads ends writes = DumpAnswers note left left' taken taken' held held' reads ends writes
+Answers Dump note left left' taken taken' held held' reads ends writes =
+    DumpAnswers note left left' taken taken' held held' reads ends writes
 Answers Unbuilt note left left' taken taken' held held' reads ends writes = (note ≡ NotBuilt) × (held' ≡ held)
 Answers Unread note left left' taken taken' held held' reads ends writes = (note ≡ Usage) × (held' ≡ held)
 

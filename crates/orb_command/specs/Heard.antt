@@ -1,10 +1,13 @@
--- What the bytes of a connection mean to the lane machine. So far they are nothing, or one request that is offered;
--- later pieces add cases.
-use Rattle.std.specs.Prelude.{◌≡◌, ℕ, ◌==◌, ◌%◌, if◌then◌else◌, List, [], ◌∷◌, Some, None, length, slice_get, codes}
+-- What the bytes of a connection mean to the lane machine. So far each message is a request that is offered; later pieces
+-- add cases.
+use Rattle.std.specs.Prelude.{◌≡◌, ℕ, suc, List, [], ◌∷◌, Some, None, length, slice_get, codes}
 use Rattle.orb_base.specs.Priorities.{mandated, lane_of}
 use Rattle.orb_base.specs.JobRecord.{JobRecord}
 use Rattle.orb_base.specs.declared.conn_id.ConnId.{ConnId}
 use Rattle.orb_base.specs.declared.order.Order.{Order}
+use Rattle.orb_base.specs.declared.limits.TheConstants.{MAX_MESSAGE}
+use Rattle.giop_frames.specs.Messages.{Message}
+use Rattle.giop_frames.specs.Stream.{stream}
 use Rattle.giop_messages.specs.Flags.{due_of}
 use Rattle.giop_messages.specs.Message.{Request, key, request}
 use Rattle.giop_messages.specs.Reading.{ReadsIn}
@@ -47,8 +50,22 @@ pub record IsOffered (setup : Setup) (conn : ConnId) (serial : ℕ) (order : Ord
   pub placed : lane_of setup.pool (mandated object.model object.server None) ≡ Some lane
   pub meant : call ≡ Offer (job_of conn serial order size r target (mandated object.model object.server None) lane)
 
--- the whole input of a connection means these calls, and ends so
-pub data Hears (setup : Setup) (conn : ConnId) (bytes : List ℕ) (calls : List LaneCall) (how : How) : Type 0 where
-  nothing : bytes ≡ [] → calls ≡ [] → how ≡ Quiet → Hears setup conn bytes calls how
-  one : (order : Order) (r : Request) (call : LaneCall) → ReadsIn order (request r) bytes
-      → IsOffered setup conn 0 order (length bytes) r call → calls ≡ call ∷ [] → how ≡ Quiet → Hears setup conn bytes calls how
+-- the message is a request that passes every judgement, and means this call
+pub record IsHeard (setup : Setup) (conn : ConnId) (serial : ℕ) (m : Message) (call : LaneCall) : Type 0 where
+  pub r : Request
+  pub reads : ReadsIn m.order (request r) m.bytes
+  pub offered : IsOffered setup conn serial m.order (length m.bytes) r call
+
+-- the messages mean these calls, the first of which has this number
+abbrev pub HearsEach : Setup → ConnId → ℕ → List Message → List LaneCall → Type 0
+HearsEach setup conn serial [] [] = Unit {0}
+HearsEach setup conn serial [] (call ∷ calls) = ⊥
+HearsEach setup conn serial (m ∷ ms) [] = ⊥
+HearsEach setup conn serial (m ∷ ms) (call ∷ calls) = IsHeard setup conn serial m call × HearsEach setup conn (suc serial) ms calls
+
+-- the whole input of a connection means these calls, and ends so: its stream has no fault and leaves nothing unfinished
+pub record Hears (setup : Setup) (conn : ConnId) (bytes : List ℕ) (calls : List LaneCall) (how : How) : Type 0 where
+  pub sound : (stream MAX_MESSAGE bytes).bad ≡ None
+  pub whole : (stream MAX_MESSAGE bytes).rest ≡ None
+  pub each : HearsEach setup conn 0 (stream MAX_MESSAGE bytes).messages calls
+  pub quiet : how ≡ Quiet

@@ -4,10 +4,10 @@ pub mod Heard
 pub mod Said
 pub mod Piped
 pub mod Built
+pub mod Streams
 pub mod PingRun
 pub mod Hearing
 pub mod Words
-pub mod Streams
 pub mod Pipe
 pub mod Shown
 pub mod DumpText

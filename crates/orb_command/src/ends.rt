@@ -7,6 +7,8 @@ use thiserror::Error;
 pub enum ReadEnd {
     /// At the end of its input.
     Ended,
+    /// A limit of the run was met: the requests behind it were not answered.
+    RunClosed,
     /// The source failed. Nothing was written.
     ReadFault,
     /// A write failed before the end of the input was worked off.
@@ -18,6 +20,8 @@ pub enum ReadEnd {
 pub enum WriteEnd {
     /// All was written.
     Done,
+    /// All was written, and a CloseConnection behind it.
+    Closed,
     /// The sink failed. A front of the answer was written.
     WriteFault,
 }

@@ -3,13 +3,13 @@
 
 mod answered;
 mod command;
+mod course;
 mod dump;
 mod dump_end;
 mod dump_line;
 mod dump_lines;
 mod dump_note;
 mod ends;
-mod heard;
 mod laws;
 mod meaning;
 mod note;
@@ -17,6 +17,7 @@ mod ping;
 mod pipe;
 mod read_all;
 mod refusal;
+mod replies;
 mod request;
 mod setup;
 mod shown;

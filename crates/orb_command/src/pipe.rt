@@ -1,148 +1,147 @@
 //! The pipe: one connection, read from a source and answered to a sink.
-ghost use Rattle.std.specs.Prelude.{◌≡◌, ◌≤◌, ◌+◌, IfOk, OnOk, codes};
-ghost use Rattle.orb_base.specs.Outcomes.{body_len};
-ghost use Rattle.orb_base.specs.declared.order.Order.TheVariants.{Big};
-ghost use Rattle.orb_base.specs.declared.item.Item.TheVariants.{Answered};
-ghost use Rattle.giop_messages.specs.Message.{request};
-ghost use Rattle.giop_messages.specs.Spelling.{spelled};
-ghost use Rattle.giop_messages.specs.Plain.{plain};
-ghost use Rattle.orb_command.specs.declared.ends.ReadEnd.TheVariants.{Ended};
-ghost use Rattle.orb_command.specs.declared.ends.WriteEnd.TheVariants.{Done};
-ghost use Rattle.orb_command.specs.Said.{item_bytes};
-ghost use Rattle.orb_command.specs.PingRun.{opened, IsIdle};
-ghost use Rattle.orb_command.specs.Built.{IsPiped};
+ghost use Rattle.std.specs.Prelude.{◌≡◌, ◌≤◌, ◌+◌, length};
+ghost use Rattle.lane_machine.specs.declared.doing.Doing.TheVariants.{Free};
+ghost use Rattle.orb_command.specs.PingRun.{opened, ping_interface, Does, IsPingJob, ArePingJobs, IsRun, AnswersOne, AnswersAll, SaysFarewell};
 ghost use Rattle.orb_command.specs.Streams.{GaveFew};
-ghost use Rattle.orb_command.specs.Pipe.{Writes, Serves, Replies, Pipes};
+ghost use Rattle.orb_command.specs.Pipe.{Serves, Replies, Pipes};
 
+use crate::course::Course;
 use crate::ends::{PipeFault, Piped, ReadEnd, WriteEnd};
-use crate::heard::Heard;
 use crate::read_all::{MAX_PIPED, ReadAll};
-use crate::request::{hear, ping_job};
+use crate::replies::{close_connection, reply_to};
+use crate::request::hear;
 use crate::setup::{interface, open};
 use crate::streams::{read_all, write_all};
 use crate::turn::{carry_out, end};
 use crate::write_all::WriteAll;
-use giop_messages::{plain_reply, system_exception_body};
-use lane_machine::Lanes;
-use orb_base::limits::MAX_BODY;
-use orb_base::{Answer, Arc, NoMemory, Octets, Outcome, Serving, Sink, Source};
+use lane_machine::{How, Lanes};
+use orb_base::{Arc, Job, NoMemory, Serving, Sink, Source, Text};
 use std::alloc::Global;
 
-/// The reply to a finished big-endian request.
-fn reply_to(alloc: Global, answer: &Answer) -> Result<Octets, NoMemory>
-    requires big { answer.now.job.order ≡ Big }
-    requires short { body_len answer.now.outcome ≤ MAX_BODY }
-    ensures { IfOk result (λ reply. reply.items ≡ item_bytes (Answered answer.now)) }
-{
-    let id = answer.job.get().id;
-    match &answer.outcome {
-        Outcome::Returned(body) => plain_reply(alloc, id, 0, body.as_slice()),
-        Outcome::User(body) => plain_reply(alloc, id, 1, body.as_slice()),
-        Outcome::System(system) => {
-            let body = system_exception_body(alloc, *system)?;
-            plain_reply(alloc, id, 2, body.as_slice())
-        }
-    }
-}
-
-/// Runs the request of this id on the machine as it opened, and spells its reply.
-fn reply_of<S: Serving>(
+/// Answers one request: it is carried out, and its reply is written.
+#[tactic(auto, using(crate::proofs::PipedLaws::ran_of))]
+fn answer_one<O: Sink, S: Serving>(
     alloc: Global,
     lanes: &mut Lanes,
+    sink: &mut O,
     servants: &S,
-    id: u32,
-) -> Result<Octets, NoMemory>
-    requires { lanes.old ≡ opened }
-    ensures piped { IfOk result (λ reply. IsPiped (S.outcome servants.now) (spelled Big (request (plain id (codes "ping")))) reply.items) }
-    ensures idle { OnOk result (IsIdle lanes.new) }
+    interface: &Text,
+    job: &Arc<Job>,
+) -> Result<Course, NoMemory>
+    requires free { Does Free lanes.old }
+    requires job { IsPingJob job.now }
+    requires interface { interface.now ≡ ping_interface }
+    ensures { AnswersOne result (S.outcome servants.now) job.now lanes.old lanes.new
+        (O.held sink.old) (O.held sink.new) (O.faults sink.old, O.faults sink.new) }
 {
-    let interface = interface(alloc)?;
-    let job = ping_job(alloc, id)?;
-    match Arc::new(alloc, job) {
-        Ok(job) => {
-            let answer = carry_out(lanes, servants, &interface, &job)?;
-            let reply = reply_to(alloc, &answer)?;
-            Ok(reply)
-        }
-        Err(_) => Err(NoMemory),
+    let Some(answer) = carry_out(lanes, servants, interface, job)? else {
+        return Ok(Course::Closing);
+    };
+    let reply = reply_to(alloc, &answer)?;
+    match write_all(sink, reply.as_slice()) {
+        WriteAll::Whole => Ok(Course::Whole),
+        WriteAll::Failed => Ok(Course::Stopped),
     }
 }
 
-/// Writes a reply, and ends the connection behind it.
-fn write_and_end<O: Sink>(sink: &mut O, lanes: &mut Lanes, reply: &[u8]) -> Result<Piped, NoMemory>
-    requires { IsIdle lanes.old }
-    ensures { Writes result reply.now (O.held sink.old) (O.held sink.new) (O.faults sink.old, O.faults sink.new) }
+/// Answers requests one after another, up to a limit of the run.
+#[tactic(auto, using(crate::proofs::PipedLaws::underway_start))]
+fn answer_all<O: Sink, S: Serving>(
+    alloc: Global,
+    lanes: &mut Lanes,
+    sink: &mut O,
+    servants: &S,
+    interface: &Text,
+    jobs: &[Arc<Job>],
+) -> Result<Course, NoMemory>
+    requires opened { lanes.old ≡ opened }
+    requires jobs { ArePingJobs 0 jobs.now }
+    requires interface { interface.now ≡ ping_interface }
+    ensures { AnswersAll result (S.outcome servants.now) jobs.now lanes.new
+        (O.held sink.old) (O.held sink.new) (O.faults sink.old, O.faults sink.new) }
 {
-    match write_all(sink, reply) {
-        WriteAll::Failed => Ok(Piped {
+    for job in jobs {
+        match answer_one(alloc, lanes, sink, servants, interface, job)? {
+            Course::Whole => {}
+            Course::Closing => return Ok(Course::Closing),
+            Course::Stopped => return Ok(Course::Stopped),
+        }
+    }
+    Ok(Course::Whole)
+}
+
+/// Writes the CloseConnection behind the requests before a limit of the run.
+fn say_farewell<O: Sink>(alloc: Global, sink: &mut O) -> Result<Piped, NoMemory>
+    ensures { SaysFarewell result (O.held sink.old) (O.held sink.new) (O.faults sink.old, O.faults sink.new) }
+{
+    let bytes = close_connection(alloc)?;
+    let write = match write_all(sink, bytes.as_slice()) {
+        WriteAll::Whole => WriteEnd::Closed,
+        WriteAll::Failed => WriteEnd::WriteFault,
+    };
+    Ok(Piped {
+        read: ReadEnd::RunClosed,
+        write,
+    })
+}
+
+/// Answers the requests of one connection, from the opening of the machine to the end of the connection.
+#[tactic(auto, using(crate::proofs::PipedLaws::none_run, crate::proofs::PipedLaws::front_run, crate::proofs::PipedLaws::all_run, crate::proofs::PipedLaws::whole_run))]
+fn answer_jobs<O: Sink, S: Serving>(
+    alloc: Global,
+    sink: &mut O,
+    servants: &S,
+    jobs: &[Arc<Job>],
+) -> Result<Piped, NoMemory>
+    requires { ArePingJobs 0 jobs.now }
+    ensures { Serves result (IsRun (S.outcome servants.now) jobs.now) (O.held sink.old) (O.held sink.new) (O.faults sink.old, O.faults sink.new) }
+{
+    let mut lanes = open(alloc)?;
+    let interface = interface(alloc)?;
+    match answer_all(alloc, &mut lanes, sink, servants, &interface, jobs)? {
+        Course::Stopped => Ok(Piped {
             read: ReadEnd::Stopped,
             write: WriteEnd::WriteFault,
         }),
-        WriteAll::Whole => {
-            end(lanes)?;
+        Course::Whole => {
+            end(&mut lanes, How::Quiet)?;
             Ok(Piped {
                 read: ReadEnd::Ended,
                 write: WriteEnd::Done,
             })
         }
+        Course::Closing => {
+            end(&mut lanes, How::Shut)?;
+            say_farewell(alloc, sink)
+        }
     }
 }
 
-/// Answers the request of this id: its reply is written, and the connection ends.
-#[tactic(auto, using(crate::proofs::PipedLaws::none_of_ping, crate::proofs::PipedLaws::all_written, crate::proofs::PipedLaws::wrote))]
-fn answer_one<O: Sink, S: Serving>(
-    alloc: Global,
-    sink: &mut O,
-    servants: &S,
-    id: u32,
-) -> Result<Piped, NoMemory>
-    ensures { Serves result (S.outcome servants.now) (spelled Big (request (plain id (codes "ping"))))
-        (O.held sink.old) (O.held sink.new) (O.faults sink.old, O.faults sink.new) }
-{
-    let mut lanes = open(alloc)?;
-    let reply = reply_of(alloc, &mut lanes, servants, id)?;
-    let piped = write_and_end(sink, &mut lanes, reply.as_slice())?;
-    Ok(piped)
-}
-
-/// Answers an empty input: the connection ends.
-fn answer_nothing(alloc: Global) -> Result<Piped, NoMemory>
-    ensures { IfOk result (λ piped. (piped.read ≡ Ended) × (piped.write ≡ Done)) }
-{
-    let mut lanes = open(alloc)?;
-    end(&mut lanes)?;
-    Ok(Piped {
-        read: ReadEnd::Ended,
-        write: WriteEnd::Done,
-    })
-}
-
 /// Answers a whole input.
-#[tactic(auto, using(crate::proofs::PipedLaws::nothing_wrote, crate::proofs::PipedLaws::none_at_want, crate::proofs::PipedLaws::front_at_want))]
+#[tactic(auto, using(crate::proofs::PipedLaws::none_at_want, crate::proofs::PipedLaws::replies_of, crate::proofs::PipedLaws::front_at_want))]
 fn answer<O: Sink, S: Serving>(
     alloc: Global,
     sink: &mut O,
     servants: &S,
     input: &[u8],
 ) -> Result<Piped, PipeFault>
+    requires { length input.now ≤ MAX_PIPED }
     ensures { Replies result (S.outcome servants.now) input.now (O.held sink.old) (O.held sink.new) (O.faults sink.old, O.faults sink.new) }
 {
-    match hear(input) {
-        Heard::Nothing => match answer_nothing(alloc) {
+    match hear(alloc, input) {
+        Ok(Some(jobs)) => match answer_jobs(alloc, sink, servants, jobs.as_slice()) {
             Ok(piped) => Ok(piped),
             Err(NoMemory) => Err(PipeFault::NoMemory),
         },
-        Heard::Ping { id } => match answer_one(alloc, sink, servants, id) {
-            Ok(piped) => Ok(piped),
-            Err(NoMemory) => Err(PipeFault::NoMemory),
-        },
-        Heard::Other => Err(PipeFault::NotBuilt),
+        Ok(None) => Err(PipeFault::NotBuilt),
+        Err(NoMemory) => Err(PipeFault::NoMemory),
     }
 }
 
 /// Runs the pipe: reads the input to its end, and writes what it answers. An input of more than `MAX_PIPED` bytes, or
-/// of another form than nothing or one big-endian request for `current` of `ping`, is refused as not built, and
-/// nothing is written. It returns where each read and write returns. Work per byte is constant.
+/// one whose stream has a fault, leaves something unfinished, or has another message than a request for `current` of
+/// `ping`, with response flags 3 and without contexts and body, is refused as not built, and nothing is written. It
+/// returns where each read and write returns. Work per byte is constant.
 #[tactic(auto, using(crate::proofs::PipedLaws::whole_pipes, crate::proofs::PipedLaws::told_long, crate::proofs::PipedLaws::want_pipes))]
 pub fn pipe_run<I: Source, O: Sink, S: Serving>(
     alloc: Global,

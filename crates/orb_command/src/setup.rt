@@ -40,7 +40,7 @@ fn pool(alloc: Global) -> Result<PoolSpec, NoMemory>
 }
 
 /// The lane machine of the built-in setup, with one slot.
-#[tactic(auto, using(crate::proofs::OneRequest::built_in_can_open))]
+#[tactic(auto, using(crate::proofs::CanOpen::built_in_can_open))]
 pub fn open(alloc: Global) -> Result<Lanes, NoMemory>
     ensures { IfOk result (λ lanes. lanes ≡ opened) }
 {

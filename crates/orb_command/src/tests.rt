@@ -21,6 +21,41 @@ const OTHER_REQUEST: &[u8] =
 
 const OTHER_REPLY: &[u8] = b"GIOP\x01\x02\0\x01\0\0\0\x0e\xfe\xdc\xba\x98\0\0\0\0\0\0\0\0\0\x64";
 
+/// The requests of ids 1 and 2 in the other byte order, and their replies.
+const LITTLE_PING: &[u8] =
+    b"GIOP\x01\x02\x01\0\x24\0\0\0\x01\0\0\0\x03\0\0\0\0\0\0\0\x04\0\0\0ping\x08\0\0\0current\0\0\0\0\0";
+
+const LITTLE_REPLY: &[u8] = b"GIOP\x01\x02\x01\x01\x0e\0\0\0\x01\0\0\0\0\0\0\0\0\0\0\0\x64\0";
+
+/// A big-endian ping of id 1, and behind it a little-endian one of id 1, and their replies.
+const TWO_ORDERS: &[u8] =
+    b"GIOP\x01\x02\0\0\0\0\0\x24\0\0\0\x01\x03\0\0\0\0\0\0\0\0\0\0\x04ping\0\0\0\x08current\0\0\0\0\0GIOP\x01\x02\x01\0\x24\0\0\0\x01\0\0\0\x03\0\0\0\0\0\0\0\x04\0\0\0ping\x08\0\0\0current\0\0\0\0\0";
+
+const TWO_ORDERS_REPLIES: &[u8] =
+    b"GIOP\x01\x02\0\x01\0\0\0\x0e\0\0\0\x01\0\0\0\0\0\0\0\0\0\x64GIOP\x01\x02\x01\x01\x0e\0\0\0\x01\0\0\0\0\0\0\0\0\0\0\0\x64\0";
+
+/// A request of id 1 in three pieces, with the request of id 2 between them, and the replies of ids 2 and 1.
+const INTERLEAVED: &[u8] =
+    b"GIOP\x01\x02\x02\0\0\0\0\x0c\0\0\0\x01\x03\0\0\0\0\0\0\0GIOP\x01\x02\0\0\0\0\0\x24\0\0\0\x02\x03\0\0\0\0\0\0\0\0\0\0\x04ping\0\0\0\x08current\0\0\0\0\0GIOP\x01\x02\x02\x07\0\0\0\x14\0\0\0\x01\0\0\0\x04ping\0\0\0\x08currGIOP\x01\x02\0\x07\0\0\0\x0c\0\0\0\x01ent\0\0\0\0\0";
+
+const INTERLEAVED_REPLIES: &[u8] =
+    b"GIOP\x01\x02\0\x01\0\0\0\x0e\0\0\0\x02\0\0\0\0\0\0\0\0\0\x64GIOP\x01\x02\0\x01\0\0\0\x0e\0\0\0\x01\0\0\0\0\0\0\0\0\0\x64";
+
+/// The first piece of a request alone; a ping and then a CloseConnection; a piece whose length is no multiple of 8.
+const UNFINISHED: &[u8] = b"GIOP\x01\x02\x02\0\0\0\0\x0c\0\0\0\x01\x03\0\0\0\0\0\0\0";
+
+const PING_AND_CLOSE: &[u8] =
+    b"GIOP\x01\x02\0\0\0\0\0\x24\0\0\0\x01\x03\0\0\0\0\0\0\0\0\0\0\x04ping\0\0\0\x08current\0\0\0\0\0GIOP\x01\x02\0\x05\0\0\0\0";
+
+const ODD_PIECE: &[u8] = b"GIOP\x01\x02\x02\0\0\0\0\x0d\0\0\0\x01\x03\0\0\0\0\0\0\0\0";
+
+/// A ping with response flags of 1, and one whose reserved octets and pads are not 0.
+const EARLY_PING: &[u8] =
+    b"GIOP\x01\x02\0\0\0\0\0\x24\0\0\0\x01\x01\0\0\0\0\0\0\0\0\0\0\x04ping\0\0\0\x08current\0\0\0\0\0";
+
+const ODD_RESERVED: &[u8] =
+    b"GIOP\x01\x02\0\0\0\0\0\x24\0\0\0\x01\x03\x07\x08\x09\0\0\x0a\x0b\0\0\0\x04ping\0\0\0\x08current\0\0\0\0\0";
+
 /// The request for an unknown key, with a byte too many, and in the other byte order with a priority of 7.
 const PONG_REQUEST: &[u8] =
     b"GIOP\x01\x02\0\0\0\0\0\x24\0\0\0\x01\x03\0\0\0\0\0\0\0\0\0\0\x04pong\0\0\0\x08current\0\0\0\0\0";
@@ -34,6 +69,10 @@ const LITTLE_REQUEST: &[u8] =
 /// The reply of id 1 with BAD_OPERATION, minor 1, completed NO.
 const BAD_OPERATION_REPLY: &[u8] =
     b"GIOP\x01\x02\0\x01\0\0\0\x3c\0\0\0\x01\0\0\0\x02\0\0\0\0\0\0\0\x24IDL:omg.org/CORBA/BAD_OPERATION:1.0\0\0\0\0\x01\0\0\0\x01";
+
+/// The same in the other byte order.
+const LITTLE_BAD_OPERATION_REPLY: &[u8] =
+    b"GIOP\x01\x02\x01\x01\x3c\0\0\0\x01\0\0\0\x02\0\0\0\0\0\0\0\x24\0\0\0IDL:omg.org/CORBA/BAD_OPERATION:1.0\0\x01\0\0\0\x01\0\0\0";
 
 /// One run: the words, the input with its cuts and failing reads, the sink's cuts and failing writes, and what comes.
 #[derive(Clone, Copy)]
@@ -155,7 +194,127 @@ fn the_pipe_answers_each_ping(rt: HostRuntime) -> Result<(), Fail> {
             output: b"",
         },
         Row {
-            name: "a little-endian request",
+            name: "a little-endian ping",
+            words: &["pipe"],
+            input: LITTLE_PING,
+            reads: &[],
+            failed_reads: &[],
+            writes: &[],
+            failed_writes: &[],
+            status: 0,
+            note: Note::Nothing,
+            output: LITTLE_REPLY,
+        },
+        Row {
+            name: "two pings of two orders",
+            words: &["pipe"],
+            input: TWO_ORDERS,
+            reads: &[],
+            failed_reads: &[],
+            writes: &[],
+            failed_writes: &[],
+            status: 0,
+            note: Note::Nothing,
+            output: TWO_ORDERS_REPLIES,
+        },
+        Row {
+            name: "interleaved fragments byte by byte",
+            words: &["pipe"],
+            input: INTERLEAVED,
+            reads: &[1; 128],
+            failed_reads: &[],
+            writes: &[],
+            failed_writes: &[],
+            status: 0,
+            note: Note::Nothing,
+            output: INTERLEAVED_REPLIES,
+        },
+        Row {
+            name: "interleaved fragments in one read",
+            words: &["pipe"],
+            input: INTERLEAVED,
+            reads: &[],
+            failed_reads: &[],
+            writes: &[1; 64],
+            failed_writes: &[],
+            status: 0,
+            note: Note::Nothing,
+            output: INTERLEAVED_REPLIES,
+        },
+        Row {
+            name: "reserved octets and pads of any content",
+            words: &["pipe"],
+            input: ODD_RESERVED,
+            reads: &[],
+            failed_reads: &[],
+            writes: &[],
+            failed_writes: &[],
+            status: 0,
+            note: Note::Nothing,
+            output: PING_REPLY,
+        },
+        Row {
+            name: "a failed write between two replies",
+            words: &["pipe"],
+            input: TWO_ORDERS,
+            reads: &[],
+            failed_reads: &[],
+            writes: &[],
+            failed_writes: &[1],
+            status: 4,
+            note: Note::WriteFault,
+            output: PING_REPLY,
+        },
+        Row {
+            name: "an unfinished request",
+            words: &["pipe"],
+            input: UNFINISHED,
+            reads: &[],
+            failed_reads: &[],
+            writes: &[],
+            failed_writes: &[],
+            status: 14,
+            note: Note::NotBuilt,
+            output: b"",
+        },
+        Row {
+            name: "a ping and a CloseConnection",
+            words: &["pipe"],
+            input: PING_AND_CLOSE,
+            reads: &[],
+            failed_reads: &[],
+            writes: &[],
+            failed_writes: &[],
+            status: 14,
+            note: Note::NotBuilt,
+            output: b"",
+        },
+        Row {
+            name: "a piece of odd length",
+            words: &["pipe"],
+            input: ODD_PIECE,
+            reads: &[],
+            failed_reads: &[],
+            writes: &[],
+            failed_writes: &[],
+            status: 14,
+            note: Note::NotBuilt,
+            output: b"",
+        },
+        Row {
+            name: "a ping whose reply is due early",
+            words: &["pipe"],
+            input: EARLY_PING,
+            reads: &[],
+            failed_reads: &[],
+            writes: &[],
+            failed_writes: &[],
+            status: 14,
+            note: Note::NotBuilt,
+            output: b"",
+        },
+        Row {
+            name: "a little-endian request with a priority",
             words: &["pipe"],
             input: LITTLE_REQUEST,
             reads: &[],
@@ -387,5 +546,20 @@ fn the_pipe_runs_over_any_servant(rt: HostRuntime) -> Result<(), Fail> {
     let mut counting = CountingSink { bytes: 0 };
     assert_eq!(rt; pipe_run(alloc, &mut again, &mut counting, &Deaf), Ok(done));
     assert_eq!(rt; counting.bytes, 72);
+    Ok(())
+}
+
+/// The exception is spelled in the byte order of its request.
+#[test]
+fn a_little_endian_request_gets_a_little_endian_exception(rt: HostRuntime) -> Result<(), Fail> {
+    let alloc = rt.alloc();
+    let mut input = SteadySource::new(list(alloc, LITTLE_PING)?, List::new(alloc));
+    let mut out = MemSink::new(alloc, List::new(alloc), List::new(alloc));
+    let done = Piped {
+        read: ReadEnd::Ended,
+        write: WriteEnd::Done,
+    };
+    assert_eq!(rt; pipe_run(alloc, &mut input, &mut out, &Deaf), Ok(done));
+    assert_eq!(rt; out.held(), LITTLE_BAD_OPERATION_REPLY);
     Ok(())
 }

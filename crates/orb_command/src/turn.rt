@@ -1,12 +1,12 @@
-//! The run of one request through the lane machine.
-ghost use Rattle.std.specs.Prelude.{◌≡◌, ◌≤◌, ◌⊎◌, true, None, OnOk, IfOk};
-ghost use Rattle.orb_base.specs.Outcomes.{no_memory, body_len};
-ghost use Rattle.lane_machine.specs.declared.call.LaneCall.TheVariants.{End};
-ghost use Rattle.lane_machine.specs.declared.call.How.TheVariants.{Quiet};
-ghost use Rattle.lane_machine.specs.Machine.{step, end_of, item_place};
-ghost use Rattle.lane_machine.specs.Readiness.{is_ready, IsSound, owed};
+//! The run of requests through the lane machine, one after another.
+ghost use Rattle.std.specs.Prelude.{◌≡◌, ◌≤◌, ◌+◌, true, None, OnOk, IfOk};
+ghost use Rattle.orb_base.specs.Outcomes.{body_len};
+ghost use Rattle.lane_machine.specs.declared.call.LaneCall.TheVariants.{End, Collect};
+ghost use Rattle.lane_machine.specs.declared.doing.Doing.TheVariants.{Free, Given, Busy};
+ghost use Rattle.lane_machine.specs.Machine.{step};
+ghost use Rattle.lane_machine.specs.Readiness.{is_ready, IsSound};
 ghost use Rattle.orb_command.specs.Setup.{pipe_conn};
-ghost use Rattle.orb_command.specs.PingRun.{ping_job, opened, given_state, busy_state, answered_state, idle_state, IsIdle, IsAnswerTo};
+ghost use Rattle.orb_command.specs.PingRun.{IsPingJob, Does, Becomes, Owes, IsSettled, Offers, IsAnswerTo, Carries};
 
 use crate::request::PIPE_CONN;
 use lane_machine::{How, LaneCall, LaneReply, Lanes};
@@ -23,20 +23,22 @@ fn advance(lanes: &mut Lanes, call: &LaneCall) -> Result<LaneReply, NoMemory>
     Ok(reply)
 }
 
-/// Offers the request to the machine as it opened, whose thread is given it.
-fn offer(lanes: &mut Lanes, job: Arc<Job>) -> Result<(), NoMemory>
-    requires machine { lanes.old ≡ opened }
-    requires job { job ≡ ping_job job.id }
-    ensures { OnOk result (lanes.new ≡ given_state job) }
+/// Offers the request to the machine, whose thread is given it, unless a limit of the run is met: whether it was given.
+fn offer(lanes: &mut Lanes, job: Arc<Job>) -> Result<bool, NoMemory>
+    requires free { Does Free lanes.old }
+    requires job { IsPingJob job }
+    ensures { IfOk result (λ given. Offers given lanes.old job lanes.new) }
 {
-    advance(lanes, &LaneCall::Offer(job))?;
-    Ok(())
+    match advance(lanes, &LaneCall::Offer(job))? {
+        LaneReply::Closing => Ok(false),
+        _ => Ok(true),
+    }
 }
 
 /// The thread takes the request.
 fn take(lanes: &mut Lanes, job: &Job) -> Result<Arc<Job>, NoMemory>
-    requires machine { lanes.old ≡ given_state job.now }
-    ensures { IfOk result (λ taken. (taken ≡ job.now) × (lanes.new ≡ busy_state job.now)) }
+    requires { Does (Given job.now) lanes.old }
+    ensures { IfOk result (λ taken. (taken ≡ job.now) × Becomes lanes.new (Busy job.now) lanes.old.calls lanes.old.bytes) }
 {
     match advance(lanes, &LaneCall::Take { thread: 0 })? {
         LaneReply::Given(job) => Ok(job),
@@ -44,12 +46,13 @@ fn take(lanes: &mut Lanes, job: &Job) -> Result<Arc<Job>, NoMemory>
     }
 }
 
-/// The thread finishes the request.
+/// The thread finishes the request, and its answer is owed.
 fn finish(lanes: &mut Lanes, answer: Answer) -> Result<(), NoMemory>
-    requires machine { lanes.old ≡ busy_state answer.job }
-    requires job { answer.job ≡ ping_job answer.job.id }
+    requires busy { Does (Busy answer.job) lanes.old }
+    requires job { IsPingJob answer.job }
     requires short { body_len answer.outcome ≤ MAX_BODY }
-    ensures { OnOk result (lanes.new ≡ answered_state answer.job answer.outcome) }
+    ensures { OnOk result (Owes answer lanes.new × (lanes.new.calls ≡ lanes.old.calls)
+        × (lanes.new.bytes ≡ lanes.old.bytes + body_len answer.outcome)) }
 {
     advance(lanes, &LaneCall::Finish { thread: 0, answer })?;
     Ok(())
@@ -57,9 +60,9 @@ fn finish(lanes: &mut Lanes, answer: Answer) -> Result<(), NoMemory>
 
 /// Collects the answer.
 fn collect(lanes: &mut Lanes, answer: &Answer) -> Result<Answer, NoMemory>
-    requires machine { lanes.old ≡ answered_state answer.now.job answer.now.outcome }
-    requires job { answer.now.job ≡ ping_job answer.now.job.id }
-    ensures { IfOk result (λ collected. (collected ≡ answer.now) × (lanes.new ≡ idle_state answer.now.outcome)) }
+    requires owed { Owes answer.now lanes.old }
+    requires job { IsPingJob answer.now.job }
+    ensures { IfOk result (λ collected. (collected ≡ answer.now) × Becomes lanes.new Free lanes.old.calls lanes.old.bytes) }
 {
     match advance(lanes, &LaneCall::Collect { conn: PIPE_CONN })? {
         LaneReply::Handed(Item::Answered(answer)) => Ok(answer),
@@ -77,43 +80,47 @@ fn answer<S: Serving>(servants: &S, interface: &Text, job: Arc<Job>) -> Answer
 
 /// Finishes and collects an answer.
 fn hand_over(lanes: &mut Lanes, answer: &Answer) -> Result<Answer, NoMemory>
-    requires machine { lanes.old ≡ busy_state answer.now.job }
-    requires job { answer.now.job ≡ ping_job answer.now.job.id }
+    requires busy { Does (Busy answer.now.job) lanes.old }
+    requires job { IsPingJob answer.now.job }
     requires short { body_len answer.now.outcome ≤ MAX_BODY }
-    ensures { IfOk result (λ collected. (collected ≡ answer.now) × (lanes.new ≡ idle_state answer.now.outcome)) }
+    ensures { IfOk result (λ collected. (collected ≡ answer.now)
+        × Becomes lanes.new Free lanes.old.calls (lanes.old.bytes + body_len answer.now.outcome)) }
 {
     finish(lanes, answer.share()?)?;
     collect(lanes, answer)
 }
 
-/// Runs one request on the machine as it opened: it is offered, taken, carried out, finished and collected.
+/// Runs one request on the machine, whose thread is free: it is offered, taken, carried out, finished and collected. None
+/// where a limit of the run is met.
 pub fn carry_out<S: Serving>(
     lanes: &mut Lanes,
     servants: &S,
     interface: &Text,
     job: &Arc<Job>,
-) -> Result<Answer, NoMemory>
-    requires machine { lanes.old ≡ opened }
-    requires job { job.now ≡ ping_job job.now.id }
-    ensures answered { IfOk result (IsAnswerTo job.now (S.outcome servants.now interface.now job.now)) }
-    ensures idle { OnOk result (IsIdle lanes.new) }
+) -> Result<Option<Answer>, NoMemory>
+    requires free { Does Free lanes.old }
+    requires job { IsPingJob job.now }
+    ensures { IfOk result (λ o. Carries o job.now (S.outcome servants.now interface.now job.now) lanes.old lanes.new) }
 {
-    offer(lanes, job.share()?)?;
+    if !offer(lanes, job.share()?)? {
+        return Ok(None);
+    }
     let taken = take(lanes, job.get())?;
     let answer = answer(servants, interface, taken);
-    hand_over(lanes, &answer)
+    let collected = hand_over(lanes, &answer)?;
+    Ok(Some(collected))
 }
 
 /// Ends the connection, to which nothing is owed, and collects its ending.
-pub fn end(lanes: &mut Lanes) -> Result<(), NoMemory>
-    requires { IsIdle lanes.old }
-    ensures { OnOk result (lanes.new ≡ (step lanes.old (End pipe_conn Quiet)).0) }
+pub fn end(lanes: &mut Lanes, how: How) -> Result<(), NoMemory>
+    requires { IsSettled lanes.old }
+    ensures { OnOk result (lanes.new ≡ (step (step lanes.old (End pipe_conn how)).0 (Collect pipe_conn)).0) }
 {
     advance(
         lanes,
         &LaneCall::End {
             conn: PIPE_CONN,
-            how: How::Quiet,
+            how,
         },
     )?;
     advance(lanes, &LaneCall::Collect { conn: PIPE_CONN })?;

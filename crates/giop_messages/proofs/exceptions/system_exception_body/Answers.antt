@@ -1,12 +1,9 @@
-use Rattle.std.proofs.Common.{◌≡◌, refl}
-use Rattle.giop_messages.proofs.WritingLaws.{exception_parts, exception_written}
+-- A repository id is short, and so is the body.
+use Rattle.std.proofs.Common.{◌≡◌, ◌≤◌, List, ℕ, length, ap, sym, subst}
+use Rattle.giop_messages.proofs.WritingLaws.{exception_short}
 use Rattle.giop_messages.proofs.exceptions.system_exception_body.Goals as goal
 
-pub returns : goal.returns
-returns c =
-    let id = c.repository_id-id.result.now in
-    let status = c.completion_status.result in
-    let put : c.put_u32-3.new.out.items ≡ exception_parts id c.args.system.minor status =
-    rw (c.in_ok-put_u32-3.ensures, c.in_ok-put_u32-2.ensures, c.in_ok-append-3.ensures.ok, c.in_ok-append-2.ensures.ok, c.in_ok-append.ensures.ok, c.in_ok-put_u32.ensures, c.reserve.ensures.items, c.new-out.ensures) refl
-    in
-    exception_written c.args.system id status c.put_u32-3.new.out.items c.repository_id-id.ensures.value c.repository_id-id.ensures.short c.completion_status.ensures put
+pub returns-clause-short : goal.returns-clause-short
+returns-clause-short c =
+    let short : length c.in-Ok.id ≤ 64 = subst (λ (text : List ℕ). length text ≤ 64) (sym c.in-Ok.ensures.0) c.repository_id.ensures.short in
+    exception_short c.args.order _ c.args.system.minor c.completion_status-code.result c.spell.result short c.spell.ensures

@@ -1,12 +1,29 @@
--- An input that is read as nothing, or as a request for another object, isn't built.
-use Rattle.std.proofs.Common.{None, Some}
-use Rattle.orb_command.proofs.BuiltInput.{other_input, not_empty, other_key}
+-- The whole input was fed at once.
+use Rattle.std.proofs.Common.{List, length, sym, ap, ◌∙◌, subst, arith}
+use Rattle.std.specs.Prelude.{IfOk}
+use Rattle.std.specs.List.{All}
+use Rattle.orb_base.specs.declared.limits.TheConstants.{MAX_MESSAGE}
+use Rattle.giop_frames.specs.Messages.{Message}
+use Rattle.giop_messages.specs.MessageReading.{IsMessage}
+use Rattle.giop_messages.proofs.CallerLemmas.{streams_messages}
+use Rattle.orb_command.specs.Hearing.{MeansJobs}
+use Rattle.orb_command.proofs.StreamCounts.{few_messages}
+use Rattle.orb_command.proofs.HearingLaws.{fed_all, no_rest, heard_as}
 use Rattle.orb_command.proofs.request.hear.Goals as goal
 
-pub returns-else-eq : goal.returns-else-eq
-returns-else-eq c =
-    other_input c.args.input.now (Some (c.in-Some.request.id, c.in-Some.request.key.now)) (not_empty _ _ c.is_empty.ensures c.if-is_empty.false)
-    c.in-Some.ensures.only (other_key _ _ c.eq.ensures c.if-eq.false)
+pub jobs_of-requires-clause-messages : goal.jobs_of-requires-clause-messages
+jobs_of-requires-clause-messages c =
+    let all = fed_all c.in_ok-framer.framer c.feed.new.self c.new-messages.result.items c.feed.new.whole.items c.args.input.now c.in_ok-framer.ensures c.feed.ensures.fed.0 c.feed.ensures.fed.1 c.new-messages.ensures c.in-Ok.ensures.tells in
+    subst (λ (ms : List Message). All IsMessage ms) (sym (c.as_slice.ensures ∙ all.gives)) (streams_messages MAX_MESSAGE c.args.input.now (omega arith))
 
-pub returns-in-None : goal.returns-in-None
-returns-in-None c = other_input c.args.input.now None (not_empty _ _ c.is_empty.ensures c.if-is_empty.false) c.in-None.ensures.only tt
+pub jobs_of-requires-clause-few : goal.jobs_of-requires-clause-few
+jobs_of-requires-clause-few c =
+    let all = fed_all c.in_ok-framer.framer c.feed.new.self c.new-messages.result.items c.feed.new.whole.items c.args.input.now c.in_ok-framer.ensures c.feed.ensures.fed.0 c.feed.ensures.fed.1 c.new-messages.ensures c.in-Ok.ensures.tells in
+    omega (arith, ap length (c.as_slice.ensures ∙ all.gives), few_messages MAX_MESSAGE c.args.input.now, c.requires)
+
+pub returns : goal.returns
+returns c =
+    let all = fed_all c.in_ok-framer.framer c.feed.new.self c.new-messages.result.items c.feed.new.whole.items c.args.input.now c.in_ok-framer.ensures c.feed.ensures.fed.0 c.feed.ensures.fed.1 c.new-messages.ensures c.in-Ok.ensures.tells in
+    let whole = no_rest c.args.input.now c.feed.new.self c.feed.new.whole.items c.rest.result all (c.rest.ensures all.enough) (sym c.is_some.ensures ∙ c.if-is_some.false) in
+    heard_as c.args.input.now c.feed.new.self c.feed.new.whole.items c.jobs_of.result all c.requires whole
+    (subst (λ (ms : List Message). IfOk c.jobs_of.result (MeansJobs ms)) c.as_slice.ensures c.jobs_of.ensures)

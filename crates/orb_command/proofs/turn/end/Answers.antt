@@ -9,4 +9,4 @@ use Rattle.orb_command.proofs.turn.end.Goals as goal
 
 pub advance-requires-2-clause-ready : goal.advance-requires-2-clause-ready
 advance-requires-2-clause-ready c =
-    subst (λ (s : State). is_ready s (Collect pipe_conn) ≡ true) (sym c.in_ok-advance.ensures.0) (end_ready c.args.lanes.now c.requires)
+    subst (λ (s : State). is_ready s (Collect pipe_conn) ≡ true) (sym c.in_ok-advance.ensures.0) (end_ready c.args.lanes.now c.args.how c.requires)

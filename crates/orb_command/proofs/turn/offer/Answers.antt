@@ -1,12 +1,9 @@
--- The machine as it opened gives the request to its thread.
-use Rattle.std.proofs.Common.{ap, ◌∙◌}
-use Rattle.lane_machine.specs.declared.call.LaneReply.{LaneReply}
-use Rattle.lane_machine.specs.State.{State}
-use Rattle.orb_command.proofs.Turns.{offer_ready, offer_step}
+-- An idle machine gives the request to its thread, or closes.
+use Rattle.orb_command.proofs.Turns.{offer_ready, offered_given}
 use Rattle.orb_command.proofs.turn.offer.Goals as goal
 
 pub advance-requires-clause-ready : goal.advance-requires-clause-ready
-advance-requires-clause-ready c = offer_ready _ _ c.requires.machine c.requires.job
+advance-requires-clause-ready c = offer_ready _ _ c.requires.free c.requires.job
 
 pub returns : goal.returns
-returns c = c.in_ok-advance.ensures.0 ∙ ap (λ (next : State × LaneReply). next.0) (offer_step _ _ c.requires.machine c.requires.job)
+returns c = offered_given _ _ _ _ c.requires.free c.requires.job c.in_ok-advance.ensures.0 c.in_ok-advance.ensures.1 c.in_default.not-Closing

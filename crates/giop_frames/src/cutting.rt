@@ -1,0 +1,124 @@
+//! A whole message cut into pieces (CORBA 3.0.3, section 15.4.9).
+ghost use Rattle.std.specs.Prelude.{◌≡◌, ◌≤◌, ◌<◌, ◌+◌, ◌-◌, ◌%◌, ◌^◌, ◌∷◌, ◌++◌, [], length, take, drop, slice_index, true, false, IfOk, OnOk, if◌then◌else◌, IsTrue, ◌↔◌};
+ghost use Rattle.std.specs.Int.{w32};
+ghost use Rattle.cdr_core.specs.Field.{number_bytes};
+ghost use Rattle.giop_frames.specs.Pieces.{order_of as order_in, has_more as has_more_in};
+ghost use Rattle.giop_frames.specs.Splitting as Spec;
+ghost use Rattle.giop_frames.specs.Splitting.{IsUncut, ArePiecesOf, AreFull, ReadsAs, piece_of};
+
+use crate::header::{HEADER, has_magic, has_more, has_version, kind_of, order_of, piece_len};
+use crate::partials::long_of;
+use orb_base::{List, NoMemory, Octets};
+use std::alloc::Global;
+
+/// The length of an id in bytes.
+const ID: usize = 4;
+
+/// The kind of a Fragment.
+const FRAGMENT: u8 = 7;
+
+/// The flags of a message of one piece, with the fragment bit set where more pieces follow.
+#[tactic(auto, unfolding(crate::specs::Pieces::has_more))]
+fn flags_of(message: &[u8], more: bool) -> u8
+    requires header { 12 ≤ length message.now }
+    requires alone { has_more_in message.now ≡ false }
+    ensures { result ≡ slice_index message.now 6 + (if more then 2 else 0) }
+{
+    if more { message[6] + 2 } else { message[6] }
+}
+
+/// A piece of a message: a header of this kind, the message's id, and some of its further bytes.
+#[tactic(auto, unfolding(crate::specs::Splitting::piece_of))]
+fn piece(
+    alloc: Global,
+    message: &[u8],
+    more: bool,
+    kind: u8,
+    bytes: &[u8],
+) -> Result<Octets, NoMemory>
+    requires header { 16 ≤ length message.now }
+    requires alone { has_more_in message.now ≡ false }
+    requires fits { 4 + length bytes.now < 2 ^ 32 }
+    ensures { IfOk result (λ p. p.items ≡ piece_of message.now more kind bytes.now) }
+{
+    let flags = flags_of(message, more);
+    let size = (ID + bytes.len()) as u32;
+    let mut all = Octets::new(alloc);
+    all.reserve(HEADER + ID + bytes.len())?;
+    all.append(&message[..6])?;
+    all.append(&[flags, kind])?;
+    all.append(&long_of(order_of(message), size))?;
+    all.append(&message[HEADER..HEADER + ID])?;
+    all.append(bytes)?;
+    Ok(all)
+}
+
+fn put(pieces: &mut List<Octets>, piece: Octets) -> Result<(), NoMemory>
+    ensures { OnOk result (pieces.new.items ≡ pieces.old.items ++ piece ∷ []) }
+{
+    match pieces.push(piece) {
+        Ok(()) => Ok(()),
+        Err(_) => Err(NoMemory),
+    }
+}
+
+/// Whether a kind of message may come in fragments.
+#[tactic(auto, unfolding(crate::specs::Splitting::is_long_kind))]
+fn is_long_kind(kind: u8) -> bool
+    ensures { result ≡ Spec.is_long_kind kind }
+{
+    kind == 0 || kind == 1 || kind == 3 || kind == 4
+}
+
+/// Whether `split` takes a message: a whole one of one piece, of a kind that may come in fragments, with its id.
+pub fn can_split(message: &[u8]) -> bool
+    ensures { IsTrue result ↔ IsUncut message.now }
+{
+    message.len() >= HEADER + ID
+        && has_magic(message)
+        && has_version(message)
+        && !has_more(message)
+        && is_long_kind(kind_of(message))
+        && message.len() == piece_len(message)
+}
+
+/// Cuts a whole message of one piece into pieces of at most `limit` bytes, their headers included: a Request, Reply,
+/// LocateRequest or LocateReply, of at least 16 bytes. The limit is a multiple of 8.
+///
+/// A message within the limit is one piece, itself. Else the first piece is its first `limit` bytes with the fragment bit
+/// and the size of the piece, and Fragments with its id and its order carry the further bytes. Each piece but the last has
+/// exactly `limit` bytes. Each byte is copied once; memory is taken once for each piece, and the list of them grows.
+pub fn split(alloc: Global, message: &[u8], limit: usize) -> Result<List<Octets>, NoMemory>
+    requires message { IsUncut message.now }
+    requires eights { limit % 8 ≡ 0 }
+    requires least { 24 ≤ limit }
+    ensures pieces { IfOk result (λ ps. ArePiecesOf limit message.now ps.items) }
+    ensures full { IfOk result (λ ps. AreFull limit ps.items) }
+    ensures reads { IfOk result (λ ps. ReadsAs message.now ps.items) }
+{
+    let mut pieces = List::new(alloc);
+    if message.len() <= limit {
+        let mut lone = Octets::new(alloc);
+        lone.append(message)?;
+        put(&mut pieces, lone)?;
+        return Ok(pieces);
+    }
+    let room = limit - (HEADER + ID);
+    let (front, mut left) = message.split_at(limit);
+    let first = piece(
+        alloc,
+        message,
+        true,
+        kind_of(message),
+        &front[HEADER + ID..],
+    )?;
+    put(&mut pieces, first)?;
+    while left.len() > room {
+        let middle = piece(alloc, message, true, FRAGMENT, &left[..room])?;
+        put(&mut pieces, middle)?;
+        left = &left[room..];
+    }
+    let last = piece(alloc, message, false, FRAGMENT, left)?;
+    put(&mut pieces, last)?;
+    Ok(pieces)
+}

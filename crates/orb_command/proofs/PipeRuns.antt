@@ -1,0 +1,281 @@
+-- A run of the pipe's jobs, one after another, is what the pipe is defined to do with their calls.
+use Rattle.std.proofs.Common.{◌≡◌, ℕ, suc, ◌+◌, ◌<◌, ◌≤◌, Bool, true, false, List, [], ◌∷◌, ◌++◌, refl, sym, ap, ◌∙◌, subst, inl, inr, arith, append_assoc, append-nil}
+use Rattle.std.specs.Prelude.{◌⊎◌, ◌==◌, ◌||◌, if◌then◌else◌}
+use Rattle.std.specs.List.{list_any}
+use Rattle.std.proofs.lemmas.Bool.{ne_eqb}
+use Rattle.std.proofs.lemmas.Bool.Decides.{eqb_tells}
+use Rattle.orb_base.specs.Outcomes.{no_memory, body_len}
+use Rattle.orb_base.specs.JobRecord.{JobRecord}
+use Rattle.orb_base.specs.declared.limits.TheConstants.{MAX_BODY}
+use Rattle.orb_base.specs.declared.order.Order.{Order}
+use Rattle.orb_base.specs.declared.outcome.Outcome.{Outcome}
+use Rattle.orb_base.specs.declared.item.Item.TheVariants.{Answered}
+use Rattle.lane_machine.specs.declared.call.LaneCall.{LaneCall}
+use Rattle.lane_machine.specs.declared.call.LaneCall.TheVariants.{Offer, Take, Finish, Collect}
+use Rattle.lane_machine.specs.declared.call.LaneReply.{LaneReply}
+use Rattle.lane_machine.specs.declared.call.LaneReply.TheVariants as reply
+use Rattle.lane_machine.specs.declared.doing.Doing.TheVariants.{Free, Given}
+use Rattle.lane_machine.specs.State.{State}
+use Rattle.lane_machine.specs.Choice.{chosen_thread, next_job}
+use Rattle.lane_machine.specs.Machine.{step, is_over, offered}
+use Rattle.lane_machine.specs.Readiness.{owed}
+use Rattle.lane_machine.specs.History.{Entry}
+use Rattle.lane_machine.specs.Histories.{History, replay, IsLegal}
+use Rattle.orb_command.specs.Setup.{built_in, pipe_conn, interface_of}
+use Rattle.orb_command.specs.Said.{said, item_bytes}
+use Rattle.orb_command.specs.Piped.{Run, settled, grouped, answer_of}
+use Rattle.orb_command.specs.PingRun.{ping_job, IsPingJob, ArePingJobs, offers, with_thread, IsSettled, Ran, Runs, ping_interface}
+
+-- ---- words
+
+eqb-same : (n : ℕ) → (n == n) ≡ true
+eqb-same n = elim (eqb_tells n n) [ inl same ↦ same.0 | inr other ↦ absurd (other.1 refl) ]
+
+abbrev pub at : State → History → Run
+at s h = record { state = s; history = h }
+
+abbrev entry : LaneCall → LaneReply → Entry LaneCall LaneReply
+entry call answer = record { caller = 0; call = call; reply = answer }
+
+abbrev pub idle : ℕ → ℕ → State
+idle calls bytes = with_thread Free calls bytes
+
+abbrev pub shut : ℕ → ℕ → State
+shut calls bytes = record (idle calls bytes) { closing = true }
+
+-- what the thread does behind an offer
+abbrev rest_of_deeds : JobRecord → Outcome → History
+rest_of_deeds job answer =
+    entry (Take 0) (reply.Given job) ∷ entry (Finish 0 (record { job = job; outcome = answer })) reply.Finished
+    ∷ entry (Collect pipe_conn) (reply.Handed (Answered (record { job = job; outcome = answer }))) ∷ []
+
+-- what is done for a job
+abbrev deeds : JobRecord → Outcome → History
+deeds job answer = entry (Offer job) (reply.Run 0 false) ∷ rest_of_deeds job answer
+
+-- ---- one job
+
+pub offer_runs : (c b serial size id : ℕ) (order : Order) → is_over (idle c b) size ≡ false
+    → step (idle c b) (Offer (ping_job serial order size id)) ≡ (with_thread (Given (ping_job serial order size id)) (c + 1) (b + size), reply.Run 0 false)
+unfolding chosen_thread
+offer_runs c b serial size id order over = ap (λ (x : Bool). offered (idle c b) (ping_job serial order size id) x) over
+
+pub offer_closes : (c b : ℕ) (job : JobRecord) → is_over (idle c b) job.size ≡ true → step (idle c b) (Offer job) ≡ (shut c b, reply.Closing)
+offer_closes c b job over = ap (λ (x : Bool). offered (idle c b) job x) over
+
+four : (h : History) (e f g k : Entry LaneCall LaneReply) → (((h ++ e ∷ []) ++ f ∷ []) ++ g ∷ []) ++ k ∷ [] ≡ h ++ e ∷ f ∷ g ∷ k ∷ []
+four h e f g k = simp append_assoc
+
+-- a given job is taken, finished and collected
+settles : (servant : JobRecord → Outcome) (c b serial size id : ℕ) (order : Order) (h : History) → let job = ping_job serial order size id in
+    settled servant (at (with_thread (Given job) c b) h)
+    ≡ at (idle c (b + body_len (servant job)))
+    (((h ++ entry (Take 0) (reply.Given job) ∷ []) ++ entry (Finish 0 (record { job = job; outcome = servant job })) reply.Finished ∷ [])
+    ++ entry (Collect pipe_conn) (reply.Handed (Answered (record { job = job; outcome = servant job }))) ∷ [])
+unfolding next_job
+settles servant c b serial size id order h = refl
+
+ping_grouped : (servant : JobRecord → Outcome) (c b serial size id : ℕ) (order : Order) (h : History) (calls : List LaneCall) → is_over (idle c b) size ≡ false
+    → let job = ping_job serial order size id in
+    grouped servant 1 1 (at (idle c b) h) (Offer job ∷ calls)
+    ≡ grouped servant 1 1 (at (idle (c + 1) (b + size + body_len (servant job))) (h ++ deeds job (servant job))) calls
+unfolding owed
+ping_grouped servant c b serial size id order h calls over =
+    let job = ping_job serial order size id in
+    let e = entry (Offer job) (reply.Run 0 false) in
+    let first = ap (λ (x : State × LaneReply). grouped servant 1 1 (settled servant (at x.0 (h ++ entry (Offer job) x.1 ∷ []))) calls) (offer_runs c b serial size id order over) in
+    let follows = settles servant (c + 1) (b + size) serial size id order (h ++ e ∷ []) in
+    let whole = four h e (entry (Take 0) (reply.Given job)) (entry (Finish 0 (record { job = job; outcome = servant job })) reply.Finished)
+    (entry (Collect pipe_conn) (reply.Handed (Answered (record { job = job; outcome = servant job })))) in
+    first ∙ ap (λ (r : Run). grouped servant 1 1 r calls) (follows ∙ ap (at (idle (c + 1) (b + size + body_len (servant job)))) whole)
+
+one_grouped : (servant : JobRecord → Outcome) (c b : ℕ) (job : JobRecord) (h : History) (calls : List LaneCall) → IsPingJob job → is_over (idle c b) job.size ≡ false
+    → grouped servant 1 1 (at (idle c b) h) (Offer job ∷ calls)
+    ≡ grouped servant 1 1 (at (idle (c + 1) (b + job.size + body_len (servant job))) (h ++ deeds job (servant job))) calls
+one_grouped servant c b job h calls ping over =
+    subst (λ (j : JobRecord). grouped servant 1 1 (at (idle c b) h) (Offer j ∷ calls)
+    ≡ grouped servant 1 1 (at (idle (c + 1) (b + j.size + body_len (servant j))) (h ++ deeds j (servant j))) calls)
+    (sym ping) (ping_grouped servant c b job.serial job.size job.id job.order h calls over)
+
+shut_stays : (servant : JobRecord → Outcome) (c b : ℕ) (h : History) (calls : List LaneCall) → grouped servant 1 1 (at (shut c b) h) calls ≡ at (shut c b) h
+shut_stays servant c b h [] = refl
+shut_stays servant c b h (call ∷ calls) = refl
+
+shut_grouped : (servant : JobRecord → Outcome) (c b serial size id : ℕ) (order : Order) (h : History) (calls : List LaneCall) → is_over (idle c b) size ≡ true
+    → let job = ping_job serial order size id in
+    grouped servant 1 1 (at (idle c b) h) (Offer job ∷ calls) ≡ at (shut c b) (h ++ entry (Offer job) reply.Closing ∷ [])
+unfolding owed
+shut_grouped servant c b serial size id order h calls over =
+    let job = ping_job serial order size id in
+    ap (λ (x : State × LaneReply). grouped servant 1 1 (settled servant (at x.0 (h ++ entry (Offer job) x.1 ∷ []))) calls) (offer_closes c b job over)
+    ∙ shut_stays servant c b (h ++ entry (Offer job) reply.Closing ∷ []) calls
+
+one_shut : (servant : JobRecord → Outcome) (c b : ℕ) (job : JobRecord) (h : History) (calls : List LaneCall) → IsPingJob job → is_over (idle c b) job.size ≡ true
+    → grouped servant 1 1 (at (idle c b) h) (Offer job ∷ calls) ≡ at (shut c b) (h ++ entry (Offer job) reply.Closing ∷ [])
+one_shut servant c b job h calls ping over =
+    subst (λ (j : JobRecord). grouped servant 1 1 (at (idle c b) h) (Offer j ∷ calls) ≡ at (shut c b) (h ++ entry (Offer j) reply.Closing ∷ []))
+    (sym ping) (shut_grouped servant c b job.serial job.size job.id job.order h calls over)
+
+-- ---- what is done for a job is legal, and leads where it should
+
+ping_legal : (c b serial size id : ℕ) (order : Order) (answer : Outcome) (h : History) → is_over (idle c b) size ≡ false → body_len answer ≤ MAX_BODY
+    → IsLegal (idle (c + 1) (b + size + body_len answer)) h → IsLegal (idle c b) (deeds (ping_job serial order size id) answer ++ h)
+unfolding owed next_job
+ping_legal c b serial size id order answer h over short legal =
+    let job = ping_job serial order size id in
+    let runs = offer_runs c b serial size id order over in
+    let behind : IsLegal (with_thread (Given job) (c + 1) (b + size)) (rest_of_deeds job answer ++ h) =
+    (refl, refl, refl, (refl, (refl, short), refl, (refl, tt, refl, legal))) in (
+      refl,
+      λ _. refl,
+      sym (ap (λ (x : State × LaneReply). x.1) runs),
+      subst (λ (s : State). IsLegal s (rest_of_deeds job answer ++ h)) (sym (ap (λ (x : State × LaneReply). x.0) runs)) behind,
+    )
+
+one_legal : (c b : ℕ) (job : JobRecord) (answer : Outcome) (h : History) → IsPingJob job → is_over (idle c b) job.size ≡ false → body_len answer ≤ MAX_BODY
+    → IsLegal (idle (c + 1) (b + job.size + body_len answer)) h → IsLegal (idle c b) (deeds job answer ++ h)
+one_legal c b job answer h ping over short legal =
+    subst (λ (j : JobRecord). IsLegal (idle c b) (deeds j answer ++ h)) (sym ping)
+    (ping_legal c b job.serial job.size job.id job.order answer h over short legal)
+
+ping_stands : (c b serial size id : ℕ) (order : Order) (answer : Outcome) (h : History) → is_over (idle c b) size ≡ false
+    → replay (idle c b) (deeds (ping_job serial order size id) answer ++ h) ≡ replay (idle (c + 1) (b + size + body_len answer)) h
+unfolding next_job
+ping_stands c b serial size id order answer h over =
+    ap (λ (x : State × LaneReply). replay x.0 (rest_of_deeds (ping_job serial order size id) answer ++ h)) (offer_runs c b serial size id order over)
+
+one_stands : (c b : ℕ) (job : JobRecord) (answer : Outcome) (h : History) → IsPingJob job → is_over (idle c b) job.size ≡ false
+    → replay (idle c b) (deeds job answer ++ h) ≡ replay (idle (c + 1) (b + job.size + body_len answer)) h
+one_stands c b job answer h ping over =
+    subst (λ (j : JobRecord). replay (idle c b) (deeds j answer ++ h) ≡ replay (idle (c + 1) (b + j.size + body_len answer)) h) (sym ping)
+    (ping_stands c b job.serial job.size job.id job.order answer h over)
+
+one_says : (job : JobRecord) (answer : Outcome) (h : History) → said pipe_conn (deeds job answer ++ h) ≡ item_bytes (Answered (record { job = job; outcome = answer })) ++ said pipe_conn h
+one_says job answer h = refl
+
+shut_legal : (c b : ℕ) (job : JobRecord) → IsPingJob job → is_over (idle c b) job.size ≡ true → IsLegal (idle c b) (entry (Offer job) reply.Closing ∷ [])
+unfolding owed
+shut_legal c b job ping over =
+    subst (λ (j : JobRecord). is_over (idle c b) j.size ≡ true → IsLegal (idle c b) (entry (Offer j) reply.Closing ∷ [])) (sym ping)
+    (λ over. (refl, λ _. refl, sym (ap (λ (x : State × LaneReply). x.1) (offer_closes c b (ping_job job.serial job.order job.size job.id) over)), tt)) over
+
+-- ---- all jobs
+
+-- the answers are those of the servant, as far as they go
+abbrev pub Agrees : (JobRecord → Outcome) → List JobRecord → List Outcome → Type 0
+Agrees servant [] answers = Unit {0}
+Agrees servant (job ∷ jobs) [] = Unit {0}
+Agrees servant (job ∷ jobs) (answer ∷ answers) = (servant job ≡ answer) × Agrees servant jobs answers
+
+-- each answer is the outcome, or came for want of memory
+abbrev pub Came : (List ℕ → JobRecord → Outcome) → List JobRecord → List Outcome → Type 0
+Came outcome [] answers = Unit {0}
+Came outcome (job ∷ jobs) [] = Unit {0}
+Came outcome (job ∷ jobs) (answer ∷ answers) = ((answer ≡ outcome ping_interface job) ⊎ (answer ≡ no_memory)) × Came outcome jobs answers
+
+pub record Grouped (outcome : List ℕ → JobRecord → Outcome) (jobs : List JobRecord) (c b : ℕ) (s : State) (bytes : List ℕ) : Type 0 where
+  pub answers : List Outcome
+  pub came : Came outcome jobs answers
+  pub history : History
+  pub run : (servant : JobRecord → Outcome) → Agrees servant jobs answers → (h : History) → grouped servant 1 1 (at (idle c b) h) (offers jobs) ≡ at s (h ++ history)
+  pub legal : IsLegal (idle c b) history
+  pub stands : replay (idle c b) history ≡ s
+  pub says : said pipe_conn history ≡ bytes
+  pub settled_so : IsSettled s
+
+none_grouped : (outcome : List ℕ → JobRecord → Outcome) (c b : ℕ) → Grouped outcome [] c b (idle c b) []
+none_grouped outcome c b = record {
+  answers = [];
+  came = tt;
+  history = [];
+  run = λ servant _ h. ap (at (idle c b)) (sym (append-nil h));
+  legal = tt;
+  stands = refl;
+  says = refl;
+  settled_so = refl;
+}
+
+shut_run : (outcome : List ℕ → JobRecord → Outcome) (job : JobRecord) (jobs : List JobRecord) (c b : ℕ) → IsPingJob job → is_over (idle c b) job.size ≡ true → Grouped outcome (job ∷ jobs) c b (shut c b) []
+shut_run outcome job jobs c b ping over = record {
+  answers = [];
+  came = tt;
+  history = entry (Offer job) reply.Closing ∷ [];
+  run = λ servant _ h. one_shut servant c b job h (offers jobs) ping over;
+  legal = shut_legal c b job ping over;
+  stands = ap (λ (x : State × LaneReply). x.0) (offer_closes c b job over);
+  says = refl;
+  settled_so = refl;
+}
+
+more_grouped : (outcome : List ℕ → JobRecord → Outcome) (job : JobRecord) (jobs : List JobRecord) (c b : ℕ) (mid s : State) (first rest : List ℕ) → IsPingJob job
+    → (ran : Ran outcome job (idle c b) mid first) → Grouped outcome jobs (c + 1) (b + job.size + body_len ran.answer) s rest
+    → Grouped outcome (job ∷ jobs) c b s (first ++ rest)
+more_grouped outcome job jobs c b mid s first rest ping ran others = record {
+  answers = ran.answer ∷ others.answers;
+  came = (ran.came, others.came);
+  history = deeds job ran.answer ++ others.history;
+  run = λ servant agrees h.
+      one_grouped servant c b job h (offers jobs) ping ran.admitted
+      ∙ ap (λ (o : Outcome). grouped servant 1 1 (at (idle (c + 1) (b + job.size + body_len o)) (h ++ deeds job o)) (offers jobs)) agrees.0
+      ∙ others.run servant agrees.1 (h ++ deeds job ran.answer)
+      ∙ ap (at s) (simp append_assoc);
+  legal = one_legal c b job ran.answer others.history ping ran.admitted ran.short others.legal;
+  stands = one_stands c b job ran.answer others.history ping ran.admitted ∙ others.stands;
+  says = one_says job ran.answer others.history ∙ ap (λ (x : List ℕ). x ++ said pipe_conn others.history) (sym ran.reply) ∙ ap (λ (x : List ℕ). first ++ x) others.says;
+  settled_so = others.settled_so;
+}
+
+pub runs_grouped : (outcome : List ℕ → JobRecord → Outcome) (n : ℕ) (jobs : List JobRecord) (c b : ℕ) (s : State) (bytes : List ℕ) → ArePingJobs n jobs → Runs outcome jobs (idle c b) s bytes → Grouped outcome jobs c b s bytes
+runs_grouped outcome n [] c b s bytes pings (is, none) =
+    subst (λ (x : State). Grouped outcome [] c b x bytes) (sym is) (subst (λ (x : List ℕ). Grouped outcome [] c b (idle c b) x) (sym none) (none_grouped outcome c b))
+runs_grouped outcome n (job ∷ jobs) c b s bytes (ping, numbered, pings) (inl refused) =
+    subst (λ (x : State). Grouped outcome (job ∷ jobs) c b x bytes) (sym refused.moved)
+    (subst (λ (x : List ℕ). Grouped outcome (job ∷ jobs) c b (shut c b) x) (sym refused.silent) (shut_run outcome job jobs c b ping refused.over))
+runs_grouped outcome n (job ∷ jobs) c b s bytes (ping, numbered, pings) (inr (mid, first, rest, ran, runs, joined)) =
+    let further = runs_grouped outcome (suc n) jobs (c + 1) (b + job.size + body_len ran.answer) s rest pings (subst (λ (x : State). Runs outcome jobs x s rest) ran.moved runs) in
+    subst (λ (x : List ℕ). Grouped outcome (job ∷ jobs) c b s x) (sym joined) (more_grouped outcome job jobs c b mid s first rest ping ran further)
+
+-- ---- the jobs for which memory was wanting
+
+pub record Lacking (outcome : List ℕ → JobRecord → Outcome) (n : ℕ) (jobs : List JobRecord) (answers : List Outcome) : Type 0 where
+  pub lacks : List ℕ
+  pub later : (m : ℕ) → m < n → list_any (λ serial. serial == m) lacks ≡ false
+  pub agrees : Agrees (answer_of built_in outcome lacks) jobs answers
+
+-- one more serial among them says nothing of later jobs
+weaker : (outcome : List ℕ → JobRecord → Outcome) (n k : ℕ) (lacks : List ℕ) (jobs : List JobRecord) (answers : List Outcome) → n < k → ArePingJobs k jobs
+    → Agrees (answer_of built_in outcome lacks) jobs answers → Agrees (answer_of built_in outcome (n ∷ lacks)) jobs answers
+weaker outcome n k lacks [] answers lt pings agrees = tt
+weaker outcome n k lacks (job ∷ jobs) [] lt pings agrees = tt
+weaker outcome n k lacks (job ∷ jobs) (answer ∷ answers) lt (ping, numbered, pings) (first, others) =
+    let other : (n == job.serial) ≡ false = ne_eqb n job.serial (λ same. omega (arith, same, numbered)) in
+    let here = ap (λ (x : Bool). if (x || list_any (λ serial. serial == job.serial) lacks) then no_memory else outcome (interface_of built_in job.target) job) other in
+    (here ∙ first, weaker outcome n (suc k) lacks jobs answers (omega arith) pings others)
+
+served : (outcome : List ℕ → JobRecord → Outcome) (lacks : List ℕ) (job : JobRecord) → IsPingJob job → list_any (λ serial. serial == job.serial) lacks ≡ false
+    → answer_of built_in outcome lacks job ≡ outcome ping_interface job
+served outcome lacks job ping none =
+    ap (λ (x : Bool). if x then no_memory else outcome (interface_of built_in job.target) job) none
+    ∙ ap (λ (target : ℕ). outcome (interface_of built_in target) job) (ap (λ (j : JobRecord). j.target) ping)
+
+pub lacking : (outcome : List ℕ → JobRecord → Outcome) (n : ℕ) (jobs : List JobRecord) (answers : List Outcome) → ArePingJobs n jobs → Came outcome jobs answers → Lacking outcome n jobs answers
+lacking outcome n [] answers pings came = record { lacks = []; later = λ m lt. refl; agrees = tt }
+lacking outcome n (job ∷ jobs) [] pings came = record { lacks = []; later = λ m lt. refl; agrees = tt }
+lacking outcome n (job ∷ jobs) (answer ∷ answers) (ping, numbered, pings) (inl is, came) =
+    let others = lacking outcome (suc n) jobs answers pings came in
+    record {
+      lacks = others.lacks;
+      later = λ m lt. others.later m (omega arith);
+      agrees = (served outcome others.lacks job ping (others.later job.serial (omega (arith, numbered))) ∙ sym is, others.agrees);
+    }
+lacking outcome n (job ∷ jobs) (answer ∷ answers) (ping, numbered, pings) (inr is, came) =
+    let others = lacking outcome (suc n) jobs answers pings came in
+    let here : (n == job.serial) ≡ true = subst (λ (m : ℕ). (n == m) ≡ true) (sym numbered) (eqb-same n) in
+    record {
+      lacks = n ∷ others.lacks;
+      later = λ m lt. ap (λ (x : Bool). x || list_any (λ serial. serial == m) others.lacks) (ne_eqb n m (λ same. omega (arith, same))) ∙ others.later m (omega arith);
+      agrees = (
+        ap (λ (x : Bool). if (x || list_any (λ serial. serial == job.serial) others.lacks) then no_memory else outcome (interface_of built_in job.target) job) here ∙ sym is,
+        weaker outcome n (suc n) others.lacks jobs answers (omega arith) pings others.agrees,
+      );
+    }

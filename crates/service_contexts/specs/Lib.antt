@@ -1,0 +1,6 @@
+pub mod Layout
+pub mod Carrying
+pub mod Reading
+pub mod Moves
+pub mod Telling
+pub mod Laws

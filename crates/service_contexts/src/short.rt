@@ -1,0 +1,25 @@
+//! Priorities as shorts.
+ghost use Rattle.std.specs.Prelude.{◌≡◌};
+ghost use Rattle.std.specs.Int.{w16};
+ghost use Rattle.cdr_core.specs.Field.{number_bytes};
+
+use orb_base::{Order, Priority};
+
+/// The number that a short carries.
+pub fn short_of(priority: Priority) -> u16
+    ensures { result ≡ priority }
+{
+    priority.get() as u16
+}
+
+/// The short's bytes in this order.
+#[tactic(auto, unfolding(cdr_core::specs::Field::number_bytes))]
+pub fn short_bytes(order: Order, priority: Priority) -> [u8; 2]
+    ensures { result ≡ number_bytes order w16 priority }
+{
+    let short = short_of(priority);
+    match order {
+        Order::Big => short.to_be_bytes(),
+        Order::Little => short.to_le_bytes(),
+    }
+}
