@@ -42,8 +42,3 @@ CountsReadAll read.NoMemory faults ends = Unit {0}
 abbrev pub WritesAll : WriteAll → List ℕ → Told → Told → ℕ × ℕ → Type 0
 WritesAll write.Whole bytes held held' faults = (held' ≡ option_map (λ h. h ++ bytes) held) × (faults.0 ≤ faults.1)
 WritesAll write.Failed bytes held held' faults = ((rest : List ℕ) × WroteSome bytes rest held held') × Rose faults.0 faults.1
-
--- a whole write lowers no count of faults
-abbrev pub CountsWriteAll : WriteAll → ℕ × ℕ → Type 0
-CountsWriteAll write.Whole faults = faults.0 ≤ faults.1
-CountsWriteAll write.Failed faults = Unit {0}

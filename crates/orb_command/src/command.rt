@@ -55,8 +55,8 @@ fn note_for(ran: Result<Piped, PipeFault>) -> Note
 }
 
 /// Does all that the program does: reads the words, runs the command over the input and the output, and answers the
-/// status with its note. `pipe` answers each request of its input; the other commands aren't built yet. It returns
-/// where each read and write returns.
+/// status with its note. `pipe` answers each request of its input, and `dump` writes a line for each message of it; the
+/// other commands aren't built yet. It returns where each read and write returns.
 #[tactic(auto, using(crate::proofs::CommandLaws::pipes_answers, crate::proofs::CommandLaws::dumps_answers, crate::proofs::CommandLaws::dumps_few, crate::proofs::StreamLaws::gave_none))]
 pub fn orb_main<I: Source, O: Sink>(
     alloc: Global,
@@ -64,15 +64,16 @@ pub fn orb_main<I: Source, O: Sink>(
     input: &mut I,
     out: &mut O,
 ) -> Answered
-    // The status is that of the note, and each note has its cause: 0 exactly where an input of the built form was read
-    // to its end and its whole answer was written; 1 exactly where the words mean no command; 14 exactly where they
-    // mean one that isn't built, or the input isn't of the built form; 3 and 4 only where a count of faults rose.
+    // The status is that of the note, and each note has its cause, by what the words mean: 1 exactly where they mean no
+    // command, 14 exactly where they mean one that isn't built, or an input of `pipe` isn't of the built form; 3 and 4 only
+    // where a count of faults rose; 8 and 13 of `dump` exactly where the bytes that it took say so.
     ensures status { result.status ≡ status_of result.note }
     ensures answers { Answers (command_of string_bytes words.now) result.note (I.left input.old) (I.left input.new)
         (I.taken input.old) (I.taken input.new) (O.held out.old) (O.held out.new)
         (I.faults input.old, I.faults input.new) (I.ends input.old, I.ends input.new) (O.faults out.old, O.faults out.new) }
-    // An input is taken no further than it takes to see that it is too long.
-    ensures few { GaveFew (most_taken (command_of string_bytes words.now)) (I.left input.old) (I.left input.new) (I.taken input.old) (I.taken input.new) }
+    // An input is taken no further than its command takes it.
+    ensures few { GaveFew (most_taken (command_of string_bytes words.now)) (I.left input.old) (I.left input.new)
+        (I.taken input.old) (I.taken input.new) }
 {
     match read_words(words) {
         Meaning::Pipe => answered(note_for(pipe_run(alloc, input, out, &Ping::new(alloc)))),

@@ -1,6 +1,6 @@
 //! Reading a whole input, and writing whole bytes.
 ghost use Rattle.std.specs.Prelude.{◌≡◌, ◌+◌};
-ghost use Rattle.orb_command.specs.Streams.{GaveFew, ReadsAll, CountsReadAll, WritesAll, CountsWriteAll};
+ghost use Rattle.orb_command.specs.Streams.{GaveFew, ReadsAll, CountsReadAll, WritesAll};
 
 use crate::read_all::{MAX_PIPED, ReadAll};
 use crate::write_all::WriteAll;
@@ -34,8 +34,7 @@ pub fn read_all<I: Source>(alloc: Global, source: &mut I) -> ReadAll
 /// Writes all bytes, piece by piece as the sink takes them.
 #[tactic(auto, using(crate::proofs::StreamLaws::wrote_start, crate::proofs::StreamLaws::wrote_step, crate::proofs::StreamLaws::wrote_whole))]
 pub fn write_all<O: Sink>(sink: &mut O, bytes: &[u8]) -> WriteAll
-    ensures wrote { WritesAll result bytes.now (O.held sink.old) (O.held sink.new) (O.faults sink.old, O.faults sink.new) }
-    ensures faults { CountsWriteAll result (O.faults sink.old, O.faults sink.new) }
+    ensures { WritesAll result bytes.now (O.held sink.old) (O.held sink.new) (O.faults sink.old, O.faults sink.new) }
 {
     let mut rest = bytes;
     while !rest.is_empty() {

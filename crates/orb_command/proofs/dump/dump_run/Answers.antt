@@ -12,22 +12,25 @@ returns-in_err-framer g c = dump_wants_first c.from_residual.result _ _ _ _ _ _ 
 pub returns-in_err-end-in-Bytes : goal.returns-in_err-end-in-Bytes
 returns-in_err-end-in-Bytes g c =
     let few : c.in-Bytes.n + c.loop-taken.taken ≤ 67108864 = grind (arith, common_steps, c.in-Bytes.ensures.bytes.1, c.read.auto.into) in
-    let took = took_piece c.loop-taken.framer c.dump_piece.new.framer c.loop-taken.taken c.in-Bytes.n _ _ _ _ _ _ _ _ _ _ _ _ _ _ _ _ _ c.loop-taken.invariant c.in-Bytes.ensures.bytes.1 few c.in-Bytes.ensures.bytes.2 c.in-Bytes.ensures.bytes.3 c.dump_piece.ensures.fed c.in-Bytes.ensures.fault c.in-Bytes.ensures.end in
-    dump_wants c.from_residual-in_err-end-in-Bytes.result c.loop-taken.framer c.dump_piece.new.framer _ _ _ _ _ _ _ _ _ _ _ _ _ _ _ _ _ c.from_residual-in_err-end-in-Bytes.ensures.0 c.loop-taken.invariant took c.in_err-end-in-Bytes.ensures.dumps
+    dump_wants c.from_residual-in_err-end-in-Bytes.result c.loop-taken.framer c.dump_piece.new.framer _ _ _ _ _ _ _ _ _ _ _ _ _ _ _ _ _ c.from_residual-in_err-end-in-Bytes.ensures.0 c.loop-taken.invariant
+    (took_piece c.loop-taken.framer c.dump_piece.new.framer c.loop-taken.taken c.in-Bytes.n _ _ _ _ _ _ _ _ _ _ _ _ _ _ _ _ _ c.loop-taken.invariant c.in-Bytes.ensures.bytes.1 few c.in-Bytes.ensures.bytes.2 c.in-Bytes.ensures.bytes.3 c.dump_piece.ensures.fed c.in-Bytes.ensures.fault c.in-Bytes.ensures.end)
+    c.in_err-end-in-Bytes.ensures.dumps
 
 pub returns-in-Some : goal.returns-in-Some
 returns-in-Some g c =
     let few : c.in-Bytes.n + c.loop-taken.taken ≤ 67108864 = grind (arith, common_steps, c.in-Bytes.ensures.bytes.1, c.read.auto.into) in
-    let took = took_piece c.loop-taken.framer c.dump_piece.new.framer c.loop-taken.taken c.in-Bytes.n _ _ _ _ _ _ _ _ _ _ _ _ _ _ _ _ _ c.loop-taken.invariant c.in-Bytes.ensures.bytes.1 few c.in-Bytes.ensures.bytes.2 c.in-Bytes.ensures.bytes.3 c.dump_piece.ensures.fed c.in-Bytes.ensures.fault c.in-Bytes.ensures.end in
     let piece = rw c.in-Some.is at c.in_ok-end-in-Bytes.ensures.dumps in
-    dump_ends c.in-Some.end c.loop-taken.framer c.dump_piece.new.framer _ _ _ _ _ _ _ _ _ _ _ _ _ _ _ _ _ _ c.loop-taken.invariant took piece
+    dump_ends c.in-Some.end c.loop-taken.framer c.dump_piece.new.framer _ _ _ _ _ _ _ _ _ _ _ _ _ _ _ _ _ _ c.loop-taken.invariant
+    (took_piece c.loop-taken.framer c.dump_piece.new.framer c.loop-taken.taken c.in-Bytes.n _ _ _ _ _ _ _ _ _ _ _ _ _ _ _ _ _ c.loop-taken.invariant c.in-Bytes.ensures.bytes.1 few c.in-Bytes.ensures.bytes.2 c.in-Bytes.ensures.bytes.3 c.dump_piece.ensures.fed c.in-Bytes.ensures.fault c.in-Bytes.ensures.end)
+    piece
 
 pub loop-taken-preserved : goal.loop-taken-preserved
 loop-taken-preserved g c =
     let few : c.in-Bytes.n + c.loop-taken.taken ≤ 67108864 = grind (arith, common_steps, c.in-Bytes.ensures.bytes.1, c.read.auto.into) in
-    let took = took_piece c.loop-taken.framer c.dump_piece.new.framer c.loop-taken.taken c.in-Bytes.n _ _ _ _ _ _ _ _ _ _ _ _ _ _ _ _ _ c.loop-taken.invariant c.in-Bytes.ensures.bytes.1 few c.in-Bytes.ensures.bytes.2 c.in-Bytes.ensures.bytes.3 c.dump_piece.ensures.fed c.in-Bytes.ensures.fault c.in-Bytes.ensures.end in
     let piece = rw c.in_default.is at c.in_ok-end-in-Bytes.ensures.dumps in
-    dump_on c.loop-taken.framer c.dump_piece.new.framer _ _ _ _ _ _ _ _ _ _ _ _ _ _ _ _ _ _ c.loop-taken.invariant took piece
+    dump_on c.loop-taken.framer c.dump_piece.new.framer _ _ _ _ _ _ _ _ _ _ _ _ _ _ _ _ _ _ c.loop-taken.invariant
+    (took_piece c.loop-taken.framer c.dump_piece.new.framer c.loop-taken.taken c.in-Bytes.n _ _ _ _ _ _ _ _ _ _ _ _ _ _ _ _ _ c.loop-taken.invariant c.in-Bytes.ensures.bytes.1 few c.in-Bytes.ensures.bytes.2 c.in-Bytes.ensures.bytes.3 c.dump_piece.ensures.fed c.in-Bytes.ensures.fault c.in-Bytes.ensures.end)
+    piece
 
 pub returns-in-End : goal.returns-in-End
 returns-in-End g c =
