@@ -8,10 +8,17 @@ mod corbaloc;
 mod escape;
 mod fault;
 mod host;
+mod iiop_profile;
+mod iiop_read;
+mod ior;
 mod port;
+mod take;
 
 pub use corbaloc::{Corbaloc, parse_corbaloc};
 pub use fault::{RefCause, RefError, RefFault};
+pub use iiop_profile::IiopProfile;
+pub use iiop_read::{IIOP_TAG, first_iiop};
+pub use ior::Ior;
 
 #[cfg(test)]
 mod tests;
