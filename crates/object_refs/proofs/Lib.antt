@@ -5,3 +5,5 @@ pub mod Located
 pub mod Several
 pub mod Taking
 pub mod Wholes
+pub mod Puts
+pub mod Texts
