@@ -7,3 +7,4 @@ pub mod Taking
 pub mod Wholes
 pub mod Puts
 pub mod Texts
+pub mod OneWay

@@ -84,7 +84,7 @@ versioned_fit p fits least = record {
   without = λ (no : has_components 1 p.minor ≡ false). let yes = components_there p.minor least in absurd cc;
 }
 
-profile_again : (bytes : List ℕ) (p : Profile) → IsProfile p bytes → profile_of bytes ≡ Ok p
+pub profile_again : (bytes : List ℕ) (p : Profile) → IsProfile p bytes → profile_of bytes ≡ Ok p
 unfolding profile_of supported
 profile_again bytes p h =
     let t = taken_in (ℕ × Profile) FitsVersioned fields_of versioned_at versioned_again h.order bytes (1, p) (versioned_fit p h.fits h.version) h.content in

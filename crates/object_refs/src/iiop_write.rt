@@ -5,8 +5,8 @@ ghost use Rattle.orb_base.specs.declared.order.Order.TheVariants.{Big};
 ghost use Rattle.cdr_core.specs.Encapsulation.{encapsulation};
 ghost use Rattle.cdr_core.specs.Field.{number, string_fields, octets_fields};
 ghost use Rattle.cdr_core.specs.Writing.{Puts};
-ghost use Rattle.object_refs.specs.Layout.{AreCounted, IsCountedProfile, components_fields, profile_fields};
-ghost use Rattle.object_refs.specs.Profiles.{tagged_profile};
+ghost use Rattle.object_refs.specs.Layout.{AreCounted, FitsProfile, IsCountedProfile, components_fields, profile_fields};
+ghost use Rattle.object_refs.specs.Profiles.{IsProfile, tagged_profile};
 
 use crate::iiop_profile::IiopProfile;
 use crate::iiop_read::IIOP_TAG;
@@ -67,7 +67,10 @@ fn encapsulated(alloc: Global, profile: &IiopProfile) -> Result<Octets, NoMemory
 pub fn write_iiop(alloc: Global, profile: &IiopProfile) -> Result<Tagged, NoMemory>
     requires counted { IsCountedProfile profile.now }
     requires version { (1 ≤ profile.now.minor) ⊎ (profile.now.components ≡ []) }
-    ensures { IfOk result (λ t. t ≡ tagged_profile profile.now) }
+    ensures tagged { IfOk result (λ t. t ≡ tagged_profile profile.now) }
+    // From version 1.2 on, what is written is read as the profile.
+    ensures reads_back { FitsProfile profile.now → 2 ≤ profile.now.minor
+        → IfOk result (λ t. IsProfile profile.now t.bytes) }
 {
     let bytes = encapsulated(alloc, profile)?;
     Ok(Tagged { tag: IIOP_TAG, bytes })

@@ -5,7 +5,7 @@ ghost use Rattle.cdr_core.specs.Cursor.{AreBytes};
 ghost use Rattle.cdr_core.specs.Encapsulation.{encapsulation};
 ghost use Rattle.cdr_core.specs.Writing.{Puts};
 ghost use Rattle.hex.specs.Hex.{encode_lower};
-ghost use Rattle.object_refs.specs.Layout.{IsCountedReference, reference_fields};
+ghost use Rattle.object_refs.specs.Layout.{FitsReference, IsCountedReference, reference_fields};
 ghost use Rattle.object_refs.specs.References.{IsReference, reference_text};
 
 use crate::ior::Ior;
@@ -36,7 +36,8 @@ fn encapsulated(alloc: Global, ior: &Ior) -> Result<Octets, NoMemory>
 
 /// The prefix and the digits of bytes, in lower case.
 fn digits_text(alloc: Global, bytes: &[u8]) -> Result<Text, NoMemory>
-    ensures { IfOk result (λ t. t ≡ codes "IOR:" ++ encode_lower bytes.now) }
+    ensures text { IfOk result (λ t. t ≡ codes "IOR:" ++ encode_lower bytes.now) }
+    ensures bytes { AreBytes bytes.now }
 {
     let digits = hex::encode(alloc, bytes)?;
     let mut text = Octets::new(alloc);
@@ -52,7 +53,9 @@ fn digits_text(alloc: Global, bytes: &[u8]) -> Result<Text, NoMemory>
 /// Each length must be below 2^32. Work grows with the reference.
 pub fn ior_text(alloc: Global, ior: &Ior) -> Result<Text, NoMemory>
     requires { IsCountedReference ior.now }
-    ensures { IfOk result (λ t. t ≡ reference_text ior.now) }
+    ensures text { IfOk result (λ t. t ≡ reference_text ior.now) }
+    // What is written is read as the reference.
+    ensures reads_back { FitsReference ior.now → IfOk result (IsReference ior.now) }
 {
     let bytes = encapsulated(alloc, ior)?;
     digits_text(alloc, bytes.as_slice())

@@ -14,6 +14,7 @@ mod iiop_write;
 mod ior;
 mod ior_read;
 mod ior_write;
+pub mod laws;
 mod port;
 mod put;
 mod take;
