@@ -8,7 +8,7 @@ use Rattle.cdr_core.specs.Encapsulation.{Encapsulates, encapsulation}
 use Rattle.object_refs.specs.Reference.{Reference, Profile}
 use Rattle.object_refs.specs.Layout.{profile_fields, FitsProfile}
 
--- TAG_INTERNET_IOP: CORBA 3.0.3, section 13.6.6
+-- TAG_INTERNET_IOP: CORBA 3.0.3, section 13.6.2
 abbrev pub iiop_tag : ℕ
 iiop_tag = 0
 

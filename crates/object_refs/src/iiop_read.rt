@@ -14,7 +14,7 @@ use cdr_core::Reader;
 use orb_base::{List, Tagged};
 use std::alloc::Global;
 
-/// The tag of profiles of IIOP, TAG_INTERNET_IOP: CORBA 3.0.3, section 13.6.6.
+/// The tag of profiles of IIOP, TAG_INTERNET_IOP: CORBA 3.0.3, section 13.6.2.
 pub const IIOP_TAG: u32 = 0;
 
 /// Whether profiles of the version have components: from 1.1 on.

@@ -29,4 +29,8 @@ pub use ior_read::parse_ior;
 pub use ior_write::ior_text;
 
 #[cfg(test)]
+mod reference_tests;
+#[cfg(test)]
 mod tests;
+#[cfg(test)]
+mod vectors;

@@ -8,7 +8,7 @@ ghost use Rattle.object_refs.specs.LocationReading.{port_at, port_number, port_o
 
 use crate::fault::{RefCause, RefError, refused_at};
 
-/// The port where none is named: CORBA 3.0.3, section 13.6.10.3.
+/// The port where none is named: CORBA 3.0.3, section 13.6.10.
 const DEFAULT_PORT: u16 = 2809;
 
 /// The most digits of a port, own profile.
