@@ -1,5 +1,7 @@
 -- The first byte that passes a test, and these very bytes in front.
-use Rattle.std.proofs.Common.{◌≡◌, ℕ, suc, ◌+◌, ◌<◌, ◌≤◌, Bool, true, false, not, cond, eqb, ltb, List, [], ◌∷◌, ◌++◌, length, take, drop, get_or, Option, Some, None, refl, sym, ap, subst, ◌∙◌, inl, inr, arith}
+use Rattle.std.proofs.Common.{◌≡◌, ℕ, suc, ◌+◌, ◌<◌, ◌≤◌, Bool, true, false, not, cond, eqb, ltb, List, [], ◌∷◌, ◌++◌}
+use Rattle.std.proofs.Common.{length, take, drop, get_or, Option, Some, None, refl, sym, ap, subst, ◌∙◌, inl, inr}
+use Rattle.std.proofs.Common.{arith}
 use Rattle.std.specs.List.{position, position_or_len, prefix_len}
 use Rattle.std.specs.Str.{bytes_eq}
 use Rattle.std.proofs.lemmas.Bool.{cases_Bool, ltb-true, ltb-false, lt-ltb, le-ltb, eq-eqb, cond-true, cond-false}
@@ -19,7 +21,8 @@ unfolding behind
 behind_found front bytes rest e =
     let g = passed_some (bytes_eq (take (length front) bytes) front) (drop (length front) bytes) rest e in
     let front-is : take (length front) bytes ≡ front = (bytes_eq-Decides (take (length front) bytes) front).0 g.0 in
-    sym (take-append-drop (length front) bytes) ∙ ap (λ (t : List ℕ). t ++ drop (length front) bytes) front-is ∙ ap (λ (t : List ℕ). front ++ t) g.1
+    sym (take-append-drop (length front) bytes) ∙ ap (λ (t : List ℕ). t ++ drop (length front) bytes) front-is
+    ∙ ap (λ (t : List ℕ). front ++ t) g.1
 
 pub behind_again : (front rest : List ℕ) → behind front (front ++ rest) ≡ Some rest
 unfolding behind
@@ -30,7 +33,9 @@ behind_again front rest =
 -- ---- the first byte that passes
 
 pub none_within : (p : ℕ → Bool) (xs : List ℕ) → position_or_len p xs ≡ length xs → position p xs ≡ None
-none_within p xs e = let least : length xs ≤ position_or_len p xs = omega (arith, e) in cond-false _ _ _ (le-ltb _ _ least)
+none_within p xs e =
+    let least : length xs ≤ position_or_len p xs = omega (arith, e) in
+    cond-false _ _ _ (le-ltb _ _ least)
 
 none_length : (p : ℕ → Bool) (xs : List ℕ) → position p xs ≡ None → position_or_len p xs ≡ length xs
 none_length p xs e =
@@ -61,7 +66,8 @@ cut_found p xs n e =
     let h = position-Some p xs n 0 e in
     let at : position_or_len p xs ≡ n = grind (arith, common_steps, e) in
     let len : length (take n xs) ≡ n = omega (arith, length-take n xs, h.0) in
-    let again : position_or_len p (take n xs) ≡ n = subst (λ (k : ℕ). position_or_len p (take k xs) ≡ k) at (first_again p xs) in
+    let again : position_or_len p (take n xs) ≡ n =
+    subst (λ (k : ℕ). position_or_len p (take k xs) ≡ k) at (first_again p xs) in
     record {
       parts = sym (take-append-drop n xs) ∙ ap (λ (rest : List ℕ). take n xs ++ rest) (drop_more xs n 0 h.0);
       none = none_within p (take n xs) (again ∙ sym len);
@@ -69,8 +75,11 @@ cut_found p xs n e =
       len = len;
     }
 
-pub cut_again : (p : ℕ → Bool) (front : List ℕ) (e : ℕ) (rest : List ℕ) → position p front ≡ None → p e ≡ true → position p (front ++ e ∷ rest) ≡ Some (length front)
+pub cut_again : (p : ℕ → Bool) (front : List ℕ) (e : ℕ) (rest : List ℕ) → position p front ≡ None → p e ≡ true
+    → position p (front ++ e ∷ rest) ≡ Some (length front)
 cut_again p front e rest none passes =
     let all = none_length p front none in
-    let at : position_or_len p (front ++ e ∷ rest) ≡ length front = prefix_len-append (λ x. not (p x)) front (e ∷ rest) ∙ rw (all, eq-eqb (length front) (length front) refl, passes) (omega arith) in
+    let at : position_or_len p (front ++ e ∷ rest) ≡ length front =
+    prefix_len-append (λ x. not (p x)) front (e ∷ rest) ∙ rw (all, eq-eqb (length front) (length front) refl, passes)
+    (omega arith) in
     grind (arith, common_steps, at)

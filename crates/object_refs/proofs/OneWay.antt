@@ -1,5 +1,6 @@
 -- Texts and bytes mean one thing at most, and what is written is read.
-use Rattle.std.proofs.Common.{◌≡◌, ℕ, ◌≤◌, List, [], ◌++◌, Some, Ok, Result, Err, IfOk, codes, refl, sym, ap, ◌∙◌, subst}
+use Rattle.std.proofs.Common.{◌≡◌, ℕ, ◌≤◌, List, [], ◌++◌, Some, Ok, Result, Err, IfOk, codes, refl, sym, ap, ◌∙◌}
+use Rattle.std.proofs.Common.{subst}
 use Rattle.orb_base.specs.Tagged.{Tagged}
 use Rattle.orb_base.specs.declared.no_memory.NoMemory.{NoMemory}
 use Rattle.orb_base.specs.declared.order.Order.TheVariants.{Big}
@@ -38,12 +39,16 @@ pub one_reference : (r s : Reference) (text : List ℕ) → IsReference r text �
 one_reference r s text p q = ok_is r s (sym (reference_again text r p) ∙ reference_again text s q)
 
 whole : (fields : List Field) → Encapsulates Big fields (encapsulation Big fields)
-whole fields = subst (Encapsulates Big fields) (append-nil (encapsulation Big fields)) (encapsulates_back_law Big fields [])
+whole fields =
+    subst (Encapsulates Big fields) (append-nil (encapsulation Big fields)) (encapsulates_back_law Big fields [])
 
-pub profile_back : (p : Profile) (bytes : List ℕ) → bytes ≡ encapsulation Big (profile_fields p) → FitsProfile p → 2 ≤ p.minor → IsProfile p bytes
-profile_back p bytes e fits version = rw e (record { fits = fits; version = version; order = Big; content = whole (profile_fields p) })
+pub profile_back : (p : Profile) (bytes : List ℕ) → bytes ≡ encapsulation Big (profile_fields p) → FitsProfile p
+    → 2 ≤ p.minor → IsProfile p bytes
+profile_back p bytes e fits version =
+    rw e (record { fits = fits; version = version; order = Big; content = whole (profile_fields p) })
 
-pub reference_back : (r : Reference) (bytes text : List ℕ) → bytes ≡ encapsulation Big (reference_fields r) → AreBytes bytes → text ≡ reference_text r → FitsReference r → IsReference r text
+pub reference_back : (r : Reference) (bytes text : List ℕ) → bytes ≡ encapsulation Big (reference_fields r)
+    → AreBytes bytes → text ≡ reference_text r → FitsReference r → IsReference r text
 reference_back r bytes text e small t fits = record {
   prefix = codes "IOR:";
   digits = encode_lower bytes;
@@ -54,7 +59,9 @@ reference_back r bytes text e small t fits = record {
   encapsulated = rw e (record { fits = fits; order = Big; content = whole (reference_fields r) });
 }
 
-pub text_back : (r : Reference) (bytes : List ℕ) (t : Result (List ℕ) NoMemory) → bytes ≡ encapsulation Big (reference_fields r) → AreBytes bytes
+pub text_back : (r : Reference) (bytes : List ℕ) (t : Result (List ℕ) NoMemory)
+    → bytes ≡ encapsulation Big (reference_fields r) → AreBytes bytes
     → IfOk t (λ text. text ≡ codes "IOR:" ++ encode_lower bytes) → FitsReference r → IfOk t (IsReference r)
-text_back r bytes (Ok text) e small is fits = reference_back r bytes text e small (is ∙ ap (λ (x : List ℕ). codes "IOR:" ++ encode_lower x) e) fits
+text_back r bytes (Ok text) e small is fits =
+    reference_back r bytes text e small (is ∙ ap (λ (x : List ℕ). codes "IOR:" ++ encode_lower x) e) fits
 text_back r bytes (Err f) e small is fits = tt

@@ -16,7 +16,8 @@ pub ok_is : {A : Type 0} (x y : A) → done x ≡ done y → x ≡ y
 ok_is x y e = cc
 
 -- a reading that has a value
-pub bind_ok : {A B : Type 0} (r : Read A) (f : A → Read B) (y : B) → (r >>= f) ≡ Ok y → (x : A) × (r ≡ Ok x) × (f x ≡ Ok y)
+pub bind_ok : {A B : Type 0} (r : Read A) (f : A → Read B) (y : B) → (r >>= f) ≡ Ok y
+    → (x : A) × (r ≡ Ok x) × (f x ≡ Ok y)
 bind_ok (Ok x) f y e = (x, refl, e)
 bind_ok (Err d) f y e = absurd cc
 
@@ -33,21 +34,25 @@ passed false x y f e = absurd cc
 pub some_is : {A : Type 0} (x y : A) → ◌≡◌ {A = Option A} (Some x) (Some y) → x ≡ y
 some_is x y e = cc
 
-pub passed_some : {A : Type 0} (b : Bool) (x y : A) → ◌≡◌ {A = Option A} (cond b (Some x) None) (Some y) → (b ≡ true) × (x ≡ y)
+pub passed_some : {A : Type 0} (b : Bool) (x y : A) → ◌≡◌ {A = Option A} (cond b (Some x) None) (Some y)
+    → (b ≡ true) × (x ≡ y)
 passed_some true x y e = (refl, some_is x y e)
 passed_some false x y e = absurd cc
 
-pub then_some : {A B : Type 0} (o : Option A) (f : A → Option B) (y : B) → option_and_then f o ≡ Some y → (x : A) × (o ≡ Some x) × (f x ≡ Some y)
+pub then_some : {A B : Type 0} (o : Option A) (f : A → Option B) (y : B) → option_and_then f o ≡ Some y
+    → (x : A) × (o ≡ Some x) × (f x ≡ Some y)
 then_some (Some x) f y e = (x, refl, e)
 then_some None f y e = absurd cc
 
 -- a call that answers what an exact reading gives answers what is so
-pub found_so : {X A : Type 0} (view : X → A) (r : Result X RefError) (reading : Read A) (Fact : A → Type 0) → IsExactly reading Fact → Answers view r reading → IfOk r (λ x. Fact (view x))
+pub found_so : {X A : Type 0} (view : X → A) (r : Result X RefError) (reading : Read A) (Fact : A → Type 0)
+    → IsExactly reading Fact → Answers view r reading → IfOk r (λ x. Fact (view x))
 found_so view (Ok x) reading Fact exact e = (exact (view x)).0 e
 found_so view (Err f) reading Fact exact e = tt
 
 -- and what is so is answered
-pub only_so : {X A : Type 0} (view : X → A) (r : Result X RefError) (reading : Read A) (Fact : A → Type 0) → IsExactly reading Fact → Answers view r reading → (a : A) → Fact a → Answers view r (Ok a)
+pub only_so : {X A : Type 0} (view : X → A) (r : Result X RefError) (reading : Read A) (Fact : A → Type 0)
+    → IsExactly reading Fact → Answers view r reading → (a : A) → Fact a → Answers view r (Ok a)
 only_so view (Ok x) reading Fact exact e a h = sym ((exact a).1 h) ∙ e
 only_so view (Err (Refused f)) reading Fact exact e a h = sym ((exact a).1 h) ∙ e
 only_so view (Err NoMemory) reading Fact exact e a h = tt

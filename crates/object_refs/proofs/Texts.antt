@@ -1,5 +1,6 @@
 -- Stringified references: what is read is what the text means, and what it means is read.
-use Rattle.std.proofs.Common.{◌≡◌, ℕ, ◌+◌, ◌<◌, ◌≤◌, Bool, true, false, List, [], ◌∷◌, ◌++◌, length, take, drop, map, Result, Ok, Err, inl, inr, refl, sym, ap, subst, ◌∙◌, arith}
+use Rattle.std.proofs.Common.{◌≡◌, ℕ, ◌+◌, ◌<◌, ◌≤◌, Bool, true, false, List, [], ◌∷◌, ◌++◌, length, take, drop, map}
+use Rattle.std.proofs.Common.{Result, Ok, Err, inl, inr, refl, sym, ap, subst, ◌∙◌, arith}
 use Rattle.std.specs.Char.{to_ascii_lowercase}
 use Rattle.std.specs.Str.{bytes_eq}
 use Rattle.std.proofs.lemmas.List.{take-append-drop, take_at, drop_at, length-map}
@@ -20,7 +21,8 @@ decoded_ok len (Ok b) bytes e = let h : b ≡ bytes = ok_is b bytes e in rw h re
 decoded_ok len (Err f) bytes e = absurd cc
 
 -- the index of a bad digit is below the number of digits
-pub bad_within : (digits : List ℕ) (digit index : ℕ) → decode_of digits ≡ Err (InvalidHexCharacter digit index) → index < length digits
+pub bad_within : (digits : List ℕ) (digit index : ℕ) → decode_of digits ≡ Err (InvalidHexCharacter digit index)
+    → index < length digits
 bad_within digits digit index e =
     elim (decode_of-err digits (InvalidHexCharacter digit index) e) [
       | inl odd ↦ let h = odd.1 in absurd cc

@@ -1,5 +1,6 @@
 -- Whole encapsulations: what is read is what the bytes mean, and what they mean is read.
-use Rattle.std.proofs.Common.{◌≡◌, ℕ, suc, ◌+◌, ◌<◌, ◌≤◌, Bool, true, false, ◌&&◌, ltb, eqb, List, [], ◌∷◌, ◌++◌, Option, Some, None, Ok, Err, refl, sym, ap, subst, ◌∙◌, arith}
+use Rattle.std.proofs.Common.{◌≡◌, ℕ, suc, ◌+◌, ◌<◌, ◌≤◌, Bool, true, false, ◌&&◌, ltb, eqb, List, [], ◌∷◌, ◌++◌}
+use Rattle.std.proofs.Common.{Option, Some, None, Ok, Err, refl, sym, ap, subst, ◌∙◌, arith}
 use Rattle.std.proofs.lemmas.Bool.{and_parts, and_from, ltb-true, lt-ltb, eqb-true}
 use Rattle.orb_base.specs.Tagged.{Tagged}
 use Rattle.orb_base.specs.declared.order.Order.{Order}
@@ -18,7 +19,8 @@ use Rattle.object_refs.specs.ProfileReading.{versioned_at, supported, profile_of
 use Rattle.object_refs.specs.Reading.{Parsed, cdr}
 use Rattle.object_refs.specs.References.{IsEncapsulated, reference_at, reference_in}
 use Rattle.object_refs.proofs.Steps.{done, ok_is, bind_ok, cdr_ok, passed}
-use Rattle.object_refs.proofs.Taking.{Took, Takes, Again, FitsVersioned, fields_of, versioned_takes, versioned_again, reference_takes, reference_again}
+use Rattle.object_refs.proofs.Taking.{Took, Takes, Again, FitsVersioned, fields_of, versioned_takes, versioned_again}
+use Rattle.object_refs.proofs.Taking.{reference_takes, reference_again}
 
 inner_bytes : (bytes : List ℕ) (inner : Cursor) → AreBytes bytes → entered bytes ≡ Ok inner → AreBytes inner.rest
 inner_bytes bytes inner fits e =
@@ -27,11 +29,13 @@ inner_bytes bytes inner fits e =
     λ k. there (suc k)
 
 -- what was taken within the bytes is encapsulated there
-within : (A : Type 0) (IsFit : A → Type 0) (fields : A → List Field) (bytes : List ℕ) (inner d : Cursor) (a : A) → entered bytes ≡ Ok inner → Took A IsFit fields inner d a
+within : (A : Type 0) (IsFit : A → Type 0) (fields : A → List Field) (bytes : List ℕ) (inner d : Cursor) (a : A)
+    → entered bytes ≡ Ok inner → Took A IsFit fields inner d a
     → Encapsulates inner.order (fields a) bytes
 within A IsFit fields bytes inner d a e t =
     let stands = entered_takes bytes inner e in
-    let holds : Holds inner.order (fields a) bytes = record { inner = inner; behind = d; parts = stands.parts; order = refl; place = stands.place; spans = t.spans } in
+    let holds : Holds inner.order (fields a) bytes =
+    record { inner = inner; behind = d; parts = stands.parts; order = refl; place = stands.place; spans = t.spans } in
     (holds_within_law inner.order (fields a) bytes).1 holds
 
 -- what is encapsulated is taken within the bytes
@@ -41,7 +45,8 @@ pub record TakenIn (A : Type 0) (one : Cursor → Parsed A) (bytes : List ℕ) (
   pub enters : entered bytes ≡ Ok inner
   pub takes : one inner ≡ Ok (a, behind)
 
-taken_in : (A : Type 0) (IsFit : A → Type 0) (fields : A → List Field) (one : Cursor → Parsed A) → Again A IsFit fields one
+taken_in : (A : Type 0) (IsFit : A → Type 0) (fields : A → List Field) (one : Cursor → Parsed A)
+    → Again A IsFit fields one
     → (order : Order) (bytes : List ℕ) (a : A) → IsFit a → Encapsulates order (fields a) bytes → TakenIn A one bytes a
 taken_in A IsFit fields one again order bytes a fits h =
     let w = (holds_within_law order (fields a) bytes).0 h in
@@ -87,7 +92,8 @@ versioned_fit p fits least = record {
 pub profile_again : (bytes : List ℕ) (p : Profile) → IsProfile p bytes → profile_of bytes ≡ Ok p
 unfolding profile_of supported
 profile_again bytes p h =
-    let t = taken_in (ℕ × Profile) FitsVersioned fields_of versioned_at versioned_again h.order bytes (1, p) (versioned_fit p h.fits h.version) h.content in
+    let t = taken_in (ℕ × Profile) FitsVersioned fields_of versioned_at versioned_again h.order bytes (1, p)
+    (versioned_fit p h.fits h.version) h.content in
     let later : ltb 1 p.minor ≡ true = lt-ltb 1 p.minor h.version in
     rw (ap cdr t.enters, t.takes, later) refl
 
@@ -95,7 +101,8 @@ pub profiles_exact : (bytes : List ℕ) → AreBytes bytes → IsExactly (profil
 profiles_exact bytes fits p = (λ e. profile_found bytes p fits e, λ h. profile_again bytes p h)
 
 -- the first profile of a reference, where there is one
-pub firsts_exact : (r : Reference) (tagged : Tagged) → first_of r.profiles ≡ Some tagged → AreBytes tagged.bytes → IsExactly (first_profile_of r) (λ p. IsFirstProfile p r)
+pub firsts_exact : (r : Reference) (tagged : Tagged) → first_of r.profiles ≡ Some tagged → AreBytes tagged.bytes
+    → IsExactly (first_profile_of r) (λ p. IsFirstProfile p r)
 unfolding first_profile_of
 firsts_exact r tagged first fits p = (
   λ e. (tagged, first, profile_found tagged.bytes p fits (rw first at e)),
@@ -104,7 +111,8 @@ firsts_exact r tagged first fits p = (
 
 -- ---- references
 
-reference_found : (bytes : List ℕ) (r : Reference) → AreBytes bytes → reference_in bytes ≡ Ok r → IsEncapsulated r bytes
+reference_found : (bytes : List ℕ) (r : Reference) → AreBytes bytes → reference_in bytes ≡ Ok r
+    → IsEncapsulated r bytes
 unfolding reference_in
 reference_found bytes r fits e =
     let i = bind_ok (cdr (entered bytes)) _ r e in
@@ -121,8 +129,10 @@ reference_found bytes r fits e =
 reference_again_in : (bytes : List ℕ) (r : Reference) → IsEncapsulated r bytes → reference_in bytes ≡ Ok r
 unfolding reference_in
 reference_again_in bytes r h =
-    let t = taken_in Reference FitsReference reference_fields reference_at reference_again h.order bytes r h.fits h.content in
+    let t = taken_in Reference FitsReference reference_fields reference_at reference_again h.order bytes r h.fits
+    h.content in
     rw (ap cdr t.enters, t.takes) refl
 
-pub encapsulated_exact : (bytes : List ℕ) → AreBytes bytes → IsExactly (reference_in bytes) (λ r. IsEncapsulated r bytes)
+pub encapsulated_exact : (bytes : List ℕ) → AreBytes bytes
+    → IsExactly (reference_in bytes) (λ r. IsEncapsulated r bytes)
 encapsulated_exact bytes fits r = (λ e. reference_found bytes r fits e, λ h. reference_again_in bytes r h)

@@ -1,6 +1,8 @@
--- The reading of an object URL from left to right, part by part; the first part that has no reading is at fault, at its
--- first byte: CORBA 3.0.3, section 13.6.10. The causes and their order are own profile.
-use Rattle.std.specs.Prelude.{ℕ, ◌+◌, ◌-◌, ◌^◌, Bool, ◌&&◌, ◌||◌, ◌==◌, nat_lt, nat_le, if◌then◌else◌, List, length, take, drop, slice_index, position, Option, Some, None, option_and_then, Result, Ok, Err}
+-- The reading of an object URL from left to right, part by part; the first part that has no reading is at fault, at
+-- its first byte: CORBA 3.0.3, section 13.6.10. The causes and their order are own profile.
+use Rattle.std.specs.Prelude.{ℕ, ◌+◌, ◌-◌, ◌^◌, Bool, ◌&&◌, ◌||◌, ◌==◌, nat_lt, nat_le, if◌then◌else◌}
+use Rattle.std.specs.Prelude.{List, length, take, drop, slice_index, position}
+use Rattle.std.specs.Prelude.{Option, Some, None, option_and_then, Result, Ok, Err}
 use Rattle.std.specs.Char.{is_ascii_digit}
 use Rattle.std.specs.List.{list_all}
 use Rattle.std.specs.Str.{bytes_eq}
@@ -9,7 +11,8 @@ use Rattle.percent_encoding.specs.Percent.{percent_decode}
 use Rattle.object_refs.specs.declared.fault.RefCause.{RefCause}
 use Rattle.object_refs.specs.declared.fault.RefCause.TheVariants.{NoPrefix, BadVersion, BadHost, BadPort, BadEscape}
 use Rattle.object_refs.specs.Reference.{Location}
-use Rattle.object_refs.specs.Locations.{scheme, iiop_protocol, short_protocol, version_part, default_port, colon, slash, ends_host, is_escaped}
+use Rattle.object_refs.specs.Locations.{scheme, iiop_protocol, short_protocol, version_part, default_port}
+use Rattle.object_refs.specs.Locations.{colon, slash, ends_host, is_escaped}
 use Rattle.object_refs.specs.Reading.{Read, fault, ◌>>=◌}
 
 -- a part of a text, or its cause at its first byte, from which `rest` goes to the end of the text
@@ -35,7 +38,9 @@ behind_protocol text =
 unfoldable pub host_of_len : List ℕ → ℕ → Option (List ℕ × ℕ × List ℕ)
 host_of_len text len =
     let end = slice_index text len in
-    if nat_lt 0 len && nat_le len 255 && (end == colon || end == slash) then Some (take len text, end, drop (len + 1) text) else None
+    if nat_lt 0 len && nat_le len 255 && (end == colon || end == slash)
+    then Some (take len text, end, drop (len + 1) text)
+    else None
 
 -- a host, which goes to the first byte that may not stand in one
 unfoldable pub host_of : List ℕ → Option (List ℕ × ℕ × List ℕ)
@@ -45,7 +50,9 @@ host_of text = option_and_then (host_of_len text) (position ends_host text)
 unfoldable pub port_number : List ℕ → Option ℕ
 port_number digits =
     let port = digits_value 10 digits in
-    if nat_le (length digits) 5 && list_all is_ascii_digit digits && nat_lt 0 port && nat_lt port (2 ^ 16) then Some port else None
+    if nat_le (length digits) 5 && list_all is_ascii_digit digits && nat_lt 0 port && nat_lt port (2 ^ 16)
+    then Some port
+    else None
 
 -- the port of so many digits, and what stands behind the byte that ends them
 unfoldable pub port_of_len : List ℕ → ℕ → Option (ℕ × List ℕ)

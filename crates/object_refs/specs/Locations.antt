@@ -1,6 +1,7 @@
--- Object URLs of the scheme corbaloc: CORBA 3.0.3, section 13.6.10. That they have one address, of IIOP 1.2, and hosts of 1
--- to 255 bytes is own profile.
-use Rattle.std.specs.Prelude.{◌≡◌, ◌<◌, ◌≤◌, ◌^◌, ℕ, Bool, true, false, not, ◌&&◌, ◌||◌, ◌==◌, List, [], ◌∷◌, ◌++◌, length, position, None, codes, ◌⊎◌}
+-- Object URLs of the scheme corbaloc: CORBA 3.0.3, section 13.6.10. That they have one address, of IIOP 1.2, and hosts
+-- of 1 to 255 bytes is own profile.
+use Rattle.std.specs.Prelude.{◌≡◌, ◌<◌, ◌≤◌, ◌^◌, ℕ, Bool, true, false, not, ◌&&◌, ◌||◌, ◌==◌, ◌⊎◌}
+use Rattle.std.specs.Prelude.{List, [], ◌∷◌, ◌++◌, length, position, None, codes}
 use Rattle.std.specs.Char.{is_ascii_digit, is_ascii_hexdigit}
 use Rattle.std.specs.List.{list_all}
 use Rattle.std.specs.Str.Parse.{digits_value}
@@ -52,7 +53,9 @@ pub record IsPortNumber (digits : List ℕ) (port : ℕ) : Type 0 where
 
 -- a colon and the port, or nothing for the default port
 abbrev pub IsPort : List ℕ → ℕ → Type 0
-IsPort text port = ((text ≡ []) × (port ≡ default_port)) ⊎ ((digits : List ℕ) × (text ≡ colon ∷ digits) × IsPortNumber digits port)
+IsPort text port =
+    ((text ≡ []) × (port ≡ default_port))
+    ⊎ ((digits : List ℕ) × (text ≡ colon ∷ digits) × IsPortNumber digits port)
 
 -- two hexadecimal digits stand in front
 abbrev pub begins_with_byte : List ℕ → Bool

@@ -1,5 +1,5 @@
--- The reading of an IIOP profile from left to right, with the first fault that is met: CORBA 3.0.3, section 15.7.2. The
--- causes and their order are own profile: what the Common Data Representation refuses goes before the version.
+-- The reading of an IIOP profile from left to right, with the first fault that is met: CORBA 3.0.3, section 15.7.2.
+-- The causes and their order are own profile: what the Common Data Representation refuses goes before the version.
 use Rattle.std.specs.Prelude.{ℕ, Bool, ◌&&◌, ◌==◌, nat_lt, if◌then◌else◌, List, [], Option, Some, None, Ok, Err}
 use Rattle.std.specs.Int.{w8, w16}
 use Rattle.orb_base.specs.Tagged.{Tagged}

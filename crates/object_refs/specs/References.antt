@@ -1,5 +1,6 @@
--- Stringified references: `IOR:` and the hexadecimal digits of an encapsulation: CORBA 3.0.3, section 13.6.9. That letters of
--- either case are read, and lower-case digits of the big order are written, is own profile, as are the causes and their order.
+-- Stringified references: `IOR:` and the hexadecimal digits of an encapsulation: CORBA 3.0.3, section 13.6.9. That
+-- letters of either case are read, and lower-case digits of the big order are written, is own profile, as are the
+-- causes and their order.
 use Rattle.std.specs.Prelude.{◌≡◌, ℕ, ◌+◌, if◌then◌else◌, List, ◌++◌, map, length, take, drop, codes, Result, Ok, Err}
 use Rattle.std.specs.Char.{to_ascii_lowercase}
 use Rattle.std.specs.Str.{bytes_eq}
@@ -10,7 +11,8 @@ use Rattle.cdr_core.specs.Encapsulation.{Encapsulates, encapsulation}
 use Rattle.cdr_core.specs.Reading.{string_at, entered}
 use Rattle.hex.specs.Hex.{decode_of, encode_lower}
 use Rattle.hex.specs.declared.error.FromHexError.{FromHexError}
-use Rattle.hex.specs.declared.error.FromHexError.TheVariants.{InvalidHexCharacter, OddLength, InvalidStringLength, OutOfMemory}
+use Rattle.hex.specs.declared.error.FromHexError.TheVariants.{InvalidHexCharacter, OddLength}
+use Rattle.hex.specs.declared.error.FromHexError.TheVariants.{InvalidStringLength, OutOfMemory}
 use Rattle.object_refs.specs.declared.fault.RefFault.{RefFault}
 use Rattle.object_refs.specs.declared.fault.RefCause.TheVariants.{NoPrefix, OddHex, BadHex}
 use Rattle.object_refs.specs.Reference.{Reference}
@@ -43,10 +45,11 @@ reference_text r = codes "IOR:" ++ encode_lower (encapsulation Big (reference_fi
 
 -- the digits behind the prefix
 unfoldable pub digits_of : List ℕ → Read (List ℕ)
-digits_of text = if bytes_eq (map to_ascii_lowercase (take 4 text)) lower_prefix then Ok (drop 4 text) else Err (fault NoPrefix 0)
+digits_of text =
+    if bytes_eq (map to_ascii_lowercase (take 4 text)) lower_prefix then Ok (drop 4 text) else Err (fault NoPrefix 0)
 
--- what is wrong with the digits of a text of this length: an odd number of them, at the text's end, or a bad one; the other
--- errors do not come, and count as the first
+-- what is wrong with the digits of a text of this length: an odd number of them, at the text's end, or a bad one; the
+-- other errors do not come, and count as the first
 abbrev pub digits_fault : ℕ → FromHexError → RefFault
 digits_fault len (InvalidHexCharacter digit index) = fault BadHex (index + 4)
 digits_fault len OddLength = fault OddHex len

@@ -72,9 +72,9 @@ fn location(alloc: Global, text: &[u8]) -> Result<Corbaloc, RefError>
     }
 }
 
-/// Reads an object URL: `corbaloc:iiop:1.2@HOST:PORT/KEY` or the same with `corbaloc::`, where the port may be left out with
-/// its colon and is then 2809, and `%hh` in the key is a byte. Refuses the first part that has no reading, at its first
-/// byte: own profile. Work grows with the text; the host and the key are copied.
+/// Reads an object URL: `corbaloc:iiop:1.2@HOST:PORT/KEY` or the same with `corbaloc::`, where the port may be left out
+/// with its colon and is then 2809, and `%hh` in the key is a byte. Refuses the first part that has no reading, at its
+/// first byte: own profile. Work grows with the text; the host and the key are copied.
 pub fn parse_corbaloc(alloc: Global, text: &[u8]) -> Result<Corbaloc, RefError>
     // The location, or which fault it is.
     ensures exact { Answers (λ l. l) result (location_of text.now) }

@@ -6,8 +6,8 @@ ghost use Rattle.object_refs.specs.declared.fault.RefError.TheVariants.{Refused}
 use cdr_core::CdrCause;
 use thiserror::Error;
 
-/// What is wrong with a reference: own profile. A stringified reference is tested for NoPrefix, OddHex, BadHex and Cdr in
-/// this order, the first IIOP profile of a reference for NoIiop, Cdr and BadVersion, and an object URL for NoPrefix,
+/// What is wrong with a reference: own profile. A stringified reference is tested for NoPrefix, OddHex, BadHex and Cdr
+/// in this order, the first IIOP profile of a reference for NoIiop, Cdr and BadVersion, and an object URL for NoPrefix,
 /// BadVersion, BadHost, BadPort and BadEscape.
 #[derive(Clone, Copy, Debug, PartialEq, Eq, Hash, Error)]
 pub enum RefCause {
@@ -45,9 +45,9 @@ pub enum RefCause {
 #[error("{place}: {cause}")]
 pub struct RefFault {
     pub cause: RefCause,
-    /// A byte of the text, counted from 0: the first byte of the part at fault of an object URL, the first bad digit, or
-    /// the text's length where a digit is missing. For Cdr a byte of the encapsulation, counted from its order byte. 0 for
-    /// NoIiop and for BadVersion of a profile.
+    /// A byte of the text, counted from 0: the first byte of the part at fault of an object URL, the first bad digit,
+    /// or the text's length where a digit is missing. For Cdr a byte of the encapsulation, counted from its order byte.
+    /// 0 for NoIiop and for BadVersion of a profile.
     pub place: usize,
 }
 

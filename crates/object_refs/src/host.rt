@@ -29,7 +29,8 @@ fn host_len(text: &[u8]) -> Option<usize>
 #[tactic(auto, unfolding(crate::specs::LocationReading::host_of_len))]
 fn host_of_len(text: &[u8], len: usize) -> Option<(&[u8], u8, &[u8])>
     requires { len < length text.now }
-    ensures { option_map {U = List ℕ × ℕ × List ℕ} (λ x. (x.0.now, x.1, x.2.now)) result ≡ host_of_len text.now len }
+    ensures { option_map {U = List ℕ × ℕ × List ℕ} (λ x. (x.0.now, x.1, x.2.now)) result
+        ≡ host_of_len text.now len }
 {
     let end = text[len];
     if 0 < len && len <= MAX_HOST && (end == b':' || end == b'/') {
@@ -50,7 +51,8 @@ fn host_of(text: &[u8]) -> Option<(&[u8], u8, &[u8])>
 
 /// The host at the front of an address, the colon or slash that ends it, and what stands behind that.
 pub fn host<'a>(text: &[u8], address: &'a [u8]) -> Result<(&'a [u8], u8, &'a [u8]), RefError>
-    ensures { Answers {Y = List ℕ × ℕ × List ℕ} (λ x. (x.0.now, x.1, x.2.now)) result (part BadHost text.now address.now (host_of address.now)) }
+    ensures { Answers {Y = List ℕ × ℕ × List ℕ} (λ x. (x.0.now, x.1, x.2.now)) result
+        (part BadHost text.now address.now (host_of address.now)) }
 {
     match host_of(address) {
         Some(host) => Ok(host),

@@ -3,7 +3,8 @@ ghost use Rattle.std.specs.Prelude.{◌≡◌, ℕ, IfOk, Ok, option_map};
 ghost use Rattle.object_refs.specs.Answers.{Answers, Gives};
 ghost use Rattle.object_refs.specs.Layout.{has_components};
 ghost use Rattle.object_refs.specs.Profiles.{first_of, IsProfile, IsFirstProfile};
-ghost use Rattle.object_refs.specs.ProfileReading.{components_at, versioned_at, supported, profile_of, first_profile_of};
+ghost use Rattle.object_refs.specs.ProfileReading.{components_at, versioned_at, supported};
+ghost use Rattle.object_refs.specs.ProfileReading.{profile_of, first_profile_of};
 ghost use Rattle.object_refs.specs.Reference as Spec;
 
 use crate::fault::{RefCause, RefError, RefFault};
@@ -102,9 +103,10 @@ fn first_of(profiles: &[Tagged]) -> Option<&Tagged>
     profiles.iter().find(|profile| profile.tag == IIOP_TAG)
 }
 
-/// Reads the first profile of IIOP of a reference, in either byte order; later ones are not looked at. Refuses with NoIiop at
-/// place 0 where there is none, with the first fault of its encapsulation, at its place there, and with BadVersion at place
-/// 0 where its version isn't 1.2 or a later 1.x. Work grows with the profile; the texts and octets of it are copied.
+/// Reads the first profile of IIOP of a reference, in either byte order; later ones are not looked at. Refuses with
+/// NoIiop at place 0 where there is none, with the first fault of its encapsulation, at its place there, and with
+/// BadVersion at place 0 where its version isn't 1.2 or a later 1.x. Work grows with the number of profiles and with
+/// this one, whose texts and octets are copied.
 #[tactic(auto, unfolding(crate::specs::ProfileReading::first_profile_of))]
 pub fn first_iiop(alloc: Global, ior: &Ior) -> Result<IiopProfile, RefError>
     // The profile, or which fault it is.

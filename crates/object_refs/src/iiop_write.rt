@@ -1,11 +1,12 @@
 //! The writing of IIOP profiles: CORBA 3.0.3, section 15.7.2.
-ghost use Rattle.std.specs.Prelude.{◌≡◌, ◌+◌, ◌<◌, ◌≤◌, ◌^◌, ◌==◌, Bool, [], ◌∷◌, ◌++◌, ◌⊎◌, length, nat_lt, IfOk};
+ghost use Rattle.std.specs.Prelude.{◌≡◌, ◌+◌, ◌<◌, ◌≤◌, ◌^◌, [], ◌∷◌, ◌++◌, ◌⊎◌, length, IfOk};
 ghost use Rattle.std.specs.Int.{w8, w16};
 ghost use Rattle.orb_base.specs.declared.order.Order.TheVariants.{Big};
 ghost use Rattle.cdr_core.specs.Encapsulation.{encapsulation};
 ghost use Rattle.cdr_core.specs.Field.{number, string_fields, octets_fields};
 ghost use Rattle.cdr_core.specs.Writing.{Puts};
-ghost use Rattle.object_refs.specs.Layout.{AreCounted, FitsProfile, IsCountedProfile, components_fields, profile_fields};
+ghost use Rattle.object_refs.specs.Layout.{AreCounted, FitsProfile, IsCountedProfile};
+ghost use Rattle.object_refs.specs.Layout.{components_fields, profile_fields};
 ghost use Rattle.object_refs.specs.Profiles.{IsProfile, tagged_profile};
 
 use crate::iiop_profile::IiopProfile;
@@ -62,8 +63,8 @@ fn encapsulated(alloc: Global, profile: &IiopProfile) -> Result<Octets, NoMemory
     Ok(into.finish())
 }
 
-/// Writes a profile of IIOP 1.`minor` as the one spelling of it in big order: the tag of IIOP, and the encapsulation. Each
-/// length must be below 2^32, and a profile of version 1.0 has no components. Work grows with the profile.
+/// Writes a profile of IIOP 1.`minor` as the one spelling of it in big order: the tag of IIOP, and the encapsulation.
+/// Each length must be below 2^32, and a profile of version 1.0 has no components. Work grows with the profile.
 pub fn write_iiop(alloc: Global, profile: &IiopProfile) -> Result<Tagged, NoMemory>
     requires counted { IsCountedProfile profile.now }
     requires version { (1 ≤ profile.now.minor) ⊎ (profile.now.components ≡ []) }

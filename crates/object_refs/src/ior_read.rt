@@ -3,7 +3,8 @@ ghost use Rattle.std.specs.Prelude.{◌≡◌, ◌+◌, length, IfOk, Ok};
 ghost use Rattle.hex.specs.Hex.{decode_of};
 ghost use Rattle.object_refs.specs.Answers.{Answers, Gives};
 ghost use Rattle.object_refs.specs.Reference as Spec;
-ghost use Rattle.object_refs.specs.References.{IsEncapsulated, IsReference, decoded, digits_of, reference_at, reference_in, reference_of};
+ghost use Rattle.object_refs.specs.References.{IsReference, decoded, digits_of};
+ghost use Rattle.object_refs.specs.References.{reference_at, reference_in, reference_of};
 
 use crate::fault::{RefCause, RefError, RefFault};
 use crate::ior::Ior;
@@ -82,10 +83,10 @@ fn reference_of(alloc: Global, text: &[u8]) -> Result<Ior, RefError>
     reference_in(alloc, bytes.as_slice())
 }
 
-/// Reads a stringified reference: `IOR:`, its letters of either case, and the hexadecimal digits of an encapsulation in either
-/// byte order; bytes behind the reference in it are ignored. Refuses with NoPrefix at place 0, OddHex at the text's length,
-/// BadHex at the first bad digit, or the first fault of the encapsulation at its place there, in this order. Work grows
-/// with the text; the encapsulation is decoded once, and the texts and octets of it are copied.
+/// Reads a stringified reference: `IOR:`, its letters of either case, and the hexadecimal digits of an encapsulation in
+/// either byte order; bytes behind the reference in it are ignored. Refuses with NoPrefix at place 0, OddHex at the
+/// text's length, BadHex at the first bad digit, or the first fault of the encapsulation at its place there, in this
+/// order. Work grows with the text; the encapsulation is decoded once, and its texts and octets are copied.
 pub fn parse_ior(alloc: Global, text: &[u8]) -> Result<Ior, RefError>
     // The reference, or which fault it is.
     ensures exact { Answers (λ r. r) result (reference_of text.now) }

@@ -49,8 +49,8 @@ fn digits_text(alloc: Global, bytes: &[u8]) -> Result<Text, NoMemory>
     }
 }
 
-/// Writes a reference as its one text: `IOR:` and the hexadecimal digits, in lower case, of its encapsulation in big order.
-/// Each length must be below 2^32. Work grows with the reference.
+/// Writes a reference as its one text: `IOR:` and the hexadecimal digits, in lower case, of its encapsulation in big
+/// order. Each length must be below 2^32. Work grows with the reference.
 pub fn ior_text(alloc: Global, ior: &Ior) -> Result<Text, NoMemory>
     requires { IsCountedReference ior.now }
     ensures text { IfOk result (λ t. t ≡ reference_text ior.now) }

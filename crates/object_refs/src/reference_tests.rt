@@ -1,5 +1,5 @@
-//! Stringified references and IIOP profiles, against octets that were spelled out by hand from CORBA 3.0.3, sections 13.6.2 and
-//! 15.7.2.
+//! Stringified references and IIOP profiles, against octets that were spelled out by hand from CORBA 3.0.3, sections
+//! 13.6.2 and 15.7.2.
 ghost use Rattle.std.specs.Prelude.{◌≡◌, IfOk};
 
 use super::*;
@@ -133,8 +133,8 @@ fn the_first_profile_of_iiop_counts(rt: HostRuntime) -> Result<(), Fail> {
     Ok(())
 }
 
-/// Profiles of a reference that have no reading: none of IIOP, no byte, an order byte of 2, cut short; versions 1.0, 0.9 and
-/// 2.0; 1.1 with its components, and without, which goes before the version; a later one that has a reading.
+/// Profiles of a reference that have no reading: none of IIOP, no byte, an order byte of 2, cut short; versions 1.0,
+/// 0.9 and 2.0; 1.1 with its components; and without them, which goes before the version, and before a later profile.
 const NO_PROFILES: [(&[(u32, &[u8])], RefCause, usize); 10] = [
     (&[], RefCause::NoIiop, 0),
     (&[(1, SMALL), (2, SMALL)], RefCause::NoIiop, 0),

@@ -8,9 +8,11 @@ use Rattle.object_refs.proofs.corbaloc.parse_corbaloc.Goals as goal
 pub returns-clause-found : goal.returns-clause-found
 returns-clause-found c =
     let text = c.args.text.now in
-    found_so {X = Location} (λ l. l) c.location.result (location_of text) (λ l. IsLocation l text) (locations_exact text) c.location.ensures
+    found_so {X = Location} (λ l. l) c.location.result (location_of text) (λ l. IsLocation l text)
+    (locations_exact text) c.location.ensures
 
 pub returns-clause-only : goal.returns-clause-only
 returns-clause-only c =
     let text = c.args.text.now in
-    only_so {X = Location} (λ l. l) c.location.result (location_of text) (λ l. IsLocation l text) (locations_exact text) c.location.ensures
+    only_so {X = Location} (λ l. l) c.location.result (location_of text) (λ l. IsLocation l text)
+    (locations_exact text) c.location.ensures

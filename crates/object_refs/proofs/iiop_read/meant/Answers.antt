@@ -11,10 +11,12 @@ pub returns-clause-found : goal.returns-clause-found
 returns-clause-found c =
     let bytes = c.args.bytes.now in
     let fits : AreBytes bytes = search rules in
-    found_so {X = Profile} (λ p. p) c.profile_of.result (profile_of bytes) (λ p. IsProfile p bytes) (profiles_exact bytes fits) c.profile_of.ensures
+    found_so {X = Profile} (λ p. p) c.profile_of.result (profile_of bytes) (λ p. IsProfile p bytes)
+    (profiles_exact bytes fits) c.profile_of.ensures
 
 pub returns-clause-only : goal.returns-clause-only
 returns-clause-only c =
     let bytes = c.args.bytes.now in
     let fits : AreBytes bytes = search rules in
-    only_so {X = Profile} (λ p. p) c.profile_of.result (profile_of bytes) (λ p. IsProfile p bytes) (profiles_exact bytes fits) c.profile_of.ensures
+    only_so {X = Profile} (λ p. p) c.profile_of.result (profile_of bytes) (λ p. IsProfile p bytes)
+    (profiles_exact bytes fits) c.profile_of.ensures

@@ -8,9 +8,11 @@ use Rattle.object_refs.proofs.iiop_write.put_address.Goals as goal
 pub returns-in_err-put_string : goal.returns-in_err-put_string
 returns-in_err-put_string c =
     let p = err_from_is_err_and c.from_residual.result c.from_residual.ensures.1 in
-    rw p.1 (puts_first c.args.into.now c.put_string.new.self (string_fields c.args.host.now) (number w16 c.args.port ∷ []) c.in_err-put_string.ensures)
+    rw p.1 (puts_first c.args.into.now c.put_string.new.self (string_fields c.args.host.now)
+    (number w16 c.args.port ∷ []) c.in_err-put_string.ensures)
 
 pub returns : goal.returns
 returns c =
-    puts_then c.put_u16.result c.args.into.now c.put_string.new.self c.put_u16.new.self (string_fields c.args.host.now) (number w16 c.args.port ∷ []) c.in_ok-put_string.ensures
+    puts_then c.put_u16.result c.args.into.now c.put_string.new.self c.put_u16.new.self (string_fields c.args.host.now)
+    (number w16 c.args.port ∷ []) c.in_ok-put_string.ensures
     c.put_u16.ensures

@@ -10,6 +10,8 @@ overflow_add-fault c =
     elim c.in-Err-InvalidHexCharacter.ensures.err [
       | inl memory ↦ let none = sym is ∙ memory in absurd cc
       | inr refused ↦
-          let within = bad_within c.args.digits.now c.in-Err-InvalidHexCharacter.field-0-0 c.in-Err-InvalidHexCharacter.index (refused ∙ ap Err is) in
+          let within =
+          bad_within c.args.digits.now c.in-Err-InvalidHexCharacter.field-0-0 c.in-Err-InvalidHexCharacter.index
+          (refused ∙ ap Err is) in
           omega (arith, within, c.requires, c.ranges.len.fits)
     ]

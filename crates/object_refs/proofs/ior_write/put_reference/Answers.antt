@@ -8,10 +8,12 @@ pub returns-in_err-put_string : goal.returns-in_err-put_string
 returns-in_err-put_string c =
     let p = err_from_is_err_and c.from_residual.result c.from_residual.ensures.1 in
     rw (p.1, ← c.ior.view_is)
-    (puts_first c.args.into.now c.put_string.new.self (string_fields c.ior.inside.type_id) (list_fields c.ior.inside.profiles.items) c.in_err-put_string.ensures)
+    (puts_first c.args.into.now c.put_string.new.self (string_fields c.ior.inside.type_id)
+    (list_fields c.ior.inside.profiles.items) c.in_err-put_string.ensures)
 
 pub returns : goal.returns
 returns c =
     rw (← c.ior.view_is)
-    (puts_then c.put_list.result c.args.into.now c.put_string.new.self c.put_list.new.into (string_fields c.ior.inside.type_id) (list_fields c.ior.inside.profiles.items)
+    (puts_then c.put_list.result c.args.into.now c.put_string.new.self c.put_list.new.into
+    (string_fields c.ior.inside.type_id) (list_fields c.ior.inside.profiles.items)
     c.in_ok-put_string.ensures (rw c.as_slice.ensures at c.put_list.ensures))

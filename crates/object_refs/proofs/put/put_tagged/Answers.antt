@@ -9,10 +9,12 @@ pub returns-in_err-put_u32 : goal.returns-in_err-put_u32
 returns-in_err-put_u32 c =
     let p = err_from_is_err_and c.from_residual.result c.from_residual.ensures.1 in
     rw (p.1, ← c.tagged.view_is)
-    (puts_first c.args.into.now c.put_u32.new.self (number w32 c.tagged.inside.tag ∷ []) (octets_fields c.tagged.inside.bytes.items) c.in_err-put_u32.ensures)
+    (puts_first c.args.into.now c.put_u32.new.self (number w32 c.tagged.inside.tag ∷ [])
+    (octets_fields c.tagged.inside.bytes.items) c.in_err-put_u32.ensures)
 
 pub returns : goal.returns
 returns c =
     rw (← c.tagged.view_is)
-    (puts_then c.put_octets.result c.args.into.now c.put_u32.new.self c.put_octets.new.self (number w32 c.tagged.inside.tag ∷ []) (octets_fields c.tagged.inside.bytes.items)
+    (puts_then c.put_octets.result c.args.into.now c.put_u32.new.self c.put_octets.new.self
+    (number w32 c.tagged.inside.tag ∷ []) (octets_fields c.tagged.inside.bytes.items)
     c.in_ok-put_u32.ensures (rw c.as_slice.ensures at c.put_octets.ensures))
