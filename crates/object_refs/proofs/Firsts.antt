@@ -52,7 +52,7 @@ first_again p [] = refl
 first_again p (x ∷ xs) =
     let others = first_again p xs in
     let one_more : 1 + position_or_len p xs ≡ suc (position_or_len p xs) = omega arith in
-    elim (cases_Bool (p x)) [ | inl e ↦ rw e refl | inr e ↦ rw (e, one_more, e) (omega (arith, others)) ]
+    elim (cases_Bool (p x)) [ inl e ↦ rw e refl | inr e ↦ rw (e, one_more, e) (omega (arith, others)) ]
 
 -- the list is what stands before the first that passes, that one, and what stands behind it
 pub record CutAt (p : ℕ → Bool) (xs : List ℕ) (n : ℕ) : Type 0 where
