@@ -24,13 +24,19 @@ versioned_at c = do
   port ← cdr (number_at w16 host.1)
   key ← cdr (octets_at port.1)
   components ← components_at (has_components major.0 minor.0) key.1
-  Ok ((major.0, record {
-    minor = minor.0;
-    host = host.0;
-    port = port.0;
-    key = key.0;
-    components = components.0;
-  }), components.1)
+  Ok (
+    (
+      major.0,
+      record {
+        minor = minor.0;
+        host = host.0;
+        port = port.0;
+        key = key.0;
+        components = components.0;
+      },
+    ),
+    components.1,
+  )
 
 -- a profile of version 1.2 or of a later 1.x
 unfoldable pub supported : ℕ → Profile → Read Profile

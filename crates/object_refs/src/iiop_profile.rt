@@ -23,6 +23,11 @@ impl Model for IiopProfile {
 
     ghost Value = { Spec.Profile };
 
-    ghost view = { λ p. record { minor = p.minor; host = p.host; port = p.port; key = p.key.items;
-        components = p.components.items } };
+    ghost view = { λ p. record {
+      minor = p.minor;
+      host = p.host;
+      port = p.port;
+      key = p.key.items;
+      components = p.components.items;
+    } };
 }

@@ -10,7 +10,7 @@ ghost use Rattle.object_refs.specs.Reference as Spec;
 use crate::fault::{RefCause, RefError, RefFault};
 use crate::iiop_profile::IiopProfile;
 use crate::ior::Ior;
-use crate::take::{entered, take_list, take_octets, take_text, take_u16, take_u8};
+use crate::take::{entered, take_list, take_octets, take_text, take_u8, take_u16};
 use cdr_core::Reader;
 use orb_base::{List, Tagged};
 use std::alloc::Global;

@@ -38,7 +38,11 @@ fn put_components(into: &mut Writer, present: bool, list: &[Tagged]) -> Result<(
     requires { AreCounted list.now }
     ensures { Puts result into.old into.new (components_fields present list.now) }
 {
-    if present { put_list(into, list) } else { Ok(()) }
+    if present {
+        put_list(into, list)
+    } else {
+        Ok(())
+    }
 }
 
 /// Puts a profile.
@@ -74,5 +78,8 @@ pub fn write_iiop(alloc: Global, profile: &IiopProfile) -> Result<Tagged, NoMemo
         → IfOk result (λ t. IsProfile profile.now t.bytes) }
 {
     let bytes = encapsulated(alloc, profile)?;
-    Ok(Tagged { tag: IIOP_TAG, bytes })
+    Ok(Tagged {
+        tag: IIOP_TAG,
+        bytes,
+    })
 }

@@ -96,15 +96,27 @@ const NO_REFERENCES: [(&[u8], RefCause, usize); 15] = [
     (b"IOR:", RefCause::Cdr(CdrCause::Short), 0),
     (b"IOR:02", RefCause::Cdr(CdrCause::BadBool), 0),
     (b"IOR:00", RefCause::Cdr(CdrCause::Short), 4),
-    (b"IOR:0000000000000000", RefCause::Cdr(CdrCause::BadString), 4),
+    (
+        b"IOR:0000000000000000",
+        RefCause::Cdr(CdrCause::BadString),
+        4,
+    ),
     (b"IOR:0000000000000002", RefCause::Cdr(CdrCause::TooMany), 4),
-    (b"IOR:00000000000000010000000000000001", RefCause::Cdr(CdrCause::TooMany), 12),
+    (
+        b"IOR:00000000000000010000000000000001",
+        RefCause::Cdr(CdrCause::TooMany),
+        12,
+    ),
 ];
 
 #[test]
 fn other_texts_are_no_references(rt: HostRuntime) {
     for (text, cause, place) in NO_REFERENCES {
-        assert_eq!(rt; parse_ior(rt.alloc(), text).err(), refused(cause, place), "{text:?}");
+        assert_eq!(rt;
+            parse_ior(rt.alloc(), text).err(),
+            refused(cause, place),
+            "{text:?}"
+        );
     }
     let cut = parse_ior(rt.alloc(), &PING[..215]).err();
     assert_eq!(rt; cut, refused(RefCause::OddHex, 215));
@@ -113,8 +125,20 @@ fn other_texts_are_no_references(rt: HostRuntime) {
 /// Profiles of a reference whose first one of IIOP has a reading, with its minor version.
 const PROFILES: [(&[(u32, &[u8])], u8); 5] = [
     (&[(0, SMALL)], 2),
-    (&[(0, b"\0\x01\x03\0\0\0\0\x02h\0\x0a\xf9\0\0\0\x01k\0\0\0\0\0\0\0")], 3),
-    (&[(0, b"\x01\x01\x02\xff\x02\0\0\0h\0\xf9\x0a\x01\0\0\0k\xff\xff\xff\0\0\0\0behind")], 2),
+    (
+        &[(
+            0,
+            b"\0\x01\x03\0\0\0\0\x02h\0\x0a\xf9\0\0\0\x01k\0\0\0\0\0\0\0",
+        )],
+        3,
+    ),
+    (
+        &[(
+            0,
+            b"\x01\x01\x02\xff\x02\0\0\0h\0\xf9\x0a\x01\0\0\0k\xff\xff\xff\0\0\0\0behind",
+        )],
+        2,
+    ),
     (&[(1, b"\x02"), (0, SMALL)], 2),
     (&[(0, SMALL), (0, b"\x02")], 2),
 ];
@@ -140,12 +164,41 @@ const NO_PROFILES: [(&[(u32, &[u8])], RefCause, usize); 10] = [
     (&[(1, SMALL), (2, SMALL)], RefCause::NoIiop, 0),
     (&[(0, b"")], RefCause::Cdr(CdrCause::Short), 0),
     (&[(0, b"\x02\x01\x02")], RefCause::Cdr(CdrCause::BadBool), 0),
-    (&[(0, b"\0\x01\x02\0\0\0\0\x02h\0\x0a")], RefCause::Cdr(CdrCause::Short), 10),
+    (
+        &[(0, b"\0\x01\x02\0\0\0\0\x02h\0\x0a")],
+        RefCause::Cdr(CdrCause::Short),
+        10,
+    ),
     (&[(0, OLDEST)], RefCause::BadVersion, 0),
-    (&[(0, b"\0\0\x09\0\0\0\0\x02h\0\x0a\xf9\0\0\0\x01k")], RefCause::BadVersion, 0),
-    (&[(0, b"\0\x02\0\0\0\0\0\x02h\0\x0a\xf9\0\0\0\x01k\0\0\0\0\0\0\0")], RefCause::BadVersion, 0),
-    (&[(0, b"\0\x01\x01\0\0\0\0\x02h\0\x0a\xf9\0\0\0\x01k\0\0\0\0\0\0\0")], RefCause::BadVersion, 0),
-    (&[(0, b"\0\x01\x01\0\0\0\0\x02h\0\x0a\xf9\0\0\0\x01k"), (0, SMALL)], RefCause::Cdr(CdrCause::Short), 20),
+    (
+        &[(0, b"\0\0\x09\0\0\0\0\x02h\0\x0a\xf9\0\0\0\x01k")],
+        RefCause::BadVersion,
+        0,
+    ),
+    (
+        &[(
+            0,
+            b"\0\x02\0\0\0\0\0\x02h\0\x0a\xf9\0\0\0\x01k\0\0\0\0\0\0\0",
+        )],
+        RefCause::BadVersion,
+        0,
+    ),
+    (
+        &[(
+            0,
+            b"\0\x01\x01\0\0\0\0\x02h\0\x0a\xf9\0\0\0\x01k\0\0\0\0\0\0\0",
+        )],
+        RefCause::BadVersion,
+        0,
+    ),
+    (
+        &[
+            (0, b"\0\x01\x01\0\0\0\0\x02h\0\x0a\xf9\0\0\0\x01k"),
+            (0, SMALL),
+        ],
+        RefCause::Cdr(CdrCause::Short),
+        20,
+    ),
 ];
 
 #[test]
@@ -160,7 +213,9 @@ fn other_profiles_are_at_fault(rt: HostRuntime) -> Result<(), Fail> {
 #[test]
 fn references_of_another_broker_are_read(rt: HostRuntime) -> Result<(), Fail> {
     for foreign in FOREIGN {
-        let ior = parse_ior(rt.alloc(), foreign.text).ok().ok_or("a reference")?;
+        let ior = parse_ior(rt.alloc(), foreign.text)
+            .ok()
+            .ok_or("a reference")?;
         assert_eq!(rt; ior.type_id.as_slice(), foreign.type_id);
         let profile = first_iiop(rt.alloc(), &ior).ok().ok_or("a profile")?;
         assert_eq!(rt; profile.host.as_slice(), foreign.host);

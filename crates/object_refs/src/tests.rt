@@ -3,7 +3,12 @@ use std::test::*;
 
 /// The text of an object URL, and the host, port and key that it names.
 const LOCATIONS: [(&[u8], &[u8], u16, &[u8]); 8] = [
-    (b"corbaloc:iiop:1.2@127.0.0.1:2810/ping", b"127.0.0.1", 2810, b"ping"),
+    (
+        b"corbaloc:iiop:1.2@127.0.0.1:2810/ping",
+        b"127.0.0.1",
+        2810,
+        b"ping",
+    ),
     (b"corbaloc::1.2@127.0.0.1/ping", b"127.0.0.1", 2809, b"ping"),
     (b"corbaloc::1.2@h/a%2Fb", b"h", 2809, b"a/b"),
     (b"corbaloc::1.2@h/%00%fF%25", b"h", 2809, b"\0\xff%"),
@@ -60,6 +65,10 @@ const NO_LOCATIONS: [(&[u8], RefCause, usize); 28] = [
 fn a_part_without_reading_is_at_fault(rt: HostRuntime) {
     for (text, cause, place) in NO_LOCATIONS {
         let fault = parse_corbaloc(rt.alloc(), text).err();
-        assert_eq!(rt; fault, Some(RefError::Refused(RefFault { cause, place })), "{text:?}");
+        assert_eq!(rt;
+            fault,
+            Some(RefError::Refused(RefFault { cause, place })),
+            "{text:?}"
+        );
     }
 }

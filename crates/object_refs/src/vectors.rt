@@ -7,7 +7,8 @@ pub const PING: &[u8] =
     000a00000000000000000064";
 
 /// The data of its one profile.
-pub const PROFILE: &[u8] = b"\0\x01\x02\0\0\0\0\x0a127.0.0.1\0\x0a\xf9\0\0\0\x04ping\0\0\0\x01\0\0\0\x02\0\0\0\x1a\0\0\
+pub const PROFILE: &[u8] =
+    b"\0\x01\x02\0\0\0\0\x0a127.0.0.1\0\x0a\xf9\0\0\0\x04ping\0\0\0\x01\0\0\0\x02\0\0\0\x1a\0\0\
     \0\0\0\0\0\x01\0\0\0(\0\0\0\x0a\0\0\0\0\0\0\0\0\0d";
 
 /// The data of the one component of that, TAG_POLICIES.
