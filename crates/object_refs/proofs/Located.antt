@@ -1,7 +1,7 @@
 -- Object URLs: what is read is what the text names, and what the text names is read.
-use Rattle.std.proofs.Common.{◌≡◌, ℕ, suc, ◌+◌, ◌^◌, ◌<◌, ◌≤◌, Bool, true, false, not, ◌&&◌, ◌||◌, cond, eqb, leb}
-use Rattle.std.proofs.Common.{ltb, List, [], ◌∷◌, ◌++◌, length, take, drop, get_or, Option, Some, None, Ok, Err, refl}
-use Rattle.std.proofs.Common.{sym, ap, subst, ◌∙◌, ◌⊎◌, inl, inr, append_assoc, arith}
+use Rattle.std.proofs.Common.{◌≡◌, ℕ, suc, ◌+◌, ◌^◌, ◌<◌, ◌≤◌, Bool, true, false, ◌&&◌, ◌||◌, eqb, leb}
+use Rattle.std.proofs.Common.{ltb, List, [], ◌∷◌, ◌++◌, length, take, drop, get_or, Option, Some, None, Ok, refl}
+use Rattle.std.proofs.Common.{sym, ap, subst, ◌∙◌, ◌⊎◌, inl, inr, arith}
 use Rattle.std.specs.Char.{is_ascii_digit}
 use Rattle.std.specs.List.{list_all, position, position_or_len}
 use Rattle.std.specs.Str.Parse.{digits_value}
@@ -11,7 +11,7 @@ use Rattle.percent_encoding.specs.Percent.{percent_decode}
 use Rattle.object_refs.specs.declared.fault.RefCause.{RefCause}
 use Rattle.object_refs.specs.Reference.{Location}
 use Rattle.object_refs.specs.Locations.{scheme, iiop_protocol, short_protocol, version_part, colon, slash, ends_host}
-use Rattle.object_refs.specs.Locations.{IsHost, IsPortNumber, IsPort, is_escaped, IsKey, IsLocation}
+use Rattle.object_refs.specs.Locations.{IsHost, IsPortNumber, IsPort, is_escaped, IsLocation}
 use Rattle.object_refs.specs.LocationReading.{part, behind, or_else, behind_protocol, host_of_len, host_of}
 use Rattle.object_refs.specs.LocationReading.{port_number, port_of_len, port_of, port_at, key_of, location_of}
 use Rattle.object_refs.specs.Laws.{IsExactly}

@@ -1,5 +1,5 @@
 -- Texts and bytes mean one thing at most, and what is written is read.
-use Rattle.std.proofs.Common.{◌≡◌, ℕ, ◌≤◌, List, [], ◌++◌, Some, Ok, Result, Err, IfOk, codes, refl, sym, ap, ◌∙◌}
+use Rattle.std.proofs.Common.{◌≡◌, ℕ, ◌≤◌, List, [], ◌++◌, Ok, Result, Err, IfOk, codes, refl, sym, ap, ◌∙◌}
 use Rattle.std.proofs.Common.{subst}
 use Rattle.orb_base.specs.Tagged.{Tagged}
 use Rattle.orb_base.specs.declared.no_memory.NoMemory.{NoMemory}
@@ -12,13 +12,10 @@ use Rattle.std.proofs.lemmas.List.{append-nil}
 use Rattle.hex.specs.Hex.{encode_lower}
 use Rattle.hex.proofs.HexLemmas.{decode_of-encode_lower}
 use Rattle.object_refs.specs.Layout.{profile_fields, reference_fields, FitsProfile, FitsReference}
-use Rattle.object_refs.specs.LocationReading.{location_of}
 use Rattle.object_refs.specs.Locations.{IsLocation}
-use Rattle.object_refs.specs.ProfileReading.{profile_of}
-use Rattle.object_refs.specs.Profiles.{IsFirstProfile, IsProfile, tagged_profile, first_of}
-use Rattle.object_refs.specs.Reading.{Read}
+use Rattle.object_refs.specs.Profiles.{IsFirstProfile, IsProfile}
 use Rattle.object_refs.specs.Reference.{Location, Profile, Reference}
-use Rattle.object_refs.specs.References.{IsReference, IsEncapsulated, reference_of, reference_text}
+use Rattle.object_refs.specs.References.{IsReference, reference_text}
 use Rattle.object_refs.proofs.Steps.{ok_is, some_is}
 use Rattle.object_refs.proofs.Located.{location_again}
 use Rattle.object_refs.proofs.Texts.{reference_again}

@@ -1,6 +1,6 @@
 -- Parts put one behind the other.
 use Rattle.std.proofs.Common.{◌≡◌, ℕ, zero, suc, ◌+◌, ◌<◌, ◌≤◌, List, [], ◌∷◌, ◌++◌, length, take, drop, get_or, Err}
-use Rattle.std.proofs.Common.{append_assoc, add-one, sym, ap, subst, ◌∙◌, arith}
+use Rattle.std.proofs.Common.{add-one, sym, ap, subst, ◌∙◌, arith}
 use Rattle.std.specs.List.{AllByRecursion, flat_map}
 use Rattle.std.specs.Int.{w8}
 use Rattle.std.proofs.Math.Seq.{take-suc, take-length}
@@ -10,7 +10,7 @@ use Rattle.orb_base.specs.declared.no_memory.NoMemory.{NoMemory}
 use Rattle.orb_base.specs.declared.order.Order.TheVariants.{Big}
 use Rattle.cdr_core.specs.Encapsulation.{encapsulation}
 use Rattle.cdr_core.specs.Field.{Field, number, number_bytes}
-use Rattle.cdr_core.specs.Writing.{Page, page, written, HasFront, Puts}
+use Rattle.cdr_core.specs.Writing.{Page, page, written, HasFront}
 use Rattle.cdr_core.proofs.CallerLemmas.{written-then, puts_then, puts_first}
 
 pub written_none : (p : Page) → p ≡ written p []

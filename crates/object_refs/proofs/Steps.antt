@@ -1,11 +1,11 @@
 -- Readings, one after the other.
-use Rattle.std.proofs.Common.{◌≡◌, Bool, true, false, cond, Option, Some, None, Result, Ok, Err, refl, sym, ap, ◌∙◌}
+use Rattle.std.proofs.Common.{◌≡◌, Bool, true, false, cond, Option, Some, None, Result, Ok, Err, refl, sym, ◌∙◌}
 use Rattle.std.specs.Prelude.{IfOk, option_and_then}
 use Rattle.cdr_core.specs.declared.fault.CdrFault.{CdrFault}
 use Rattle.object_refs.specs.declared.fault.RefError.{RefError}
 use Rattle.object_refs.specs.declared.fault.RefError.TheVariants.{Refused, NoMemory}
 use Rattle.object_refs.specs.declared.fault.RefFault.{RefFault}
-use Rattle.object_refs.specs.Answers.{Fails, Answers}
+use Rattle.object_refs.specs.Answers.{Answers}
 use Rattle.object_refs.specs.Laws.{IsExactly}
 use Rattle.object_refs.specs.Reading.{Read, ◌>>=◌, cdr}
 

@@ -1,9 +1,8 @@
 -- What a reading takes stands there and fits, and what stands there and fits is taken.
 use Rattle.std.proofs.Common.{◌≡◌, ℕ, zero, suc, ◌+◌, ◌^◌, ◌<◌, ◌≤◌, Bool, true, false, List, [], ◌∷◌, ◌++◌, length}
-use Rattle.std.proofs.Common.{Result, Ok, Err, refl, sym, ap, subst, ◌∙◌, arith, length-append}
+use Rattle.std.proofs.Common.{Ok, refl, sym, ap, subst, ◌∙◌, arith, length-append}
 use Rattle.std.specs.Int.{w8, w16, w32, byte_len}
 use Rattle.std.specs.List.{AllByRecursion, flat_map}
-use Rattle.std.proofs.lemmas.Bool.{le-ltb}
 use Rattle.std.proofs.lemmas.List.{drop_at}
 use Rattle.std.proofs.lemmas.List.Concat.{flat_map-cons}
 use Rattle.orb_base.specs.Tagged.{Tagged}
@@ -17,8 +16,8 @@ use Rattle.cdr_core.proofs.CallerLemmas.{count_takes, count_reads, octets_takes,
 use Rattle.cdr_core.proofs.CallerLemmas.{string_reads}
 use Rattle.object_refs.specs.Reference.{Reference, Profile}
 use Rattle.object_refs.specs.Layout.{tagged_fields, list_fields, reference_fields, has_components, components_fields}
-use Rattle.object_refs.specs.Layout.{versioned_fields, FitsTagged, FitTagged, FitsText, FitsReference, FitsProfile}
-use Rattle.object_refs.specs.Reading.{Parsed, ◌>>=◌, cdr, times, tagged_at, list_at}
+use Rattle.object_refs.specs.Layout.{versioned_fields, FitsTagged, FitTagged, FitsReference, FitsProfile}
+use Rattle.object_refs.specs.Reading.{Parsed, cdr, times, tagged_at, list_at}
 use Rattle.object_refs.specs.ProfileReading.{components_at, versioned_at}
 use Rattle.object_refs.specs.References.{reference_at}
 use Rattle.object_refs.proofs.Steps.{done, ok_is, bind_ok, cdr_ok}

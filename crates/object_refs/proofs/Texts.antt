@@ -1,6 +1,6 @@
 -- Stringified references: what is read is what the text means, and what it means is read.
-use Rattle.std.proofs.Common.{◌≡◌, ℕ, ◌+◌, ◌<◌, ◌≤◌, Bool, true, false, List, [], ◌∷◌, ◌++◌, length, take, drop, map}
-use Rattle.std.proofs.Common.{Result, Ok, Err, inl, inr, refl, sym, ap, subst, ◌∙◌, arith}
+use Rattle.std.proofs.Common.{◌≡◌, ℕ, ◌+◌, ◌<◌, true, List, ◌++◌, length, take, drop, map}
+use Rattle.std.proofs.Common.{Result, Ok, Err, inl, inr, refl, sym, ap, ◌∙◌, arith}
 use Rattle.std.specs.Char.{to_ascii_lowercase}
 use Rattle.std.specs.Str.{bytes_eq}
 use Rattle.std.proofs.lemmas.List.{take-append-drop, take_at, drop_at, length-map}
@@ -13,7 +13,7 @@ use Rattle.hex.proofs.HexLemmas.{decode_of-ok, decode_of-err}
 use Rattle.object_refs.specs.Reference.{Reference}
 use Rattle.object_refs.specs.References.{lower_prefix, IsReference, digits_of, decoded, reference_in, reference_of}
 use Rattle.object_refs.specs.Laws.{IsExactly}
-use Rattle.object_refs.proofs.Steps.{done, ok_is, bind_ok, passed}
+use Rattle.object_refs.proofs.Steps.{ok_is, bind_ok, passed}
 use Rattle.object_refs.proofs.Wholes.{encapsulated_exact}
 
 decoded_ok : (len : ℕ) (r : Result (List ℕ) FromHexError) (bytes : List ℕ) → decoded len r ≡ Ok bytes → r ≡ Ok bytes

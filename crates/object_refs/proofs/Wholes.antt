@@ -1,7 +1,7 @@
 -- Whole encapsulations: what is read is what the bytes mean, and what they mean is read.
-use Rattle.std.proofs.Common.{◌≡◌, ℕ, suc, ◌+◌, ◌<◌, ◌≤◌, Bool, true, false, ◌&&◌, ltb, eqb, List, [], ◌∷◌, ◌++◌}
-use Rattle.std.proofs.Common.{Option, Some, None, Ok, Err, refl, sym, ap, subst, ◌∙◌, arith}
-use Rattle.std.proofs.lemmas.Bool.{and_parts, and_from, ltb-true, lt-ltb, eqb-true}
+use Rattle.std.proofs.Common.{◌≡◌, ℕ, suc, ◌<◌, ◌≤◌, true, false, ◌&&◌, ltb, eqb, List, ◌∷◌}
+use Rattle.std.proofs.Common.{Some, Ok, refl, ap, subst, arith}
+use Rattle.std.proofs.lemmas.Bool.{and_parts, ltb-true, lt-ltb, eqb-true}
 use Rattle.orb_base.specs.Tagged.{Tagged}
 use Rattle.orb_base.specs.declared.order.Order.{Order}
 use Rattle.cdr_core.specs.Field.{Field}
@@ -12,14 +12,14 @@ use Rattle.cdr_core.specs.Laws.{Holds}
 use Rattle.cdr_core.proofs.CallerLemmas.{entered_takes, entered_reads}
 use Rattle.cdr_core.proofs.LawProofs.{holds_within_law}
 use Rattle.object_refs.specs.Reference.{Reference, Profile}
-use Rattle.object_refs.specs.Layout.{profile_fields, reference_fields, has_components, FitsProfile, FitsReference}
+use Rattle.object_refs.specs.Layout.{reference_fields, has_components, FitsProfile, FitsReference}
 use Rattle.object_refs.specs.Laws.{IsExactly}
 use Rattle.object_refs.specs.Profiles.{IsProfile, first_of, IsFirstProfile}
-use Rattle.object_refs.specs.ProfileReading.{versioned_at, supported, profile_of, profile_in, first_profile_of}
+use Rattle.object_refs.specs.ProfileReading.{versioned_at, supported, profile_of, first_profile_of}
 use Rattle.object_refs.specs.Reading.{Parsed, cdr}
 use Rattle.object_refs.specs.References.{IsEncapsulated, reference_at, reference_in}
-use Rattle.object_refs.proofs.Steps.{done, ok_is, bind_ok, cdr_ok, passed}
-use Rattle.object_refs.proofs.Taking.{Took, Takes, Again, FitsVersioned, fields_of, versioned_takes, versioned_again}
+use Rattle.object_refs.proofs.Steps.{ok_is, bind_ok, cdr_ok, passed}
+use Rattle.object_refs.proofs.Taking.{Took, Again, FitsVersioned, fields_of, versioned_takes, versioned_again}
 use Rattle.object_refs.proofs.Taking.{reference_takes, reference_again}
 
 inner_bytes : (bytes : List ℕ) (inner : Cursor) → AreBytes bytes → entered bytes ≡ Ok inner → AreBytes inner.rest

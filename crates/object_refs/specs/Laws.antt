@@ -1,5 +1,5 @@
 -- What readings have to do with what texts and bytes mean.
-use Rattle.std.specs.Prelude.{◌≡◌, ℕ, List, ◌↔◌, Ok}
+use Rattle.std.specs.Prelude.{◌≡◌, ◌↔◌, Ok}
 use Rattle.object_refs.specs.Reading.{Read}
 
 -- a reading is a value exactly where the fact holds of it; so it is a fault exactly where it holds of none

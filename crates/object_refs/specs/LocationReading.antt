@@ -1,8 +1,8 @@
 -- The reading of an object URL from left to right, part by part; the first part that has no reading is at fault, at
 -- its first byte: CORBA 3.0.3, section 13.6.10. The causes and their order are own profile.
-use Rattle.std.specs.Prelude.{ℕ, ◌+◌, ◌-◌, ◌^◌, Bool, ◌&&◌, ◌||◌, ◌==◌, nat_lt, nat_le, if◌then◌else◌}
+use Rattle.std.specs.Prelude.{ℕ, ◌+◌, ◌-◌, ◌^◌, ◌&&◌, ◌||◌, ◌==◌, nat_lt, nat_le, if◌then◌else◌}
 use Rattle.std.specs.Prelude.{List, length, take, drop, slice_index, position}
-use Rattle.std.specs.Prelude.{Option, Some, None, option_and_then, Result, Ok, Err}
+use Rattle.std.specs.Prelude.{Option, Some, None, option_and_then, Ok, Err}
 use Rattle.std.specs.Char.{is_ascii_digit}
 use Rattle.std.specs.List.{list_all}
 use Rattle.std.specs.Str.{bytes_eq}

@@ -2,9 +2,8 @@
 use Rattle.std.specs.Prelude.{ℕ, zero, suc, List, [], ◌∷◌, Result, Ok, Err}
 use Rattle.std.specs.Int.{w32}
 use Rattle.orb_base.specs.Tagged.{Tagged}
-use Rattle.cdr_core.specs.Cursor as Cdr
 use Rattle.cdr_core.specs.Cursor.{Cursor}
-use Rattle.cdr_core.specs.Reading.{number_at, count_at, octets_at, entered}
+use Rattle.cdr_core.specs.Reading.{number_at, count_at, octets_at}
 use Rattle.cdr_core.specs.declared.fault.CdrFault.{CdrFault}
 use Rattle.object_refs.specs.declared.fault.RefFault.{RefFault}
 use Rattle.object_refs.specs.declared.fault.RefCause.{RefCause}

@@ -1,6 +1,4 @@
-use Rattle.std.proofs.Common.{◌≡◌, ◌<◌, length, Err, inl, inr, arith, sym, ◌∙◌, ap}
-use Rattle.hex.specs.Hex.{decode_of}
-use Rattle.hex.specs.declared.error.FromHexError.TheVariants.{InvalidHexCharacter}
+use Rattle.std.proofs.Common.{Err, inl, inr, arith, sym, ◌∙◌, ap}
 use Rattle.object_refs.proofs.Texts.{bad_within}
 use Rattle.object_refs.proofs.ior_read.decoded.Goals as goal
 

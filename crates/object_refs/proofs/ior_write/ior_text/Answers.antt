@@ -1,7 +1,4 @@
-use Rattle.std.proofs.Common.{◌≡◌, ◌++◌, ◌∙◌, IfOk, codes}
-use Rattle.orb_base.specs.declared.order.Order.TheVariants.{Big}
-use Rattle.cdr_core.specs.Encapsulation.{encapsulation}
-use Rattle.object_refs.specs.Layout.{reference_fields}
+use Rattle.std.proofs.Common.{◌∙◌}
 use Rattle.object_refs.proofs.OneWay.{text_back}
 use Rattle.object_refs.proofs.ior_write.ior_text.Goals as goal
 

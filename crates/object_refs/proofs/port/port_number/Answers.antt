@@ -1,7 +1,6 @@
-use Rattle.std.proofs.Common.{◌≡◌, true, Err, rules, sym, ap, subst, ◌∙◌}
+use Rattle.std.proofs.Common.{◌≡◌, true, rules}
 use Rattle.std.specs.Char.{is_ascii_digit}
 use Rattle.std.specs.List.{list_all}
-use Rattle.std.specs.Str.Parse.{ParsesUnsigned}
 use Rattle.object_refs.proofs.Digits.{digits_utf8, port_unparsed}
 use Rattle.object_refs.proofs.port.port_number.Goals as goal
 
