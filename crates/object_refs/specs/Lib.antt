@@ -1,0 +1,10 @@
+pub mod Reference
+pub mod Layout
+pub mod Profiles
+pub mod Locations
+pub mod Reading
+pub mod Answers
+pub mod LocationReading
+pub mod ProfileReading
+pub mod References
+pub mod Laws
