@@ -2,6 +2,7 @@
 #![tactic(auto)]
 
 mod answered;
+mod apart;
 mod command;
 mod course;
 mod dump;
@@ -15,7 +16,9 @@ mod meaning;
 mod note;
 mod ping;
 mod pipe;
+mod policies;
 mod read_all;
+mod ref_lines;
 mod refusal;
 mod replies;
 mod request;
