@@ -2,3 +2,9 @@ pub mod Digits
 pub mod Steps
 pub mod Firsts
 pub mod Located
+pub mod Several
+pub mod Taking
+pub mod Wholes
+pub mod Puts
+pub mod Texts
+pub mod OneWay

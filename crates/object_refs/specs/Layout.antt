@@ -61,3 +61,18 @@ pub record FitsProfile (p : Profile) : Type 0 where
   pub port : p.port < 2 ^ 16
   pub key : length p.key < 2 ^ 32
   pub components : FitTagged p.components
+
+-- as many as an unsigned long counts, each of as many bytes at most
+abbrev pub AreCounted : List Tagged → Type 0
+AreCounted list = (length list < 2 ^ 32) × AllByRecursion (λ t. length t.bytes < 2 ^ 32) list
+
+-- a reference whose lengths an unsigned long counts
+pub record IsCountedReference (r : Reference) : Type 0 where
+  pub type_id : length r.type_id + 1 < 2 ^ 32
+  pub profiles : AreCounted r.profiles
+
+-- a profile whose lengths it counts
+pub record IsCountedProfile (p : Profile) : Type 0 where
+  pub host : length p.host + 1 < 2 ^ 32
+  pub key : length p.key < 2 ^ 32
+  pub components : AreCounted p.components

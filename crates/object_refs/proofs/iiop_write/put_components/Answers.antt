@@ -1,0 +1,5 @@
+use Rattle.object_refs.proofs.Puts.{written_none}
+use Rattle.object_refs.proofs.iiop_write.put_components.Goals as goal
+
+pub returns-else-present : goal.returns-else-present
+returns-else-present c = rw c.if-present.false (written_none c.args.into.now)
