@@ -16,3 +16,4 @@ pub mod DumpPieces
 pub mod DumpRuns
 pub mod FirstPolicies
 pub mod ApartLaws
+pub mod RefsLaws

@@ -18,4 +18,6 @@ pub mod DumpAnswer
 pub mod Apart
 pub mod Policies
 pub mod ReferenceText
+pub mod Refs
+pub mod RefsAnswer
 pub mod Command

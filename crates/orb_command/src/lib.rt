@@ -19,6 +19,9 @@ mod pipe;
 mod policies;
 mod read_all;
 mod ref_lines;
+mod refs;
+mod refs_end;
+mod refs_note;
 mod refusal;
 mod replies;
 mod request;
@@ -38,6 +41,8 @@ pub use laws::{built_in_is_distinct, hears_one_way, piped_is_replayed};
 pub use note::Note;
 pub use pipe::pipe_run;
 pub use read_all::MAX_PIPED;
+pub use refs::refs_run;
+pub use refs_end::{MAX_REFERENCE, RefsEnd};
 pub use refusal::Refusal;
 
 #[cfg(test)]
