@@ -48,4 +48,6 @@ pub use refusal::Refusal;
 #[cfg(test)]
 mod dump_tests;
 #[cfg(test)]
+mod refs_tests;
+#[cfg(test)]
 mod tests;
