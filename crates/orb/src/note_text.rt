@@ -17,6 +17,7 @@ impl fmt::Display for NoteText {
             Note::ReadFault => f.write_str("read fault"),
             Note::WriteFault => f.write_str("write fault"),
             Note::Input(offset, fault) => write!(f, "input: offset {offset}: {fault}"),
+            Note::Reference(fault) => write!(f, "reference: {fault}"),
             Note::Memory => f.write_str("memory"),
             Note::Limit => f.write_str("limit"),
             Note::NotBuilt => f.write_str("not built"),

@@ -15,6 +15,9 @@ use Rattle.orb_command.specs.declared.dump_end.TheConstants.{MAX_DUMPED}
 use Rattle.orb_command.specs.Streams.{GaveFew}
 use Rattle.orb_command.specs.Dump.{Dumps}
 use Rattle.orb_command.specs.DumpAnswer.{dump_note, DumpAnswers}
+use Rattle.orb_command.specs.declared.refs_end.RefsEnd.{RefsEnd}
+use Rattle.orb_command.specs.Refs.{Refs}
+use Rattle.orb_command.specs.RefsAnswer.{refs_note, RefsAnswers}
 use Rattle.orb_command.specs.Ping.{ping_outcome}
 use Rattle.orb_command.specs.Pipe.{Pipes, PipesTo}
 use Rattle.orb_command.specs.Command.{PipeAnswers, note_of, note_of_ends}
@@ -44,3 +47,10 @@ dumps_answers answer left left' taken taken' held held' reads ends writes h = re
 
 pub dumps_few : (answer : Result DumpEnd NoMemory) (left left' taken taken' held held' : Told) (reads ends writes : ℕ × ℕ) → Dumps answer left left' taken taken' held held' reads ends writes → GaveFew MAX_DUMPED left left' taken taken'
 dumps_few answer left left' taken taken' held held' reads ends writes h = record { bytes = h.bytes; few = h.few; gave = h.gave }
+
+-- the answers where the words mean `refs`
+pub refs_answers : (answer : Result RefsEnd NoMemory) (left left' taken taken' held held' : Told) (reads ends writes : ℕ × ℕ) → Refs answer left left' taken taken' held held' reads ends writes → RefsAnswers (refs_note answer) left left' taken taken' held held' reads ends writes
+refs_answers answer left left' taken taken' held held' reads ends writes h = record { answer = answer; told = refl; refs = h }
+
+pub refs_few : (answer : Result RefsEnd NoMemory) (left left' taken taken' held held' : Told) (reads ends writes : ℕ × ℕ) → Refs answer left left' taken taken' held held' reads ends writes → GaveFew 65538 left left' taken taken'
+refs_few answer left left' taken taken' held held' reads ends writes h = record { bytes = h.bytes; few = h.few; gave = h.gave }

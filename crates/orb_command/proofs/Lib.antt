@@ -14,3 +14,6 @@ pub mod ShownLaws
 pub mod DumpLaws
 pub mod DumpPieces
 pub mod DumpRuns
+pub mod FirstPolicies
+pub mod ApartLaws
+pub mod RefsLaws

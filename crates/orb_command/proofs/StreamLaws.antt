@@ -103,3 +103,8 @@ wrote_more a b rest more held held' held'' first some = record {
   parts = ap (λ (x : List ℕ). a ++ (x ++ more)) some.parts ∙ ap (λ (x : List ℕ). a ++ x) (append_assoc some.front rest more) ∙ sym (append_assoc a some.front (rest ++ more));
   wrote = wrote_behind a some.front held held' held'' first some.wrote;
 }
+
+-- more than the limit came, and no more than one more
+pub gave_more_than : (limit : ℕ) (bytes : List ℕ) (left left' taken taken' : Told) → Gave bytes left left' taken taken' → limit < length bytes → length bytes ≤ limit + 1
+    → (all : List ℕ) × (length all ≡ limit + 1) × Gave all left left' taken taken'
+gave_more_than limit bytes left left' taken taken' so_far more few = (bytes, omega arith, so_far)

@@ -2,9 +2,9 @@
 use Rattle.std.specs.Prelude.{◌≡◌, ◌+◌, ℕ, true, false, IfSome, Result, Ok, Err}
 use Rattle.orb_base.specs.Outside.{Told, Rose}
 use Rattle.orb_command.specs.declared.meaning.Meaning.{Meaning}
-use Rattle.orb_command.specs.declared.meaning.Meaning.TheVariants.{Pipe, Dump, Unbuilt, Unread}
+use Rattle.orb_command.specs.declared.meaning.Meaning.TheVariants.{Pipe, Dump, Refs, Unbuilt, Unread}
 use Rattle.orb_command.specs.declared.note.Note.{Note}
-use Rattle.orb_command.specs.declared.note.Note.TheVariants.{Nothing, Usage, ReadFault, WriteFault, Input, Memory, Limit, NotBuilt}
+use Rattle.orb_command.specs.declared.note.Note.TheVariants.{Nothing, Usage, ReadFault, WriteFault, Input, Reference, Memory, Limit, NotBuilt}
 use Rattle.orb_command.specs.declared.ends.ReadEnd.{ReadEnd}
 use Rattle.orb_command.specs.declared.ends.ReadEnd.TheVariants as read
 use Rattle.orb_command.specs.declared.ends.WriteEnd.{WriteEnd}
@@ -14,10 +14,12 @@ use Rattle.orb_command.specs.declared.ends.PipeFault.{PipeFault}
 use Rattle.orb_command.specs.declared.ends.PipeFault.TheVariants as fault
 use Rattle.orb_command.specs.declared.read_all.TheConstants.{MAX_PIPED}
 use Rattle.orb_command.specs.declared.dump_end.TheConstants.{MAX_DUMPED}
+use Rattle.orb_command.specs.declared.refs_end.TheConstants.{MAX_REFERENCE}
 use Rattle.orb_command.specs.Ping.{ping_outcome}
 use Rattle.orb_command.specs.Built.{IsBuilt, IsPiped}
 use Rattle.orb_command.specs.Pipe.{WroteWhole, WroteFront, WroteAtWant}
 use Rattle.orb_command.specs.DumpAnswer.{DumpAnswers}
+use Rattle.orb_command.specs.RefsAnswer.{RefsAnswers}
 
 -- the exit status of a note
 abbrev pub status_of : Note → ℕ
@@ -26,6 +28,7 @@ status_of Usage = 1
 status_of ReadFault = 3
 status_of WriteFault = 4
 status_of (Input _ _) = 8
+status_of (Reference _) = 8
 status_of Memory = 12
 status_of Limit = 13
 status_of NotBuilt = 14
@@ -60,17 +63,20 @@ PipeAnswers Limit left held held' reads ends writes =
 PipeAnswers NotBuilt left held held' reads ends writes = IfSome left (λ input. ¬ IsBuilt input) × (held' ≡ held)
 PipeAnswers Usage left held held' reads ends writes = ⊥
 PipeAnswers (Input _ _) left held held' reads ends writes = ⊥
+PipeAnswers (Reference _) left held held' reads ends writes = ⊥
 
 -- what each note means, by what the words mean; the source tells what is left and what was taken, before and after
 abbrev pub Answers : Meaning → Note → Told → Told → Told → Told → Told → Told → ℕ × ℕ → ℕ × ℕ → ℕ × ℕ → Type 0
 Answers Pipe note left left' taken taken' held held' reads ends writes = PipeAnswers note left held held' reads ends writes
 Answers Dump note left left' taken taken' held held' reads ends writes = DumpAnswers note left left' taken taken' held held' reads ends writes
+Answers Refs note left left' taken taken' held held' reads ends writes = RefsAnswers note left left' taken taken' held held' reads ends writes
 Answers Unbuilt note left left' taken taken' held held' reads ends writes = (note ≡ NotBuilt) × (held' ≡ held)
 Answers Unread note left left' taken taken' held held' reads ends writes = (note ≡ Usage) × (held' ≡ held)
 
--- how many bytes are taken at most: of a piped input one more than it may have, so that a longer one is seen
+-- how many bytes are taken at most: of an input of `pipe` or `refs` one more than it may have, so that a longer one is seen
 abbrev pub most_taken : Meaning → ℕ
 most_taken Pipe = MAX_PIPED + 1
 most_taken Dump = MAX_DUMPED
+most_taken Refs = MAX_REFERENCE + 2
 most_taken Unbuilt = 0
 most_taken Unread = 0

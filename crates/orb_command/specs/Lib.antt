@@ -15,4 +15,9 @@ pub mod DumpEnding
 pub mod Dump
 pub mod DumpSteps
 pub mod DumpAnswer
+pub mod Apart
+pub mod Policies
+pub mod ReferenceText
+pub mod Refs
+pub mod RefsAnswer
 pub mod Command

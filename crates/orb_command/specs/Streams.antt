@@ -1,11 +1,10 @@
 -- What a whole read and a whole write do to what a source and a sink tell.
-use Rattle.std.specs.Prelude.{◌≡◌, ◌≤◌, ◌<◌, ℕ, List, ◌++◌, length, option_map, IfSome}
+use Rattle.std.specs.Prelude.{◌≡◌, ◌≤◌, ◌<◌, ◌+◌, ℕ, List, [], ◌++◌, length, option_map, IfSome}
 use Rattle.orb_base.specs.Outside.{Told, Rose}
 use Rattle.orb_command.specs.declared.read_all.ReadAll.{ReadAll}
 use Rattle.orb_command.specs.declared.read_all.ReadAll.TheVariants as read
 use Rattle.orb_command.specs.declared.write_all.WriteAll.{WriteAll}
 use Rattle.orb_command.specs.declared.write_all.WriteAll.TheVariants as write
-use Rattle.orb_command.specs.declared.read_all.TheConstants.{MAX_PIPED}
 
 -- these bytes went from what is left to what was taken
 pub record Gave (bytes : List ℕ) (left left' taken taken' : Told) : Type 0 where
@@ -24,12 +23,19 @@ pub record WroteSome (bytes rest : List ℕ) (held held' : Told) : Type 0 where
   pub parts : bytes ≡ front ++ rest
   pub wrote : held' ≡ option_map (λ h. h ++ front) held
 
--- a whole input of at most MAX_PIPED bytes was read to its end, or a longer one was met
-abbrev pub ReadsAll : ReadAll → Told → Type 0
-ReadsAll (read.Whole bytes) left = (length bytes.items ≤ MAX_PIPED) × IfSome left (λ input. input ≡ bytes.items)
-ReadsAll read.TooLong left = IfSome left (λ input. MAX_PIPED < length input)
-ReadsAll read.Failed left = Unit {0}
-ReadsAll read.NoMemory left = Unit {0}
+-- a whole input of at most `limit` bytes was read to its end, or a longer one was met
+abbrev pub ReadsAll : ℕ → ReadAll → Told → Type 0
+ReadsAll limit (read.Whole bytes) left = (length bytes.items ≤ limit) × IfSome left (λ input. input ≡ bytes.items)
+ReadsAll limit read.TooLong left = IfSome left (λ input. limit < length input)
+ReadsAll limit read.Failed left = Unit {0}
+ReadsAll limit read.NoMemory left = Unit {0}
+
+-- the bytes up to the end were taken, or one more than `limit`
+abbrev pub GivesAll : ℕ → ReadAll → Told → Told → Told → Told → Type 0
+GivesAll limit (read.Whole bytes) left left' taken taken' = Gave bytes.items left left' taken taken' × IfSome left' (λ rest. rest ≡ [])
+GivesAll limit read.TooLong left left' taken taken' = (bytes : List ℕ) × (length bytes ≡ limit + 1) × Gave bytes left left' taken taken'
+GivesAll limit read.Failed left left' taken taken' = Unit {0}
+GivesAll limit read.NoMemory left left' taken taken' = Unit {0}
 
 -- an end was met where the whole is there, and a fault where the read failed; pairs are a count before and after
 abbrev pub CountsReadAll : ReadAll → ℕ × ℕ → ℕ × ℕ → Type 0

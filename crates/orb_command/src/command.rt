@@ -13,6 +13,8 @@ use crate::meaning::Meaning;
 use crate::note::Note;
 use crate::ping::Ping;
 use crate::pipe::pipe_run;
+use crate::refs::refs_run;
+use crate::refs_note::refs_note;
 use crate::words::read_words;
 use orb_base::{Sink, Source};
 use std::alloc::Global;
@@ -27,7 +29,7 @@ fn answered(note: Note) -> Answered
         Note::Usage => 1,
         Note::ReadFault => 3,
         Note::WriteFault => 4,
-        Note::Input(_, _) => 8,
+        Note::Input(_, _) | Note::Reference(_) => 8,
         Note::Memory => 12,
         Note::Limit => 13,
         Note::NotBuilt => 14,
@@ -55,9 +57,10 @@ fn note_for(ran: Result<Piped, PipeFault>) -> Note
 }
 
 /// Does all that the program does: reads the words, runs the command over the input and the output, and answers the
-/// status with its note. `pipe` answers each request of its input, and `dump` writes a line for each message of it; the
-/// other commands aren't built yet. It returns where each read and write returns.
-#[tactic(auto, using(crate::proofs::CommandLaws::pipes_answers, crate::proofs::CommandLaws::dumps_answers, crate::proofs::CommandLaws::dumps_few, crate::proofs::StreamLaws::gave_none))]
+/// status with its note. `pipe` answers each request of its input, `dump` writes a line for each message of it, and `refs`
+/// writes the parts of the reference that it is; the other commands aren't built yet. It returns where each read and write
+/// returns.
+#[tactic(auto, using(crate::proofs::CommandLaws::pipes_answers, crate::proofs::CommandLaws::dumps_answers, crate::proofs::CommandLaws::dumps_few, crate::proofs::CommandLaws::refs_answers, crate::proofs::CommandLaws::refs_few, crate::proofs::StreamLaws::gave_none))]
 pub fn orb_main<I: Source, O: Sink>(
     alloc: Global,
     words: &[String],
@@ -78,6 +81,7 @@ pub fn orb_main<I: Source, O: Sink>(
     match read_words(words) {
         Meaning::Pipe => answered(note_for(pipe_run(alloc, input, out, &Ping::new(alloc)))),
         Meaning::Dump => answered(dump_note(dump_run(alloc, input, out))),
+        Meaning::Refs => answered(refs_note(refs_run(alloc, input, out))),
         Meaning::Unbuilt => answered(Note::NotBuilt),
         Meaning::Unread => answered(Note::Usage),
     }

@@ -2,6 +2,7 @@
 #![tactic(auto)]
 
 mod answered;
+mod apart;
 mod command;
 mod course;
 mod dump;
@@ -15,7 +16,12 @@ mod meaning;
 mod note;
 mod ping;
 mod pipe;
+mod policies;
 mod read_all;
+mod ref_lines;
+mod refs;
+mod refs_end;
+mod refs_note;
 mod refusal;
 mod replies;
 mod request;
@@ -35,9 +41,13 @@ pub use laws::{built_in_is_distinct, hears_one_way, piped_is_replayed};
 pub use note::Note;
 pub use pipe::pipe_run;
 pub use read_all::MAX_PIPED;
+pub use refs::refs_run;
+pub use refs_end::{MAX_REFERENCE, RefsEnd};
 pub use refusal::Refusal;
 
 #[cfg(test)]
 mod dump_tests;
+#[cfg(test)]
+mod refs_tests;
 #[cfg(test)]
 mod tests;

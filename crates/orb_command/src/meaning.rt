@@ -7,6 +7,8 @@ pub enum Meaning {
     Pipe,
     /// The command `dump`.
     Dump,
+    /// The command `refs`.
+    Refs,
     /// A command, or options of one, that isn't built yet.
     Unbuilt,
     /// No command.

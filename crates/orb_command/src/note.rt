@@ -1,6 +1,7 @@
 //! What a run came to.
 
 use giop_messages::Fault;
+use object_refs::RefFault;
 
 /// What a run came to, as the program prints it on standard error.
 #[derive(Clone, Copy, Debug, PartialEq, Eq, Hash)]
@@ -15,6 +16,8 @@ pub enum Note {
     WriteFault,
     /// The input is refused at this offset.
     Input(u64, Fault),
+    /// The text of a reference is refused.
+    Reference(RefFault),
     /// Memory was wanting.
     Memory,
     /// A limit of the run was met.

@@ -153,7 +153,7 @@ pub fn pipe_run<I: Source, O: Sink, S: Serving>(
         (I.faults source.old, I.faults source.new) (I.ends source.old, I.ends source.new) (O.faults sink.old, O.faults sink.new) }
     ensures few { GaveFew (MAX_PIPED + 1) (I.left source.old) (I.left source.new) (I.taken source.old) (I.taken source.new) }
 {
-    match read_all(alloc, source) {
+    match read_all(alloc, MAX_PIPED, source) {
         ReadAll::Whole(input) => answer(alloc, sink, servants, input.as_slice()),
         ReadAll::TooLong => Err(PipeFault::NotBuilt),
         ReadAll::Failed => Ok(Piped {

@@ -10,7 +10,7 @@ pub const MAX_PIPED: usize = 8192;
 pub enum ReadAll {
     /// The bytes, up to the end.
     Whole(Octets),
-    /// More than `MAX_PIPED` bytes came.
+    /// More bytes came than may be read.
     TooLong,
     /// The source failed.
     Failed,

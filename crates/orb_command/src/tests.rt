@@ -464,7 +464,12 @@ fn words_are_read_first(rt: HostRuntime) -> Result<(), Fail> {
         ),
         ("serve alone", ["serve"].as_slice(), 14, Note::NotBuilt),
         ("call alone", ["call"].as_slice(), 14, Note::NotBuilt),
-        ("refs alone", ["refs"].as_slice(), 14, Note::NotBuilt),
+        (
+            "refs with an option",
+            ["refs", "--at"].as_slice(),
+            14,
+            Note::NotBuilt,
+        ),
         (
             "dump with an option",
             ["dump", "--config"].as_slice(),

@@ -17,6 +17,8 @@ pub fn read_words(words: &[String]) -> Meaning
                 Meaning::Pipe
             } else if word.as_str() == "dump" {
                 Meaning::Dump
+            } else if word.as_str() == "refs" {
+                Meaning::Refs
             } else {
                 Meaning::Unbuilt
             }

@@ -1,0 +1,22 @@
+//! The note of `orb refs`.
+ghost use Rattle.std.specs.Prelude.{◌≡◌};
+ghost use Rattle.orb_command.specs.RefsAnswer.{refs_note as refs_note_lem};
+
+use crate::note::Note;
+use crate::refs_end::{MAX_REFERENCE, RefsEnd};
+use giop_messages::Fault;
+use orb_base::NoMemory;
+
+/// The note of a run of `orb refs`.
+pub fn refs_note(ran: Result<RefsEnd, NoMemory>) -> Note
+    ensures { result ≡ refs_note_lem ran }
+{
+    match ran {
+        Ok(RefsEnd::Done) => Note::Nothing,
+        Ok(RefsEnd::Refused(fault)) => Note::Reference(fault),
+        Ok(RefsEnd::TooLong) => Note::Input(MAX_REFERENCE as u64, Fault::Cut),
+        Ok(RefsEnd::ReadFault) => Note::ReadFault,
+        Ok(RefsEnd::WriteFault) => Note::WriteFault,
+        Err(NoMemory) => Note::Memory,
+    }
+}
