@@ -12,10 +12,11 @@ use Rattle.object_refs.specs.Reference.{Location}
 abbrev pub scheme : List ℕ
 scheme = codes "corbaloc:"
 
--- the protocol IIOP, and the same for short
+-- the protocol IIOP
 abbrev pub iiop_protocol : List ℕ
 iiop_protocol = codes "iiop:"
 
+-- the same for short
 abbrev pub short_protocol : List ℕ
 short_protocol = codes ":"
 
@@ -27,17 +28,19 @@ version_part = codes "1.2@"
 abbrev pub default_port : ℕ
 default_port = 2809
 
--- ':', '/', ',', '[' and NUL stand in no host
+-- the sign before a port
 abbrev pub colon : ℕ
 colon = 58
 
+-- the sign before a key
 abbrev pub slash : ℕ
 slash = 47
 
+-- a colon, a slash, a comma (44), an opening bracket (91) and NUL may not stand in a host
 abbrev pub ends_host : ℕ → Bool
 ends_host byte = byte == colon || byte == slash || byte == 44 || byte == 91 || byte == 0
 
--- a host: none of these bytes
+-- a host: 1 to 255 bytes, none of those
 pub record IsHost (host : List ℕ) : Type 0 where
   pub some : 0 < length host
   pub few : length host ≤ 255

@@ -4,6 +4,8 @@
 mod note_text;
 mod std_sink;
 mod std_source;
+#[cfg(test)]
+mod tests;
 
 use note_text::NoteText;
 use orb_command::{Note, orb_main};

@@ -1,5 +1,5 @@
 -- Bands in the order of their low ends are apart where each ends below the next one; and bands stay apart in any order.
-use Rattle.std.proofs.Common.{◌≡◌, ℕ, zero, suc, ◌+◌, ◌-◌, ◌≤◌, ◌<◌, Bool, true, false, not, ◌&&◌, ◌||◌, cond, List, [], ◌∷◌, length, refl, sym, ap, ◌∙◌, subst, arith, get_or, drop}
+use Rattle.std.proofs.Common.{◌≡◌, ℕ, zero, suc, ◌+◌, ◌-◌, ◌≤◌, ◌<◌, Bool, true, false, not, ◌&&◌, ◌||◌, cond, List, [], ◌∷◌, length, refl, sym, ap, ◌∙◌, arith, get_or, drop}
 use Rattle.std.specs.Prelude.{nat_le, nat_lt}
 use Rattle.std.specs.List.{list_any, count_by, All, AllByRecursion}
 use Rattle.std.specs.Ordering.{is_le, nat_cmp}
@@ -69,7 +69,8 @@ nothing_holds : (x : ℕ) → holding x [] ≡ 0
 unfolding holding
 nothing_holds x = refl
 
-none_holds : (x : ℕ) (band : Span) (bands : List Span) → holds x band ≡ true → list_any (overlap band) bands ≡ false → holding x bands ≡ 0
+none_holds : (x : ℕ) (band : Span) (bands : List Span) → holds x band ≡ true
+    → list_any (overlap band) bands ≡ false → holding x bands ≡ 0
 none_holds x band [] h none = nothing_holds x
 none_holds x band (b ∷ bands) h none =
     let both = or_false (overlap band b) (list_any (overlap band) bands) none in
@@ -78,7 +79,8 @@ none_holds x band (b ∷ bands) h none =
     omega (arith, holding_cons x b bands)
 
 -- of bands that are apart at most one holds a priority
-few_by : (x : ℕ) (band : Span) (bands : List Span) (v : Bool) → holds x band ≡ v → list_any (overlap band) bands ≡ false → holding x bands ≤ 1 → holding x (band ∷ bands) ≤ 1
+few_by : (x : ℕ) (band : Span) (bands : List Span) (v : Bool) → holds x band ≡ v
+    → list_any (overlap band) bands ≡ false → holding x bands ≤ 1 → holding x (band ∷ bands) ≤ 1
 few_by x band bands true h none few =
     let here = one_held x band h in
     let later = none_holds x band bands h none in
@@ -103,11 +105,13 @@ record HeldBy (band : Span) (bands : List Span) : Type 0 where
 greater : ℕ → ℕ → ℕ
 greater a b = cond (nat_le a b) b a
 
-greater_held : (a b : Span) → IsBand a → IsBand b → overlap a b ≡ true → (holds (greater a.low b.low) a ≡ true) × (holds (greater a.low b.low) b ≡ true)
+greater_held : (a b : Span) → IsBand a → IsBand b → overlap a b ≡ true
+    → (holds (greater a.low b.low) a ≡ true) × (holds (greater a.low b.low) b ≡ true)
 unfolding holds greater
 greater_held a b f g h = (grind (arith, nat_tests), grind (arith, nat_tests))
 
-held_by : (band b : Span) (bands : List Span) (v : Bool) → overlap band b ≡ v → IsBand band → IsBand b → (v || list_any (overlap band) bands) ≡ true
+held_by : (band b : Span) (bands : List Span) (v : Bool) → overlap band b ≡ v → IsBand band → IsBand b
+    → (v || list_any (overlap band) bands) ≡ true
     → (list_any (overlap band) bands ≡ true → HeldBy band bands) → HeldBy band (b ∷ bands)
 held_by band b bands true is f g some later =
     let held = greater_held band b f g is in
@@ -121,13 +125,15 @@ held_by band b bands false is f g some later =
 head_is : (band : Span) (bands : List Span) → All IsBand (band ∷ bands) → IsBand band
 head_is band bands all = all 0 band (omega arith)
 
-some_hold : (band : Span) (bands : List Span) → IsBand band → All IsBand bands → list_any (overlap band) bands ≡ true → HeldBy band bands
+some_hold : (band : Span) (bands : List Span) → IsBand band → All IsBand bands
+    → list_any (overlap band) bands ≡ true → HeldBy band bands
 some_hold band [] f all some = absurd (cc)
 some_hold band (b ∷ bands) f all some =
     held_by band b bands (overlap band b) refl f (head_is b bands all) some
     (some_hold band bands f (All-tail IsBand b bands all))
 
-apart_by : (band : Span) (bands : List Span) (v : Bool) → list_any (overlap band) bands ≡ v → IsBand band → All IsBand bands
+apart_by : (band : Span) (bands : List Span) (v : Bool) → list_any (overlap band) bands ≡ v → IsBand band
+    → All IsBand bands
     → ((x : ℕ) → holding x (band ∷ bands) ≤ 1) → not v ≡ true
 apart_by band bands true is f all few =
     let held = some_hold band bands f all is in
@@ -139,8 +145,14 @@ apart_if_few : (bands : List Span) → All IsBand bands → ((x : ℕ) → holdi
 unfolding are_apart
 apart_if_few [] all few = refl
 apart_if_few (band ∷ bands) all few =
-    let later = apart_if_few bands (All-tail IsBand band bands all) (λ x. omega (arith, few x, holding_cons x band bands)) in
-    let here = apart_by band bands (list_any (overlap band) bands) refl (head_is band bands all) (All-tail IsBand band bands all) few in
+    let later = apart_if_few bands (All-tail IsBand band bands all) (λ x. omega (
+      arith,
+      few x,
+      holding_cons x band
+          bands,
+    )) in
+    let here = apart_by band bands (list_any (overlap band) bands) refl (head_is band bands all) (All-tail IsBand band
+    bands all) few in
     rw (here, later)
 
 -- the order of bands doesn't matter
@@ -152,54 +164,67 @@ apart_same : (xs ys : List Span) → IsPermutation xs ys → All IsBand xs → a
 apart_same xs ys moved all =
     same_if (are_apart ys) (are_apart xs)
     (λ apart. apart_if_few xs all (λ x. let few = few_hold x ys apart in omega (arith, holding_same x xs ys moved)))
-    (λ apart. apart_if_few ys (All-permutation IsBand xs ys moved all) (λ x. let few = few_hold x xs apart in omega (arith, holding_same x xs ys moved)))
+    (λ apart. apart_if_few ys (All-permutation IsBand xs ys moved all) (λ x. let few = few_hold x xs apart in omega
+    (arith, holding_same x xs ys moved)))
 
 -- each of the bands behind one that ends below the first of them lies above it
-above : (a b : Span) (bands : List Span) → IsNonDecreasingBy (λ (s : Span). s.low) (b ∷ bands) → nat_lt a.high b.low ≡ true → list_any (overlap a) (b ∷ bands) ≡ false
+above : (a b : Span) (bands : List Span) → IsNonDecreasingBy (λ (s : Span). s.low) (b ∷ bands)
+    → nat_lt a.high b.low ≡ true → list_any (overlap a) (b ∷ bands) ≡ false
 above a b bands up below =
-    list_any_none (overlap a) (b ∷ bands) (λ k d less. let rise : b.low ≤ (get_or (b ∷ bands) k d).low = up 0 k d (omega arith) less in grind (arith, nat_tests))
+    list_any_none (overlap a) (b ∷ bands) (λ k d less. let rise : b.low ≤ (get_or (b ∷ bands) k d).low = up 0 k d
+    (omega arith) less in grind (arith, nat_tests))
 
 touch : (a b : Span) → IsBand b → a.low ≤ b.low → nat_lt a.high b.low ≡ false → overlap a b ≡ true
 touch a b f rise not_below = grind (arith, nat_tests)
 
-rises_on : (a : Span) (bands : List Span) → IsNonDecreasingBy (λ (s : Span). s.low) (a ∷ bands) → IsNonDecreasingBy (λ (s : Span). s.low) bands
+rises_on : (a : Span) (bands : List Span) → IsNonDecreasingBy (λ (s : Span). s.low) (a ∷ bands)
+    → IsNonDecreasingBy (λ (s : Span). s.low) bands
 rises_on a bands up = λ i j d le less. up (suc i) (suc j) d (omega arith) (omega arith)
 
-climb_by : (a b : Span) (bands : List Span) (v : Bool) → nat_lt a.high b.low ≡ v → IsBand b → IsNonDecreasingBy (λ (s : Span). s.low) (a ∷ b ∷ bands)
-    → climb (b ∷ bands) ≡ are_apart (b ∷ bands) → (v && climb (b ∷ bands)) ≡ (not (list_any (overlap a) (b ∷ bands)) && are_apart (b ∷ bands))
+climb_by : (a b : Span) (bands : List Span) (v : Bool) → nat_lt a.high b.low ≡ v → IsBand b
+    → IsNonDecreasingBy (λ (s : Span). s.low) (a ∷ b ∷ bands)
+    → climb (b ∷ bands) ≡ are_apart (b ∷ bands) → (v && climb (b ∷ bands)) ≡ (not (list_any (overlap a) (b ∷ bands))
+    && are_apart (b ∷ bands))
 climb_by a b bands true below f up same = rw (above a b bands (rises_on a (b ∷ bands) up) below) same
 climb_by a b bands false below f up same = rw (touch a b f (up 0 1 a (omega arith) (omega arith)) below) refl
 
-climb_apart : (bands : List Span) → All IsBand bands → IsNonDecreasingBy (λ (s : Span). s.low) bands → climb bands ≡ are_apart bands
+climb_apart : (bands : List Span) → All IsBand bands → IsNonDecreasingBy (λ (s : Span). s.low) bands
+    → climb bands ≡ are_apart bands
 unfolding climb are_apart
 climb_apart [] all up = refl
 climb_apart (a ∷ []) all up = refl
 climb_apart (a ∷ b ∷ bands) all up =
     let rest = All-tail IsBand a (b ∷ bands) all in
-    climb_by a b bands (nat_lt a.high b.low) refl (head_is b bands rest) up (climb_apart (b ∷ bands) rest (rises_on a (b ∷ bands) up))
+    climb_by a b bands (nat_lt a.high b.low) refl (head_is b bands rest) up (climb_apart (b ∷ bands) rest (rises_on a
+    (b ∷ bands) up))
 
 each_band : (bands : List Span) → AllByRecursion Lawful.IsBand bands → All IsBand bands
 each_band [] all k d less = absurd (omega arith)
 each_band (band ∷ bands) all zero d less = all.0.0
 each_band (band ∷ bands) all (suc k) d less = each_band bands all.1 k d (omega arith)
 
-pub sorted_apart : (xs ys : List Span) (climbs : Bool) → Lawful.AreBands xs → IsPermutation xs ys → IsNonDecreasingBy (λ (s : Span). s.low) ys → climbs ≡ climb ys
+pub sorted_apart : (xs ys : List Span) (climbs : Bool) → Lawful.AreBands xs → IsPermutation xs ys
+    → IsNonDecreasingBy (λ (s : Span). s.low) ys → climbs ≡ climb ys
     → climbs ≡ are_apart xs
 sorted_apart xs ys climbs lawful moved up is =
     let all = each_band xs lawful.1 in
     is ∙ climb_apart ys (All-permutation IsBand xs ys moved all) up ∙ apart_same xs ys moved all
 
 -- one step of a pass over bands
-climb_drop : (bands : List Span) (i : ℕ) (a b : Span) → suc i < length bands → a ≡ get_or bands i a → b ≡ get_or bands (suc i) b
+climb_drop : (bands : List Span) (i : ℕ) (a b : Span) → suc i < length bands → a ≡ get_or bands i a
+    → b ≡ get_or bands (suc i) b
     → climb (drop i bands) ≡ (nat_lt a.high b.low && climb (drop (suc i) bands))
 unfolding climb
 climb_drop bands i a b more is next =
     let low : i < length bands = omega arith in
-    let first : drop i bands ≡ a ∷ drop (suc i) bands = drop-cons bands i a low ∙ ap (λ (x : Span). x ∷ drop (suc i) bands) (sym is) in
-    let second : drop (suc i) bands ≡ b ∷ drop (suc (suc i)) bands = drop-cons bands (suc i) b more ∙ ap (λ (x : Span). x ∷ drop (suc (suc i)) bands) (sym next) in
+    let first : drop i bands ≡ a ∷ drop (suc i) bands = drop-cons bands i a low ∙ ap (λ (x : Span). x ∷ drop (suc i)
+    bands) (sym is) in
+    let second : drop (suc i) bands ≡ b ∷ drop (suc (suc i)) bands = drop-cons bands (suc i) b more ∙ ap (λ (x :
+    Span). x ∷ drop (suc (suc i)) bands) (sym next) in
     rw (first, second) refl
 
-pub climb_goes : (bands : List Span) (at : ℕ) (a b : Span) → 1 ≤ at → at < length bands → a ≡ get_or bands (at - 1) a → b ≡ get_or bands at b
+pub climb_goes : (bands : List Span) (at : ℕ) (a b : Span) → 1 ≤ at → at < length bands
+    → a ≡ get_or bands (at - 1) a → b ≡ get_or bands at b
     → a.high < b.low → climb (drop (at - 1) bands) ≡ climb (drop (at + 1 - 1) bands)
 climb_goes bands zero a b some more is next below = absurd (omega arith)
 climb_goes bands (suc i) a b some more is next below =
@@ -209,7 +234,8 @@ climb_goes bands (suc i) a b some more is next below =
     let step = climb_drop bands i a b more (rw k at is) next in
     rw (k, j) (step ∙ rw test refl)
 
-pub climb_stops : (bands : List Span) (at : ℕ) (a b : Span) → 1 ≤ at → at < length bands → a ≡ get_or bands (at - 1) a → b ≡ get_or bands at b
+pub climb_stops : (bands : List Span) (at : ℕ) (a b : Span) → 1 ≤ at → at < length bands
+    → a ≡ get_or bands (at - 1) a → b ≡ get_or bands at b
     → b.low ≤ a.high → climb (drop (at - 1) bands) ≡ false
 climb_stops bands zero a b some more is next below = absurd (omega arith)
 climb_stops bands (suc i) a b some more is next below =

@@ -39,7 +39,17 @@ lines_one a m none read =
     let last : lines_before (m ∷ []) ≡ line_by m (message_at m) = rw read (append-nil (line_by m (message_at m))) in
     e ∙ ap (λ x. lines_before a ++ x) last
 
--- a refusal ends the lines
+-- a refusal ends the lines, here or later
+stops_here : (here : Option Refusal) (line : List ℕ) (rs : Option Refusal) (all lines : List ℕ) (r : Refusal) → option_or here rs ≡ Some r → (rs ≡ Some r → all ≡ lines) → cond (is_some here) [] (line ++ all) ≡ cond (is_some here) [] (line ++ lines)
+stops_here (Some x) line rs all lines r h e = refl
+stops_here None line rs all lines r h e = ap (λ x. line ++ x) (e h)
+
+pub lines_stop : (a b : List Message) (r : Refusal) → first_refusal a ≡ Some r → lines_before (a ++ b) ≡ lines_before a
+unfolding first_refusal lines_before
+lines_stop [] b r h = absurd (cc)
+lines_stop (m ∷ ms) b r h =
+    stops_here (refusal_by m (message_at m)) (line_by m (message_at m)) (first_refusal ms) (lines_before (ms ++ b)) (lines_before ms) r h (lines_stop ms b r)
+
 lines_end : (a : List Message) (m : Message) (later : List Message) (r : Refusal) → first_refusal a ≡ None → refusal_by m (message_at m) ≡ Some r → lines_before (a ++ m ∷ later) ≡ lines_before a
 unfolding first_refusal lines_before
 lines_end a m later r none refused =

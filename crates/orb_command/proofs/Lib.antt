@@ -14,6 +14,9 @@ pub mod ShownLaws
 pub mod DumpLaws
 pub mod DumpPieces
 pub mod DumpRuns
+pub mod DumpGrows
+pub mod DumpFacts
 pub mod FirstPolicies
 pub mod ApartLaws
 pub mod RefsLaws
+pub mod TextForms

@@ -69,7 +69,8 @@ PipeAnswers (Reference _) left held held' reads ends writes = ⊥
 abbrev pub Answers : Meaning → Note → Told → Told → Told → Told → Told → Told → ℕ × ℕ → ℕ × ℕ → ℕ × ℕ → Type 0
 Answers Pipe note left left' taken taken' held held' reads ends writes = PipeAnswers note left held held' reads ends writes
 Answers Dump note left left' taken taken' held held' reads ends writes = DumpAnswers note left left' taken taken' held held' reads ends writes
-Answers Refs note left left' taken taken' held held' reads ends writes = RefsAnswers note left left' taken taken' held held' reads ends writes
+Answers Refs note left left' taken taken' held held' reads ends writes =
+    RefsAnswers note left left' taken taken' held held' reads ends writes
 Answers Unbuilt note left left' taken taken' held held' reads ends writes = (note ≡ NotBuilt) × (held' ≡ held)
 Answers Unread note left left' taken taken' held held' reads ends writes = (note ≡ Usage) × (held' ≡ held)
 

@@ -14,10 +14,12 @@ pub mod DumpText
 pub mod DumpEnding
 pub mod Dump
 pub mod DumpSteps
+pub mod DumpGrowth
 pub mod DumpAnswer
 pub mod Apart
 pub mod Policies
 pub mod ReferenceText
+pub mod RefsText
 pub mod Refs
 pub mod RefsAnswer
 pub mod Command

@@ -1,59 +1,28 @@
 -- What `orb refs` reads and writes: own profile.
-use Rattle.std.specs.Prelude.{◌≡◌, ◌≤◌, ◌<◌, ◌+◌, ◌-◌, ◌==◌, ◌&&◌, nat_lt, ℕ, Bool, if◌then◌else◌, List, [], length, slice_index, take, IfSome, Result, Ok, Err}
-use Rattle.std.specs.Str.{bytes_eq}
+use Rattle.std.specs.Prelude.{◌≡◌, ◌≤◌, ◌<◌, ◌+◌, ℕ, List, [], length, IfSome, Result, Ok, Err}
 use Rattle.orb_base.specs.Outside.{Told, Rose}
 use Rattle.orb_base.specs.declared.no_memory.NoMemory.{NoMemory}
-use Rattle.object_refs.specs.Locations.{scheme}
-use Rattle.object_refs.specs.LocationReading.{location_of}
-use Rattle.object_refs.specs.ProfileReading.{first_profile_of}
-use Rattle.object_refs.specs.Reading.{Read, ◌>>=◌}
-use Rattle.object_refs.specs.References.{reference_of}
 use Rattle.orb_command.specs.declared.refs_end.RefsEnd.{RefsEnd}
 use Rattle.orb_command.specs.declared.refs_end.RefsEnd.TheVariants.{Done, Refused, TooLong, ReadFault, WriteFault}
 use Rattle.orb_command.specs.declared.refs_end.TheConstants.{MAX_REFERENCE}
-use Rattle.orb_command.specs.ReferenceText.{profile_text, location_text}
+use Rattle.orb_command.specs.RefsText.{text_of, lines_of, IsPrinted}
 use Rattle.orb_command.specs.Streams.{Gave}
 use Rattle.orb_command.specs.Dump.{WroteText, WroteFrontOf}
-
--- the byte that ends a line
-abbrev pub line_feed : ℕ
-line_feed = 10
-
--- the last byte of an input is a line feed
-abbrev pub ends_line : List ℕ → Bool
-ends_line input = nat_lt 0 (length input) && slice_index input (length input - 1) == line_feed
-
--- the text of an input, to which one line feed at the end doesn't belong
-unfoldable pub text_of : List ℕ → List ℕ
-text_of input = if ends_line input then take (length input - 1) input else input
-
--- the lines of an object URL
-unfoldable pub location_lines : List ℕ → Read (List ℕ)
-location_lines text = do
-  location ← location_of text
-  Ok (location_text location)
-
--- the lines of a stringified reference
-unfoldable pub reference_lines : List ℕ → Read (List ℕ)
-reference_lines text = do
-  reference ← reference_of text
-  profile ← first_profile_of reference
-  Ok (profile_text reference.type_id profile)
-
--- the lines of a text: of an object URL where it begins with that scheme, and else of a stringified reference
-unfoldable pub lines_of : List ℕ → Read (List ℕ)
-lines_of text = if bytes_eq (take (length scheme) text) scheme then location_lines text else reference_lines text
 
 -- a read has answered the end, behind which nothing is left; `ends` is the count of ends before and after
 abbrev pub AtEnd : Told → ℕ × ℕ → Type 0
 AtEnd left ends = Rose ends.0 ends.1 × IfSome left (λ rest. rest ≡ [])
 
--- what is answered where this text is read, and what is written; `writes` is the count of the sink's faults, before and after
+-- what is answered where this text is read, and what is written; `writes` is the count of the sink's faults, before and
+-- after
 abbrev pub WritesLines : Result RefsEnd NoMemory → List ℕ → Told → Told → ℕ × ℕ → Type 0
-WritesLines (Ok Done) text held held' writes = (lines : List ℕ) × (lines_of text ≡ Ok lines) × WroteText lines held held'
-WritesLines (Ok (Refused f)) text held held' writes = (lines_of text ≡ Err f) × (held' ≡ held)
+WritesLines (Ok Done) text held held' writes =
+    (lines : List ℕ) × (lines_of text ≡ Ok lines) × IsPrinted lines text × WroteText lines held held'
+WritesLines (Ok (Refused f)) text held held' writes =
+    (lines_of text ≡ Err f) × ((lines : List ℕ) → ¬ IsPrinted lines text) × (held' ≡ held)
 WritesLines (Ok WriteFault) text held held' writes =
-    Rose writes.0 writes.1 × ((lines : List ℕ) × (lines_of text ≡ Ok lines) × WroteFrontOf lines held held')
+    Rose writes.0 writes.1
+    × ((lines : List ℕ) × (lines_of text ≡ Ok lines) × IsPrinted lines text × WroteFrontOf lines held held')
 WritesLines (Ok TooLong) text held held' writes = ⊥
 WritesLines (Ok ReadFault) text held held' writes = ⊥
 WritesLines (Err _) text held held' writes = held' ≡ held
@@ -63,20 +32,23 @@ abbrev pub ReadsText : Result RefsEnd NoMemory → List ℕ → Told → Told �
 ReadsText answer text left held held' ends writes =
     AtEnd left ends × (length text ≤ MAX_REFERENCE) × WritesLines answer text held held' writes
 
--- each answer has its cause in the bytes that were taken, which are a front of the input where they are too many; `reads` is
--- the count of the source's faults, before and after
+-- each answer has its cause in the bytes that were taken, which are a front of the input where they are too many; `reads`
+-- is the count of the source's faults, before and after
 abbrev pub RefsBytes : Result RefsEnd NoMemory → List ℕ → Told → Told → Told → ℕ × ℕ → ℕ × ℕ → ℕ × ℕ → Type 0
-RefsBytes (Ok Done) bytes left held held' reads ends writes = ReadsText (Ok Done) (text_of bytes) left held held' ends writes
+RefsBytes (Ok Done) bytes left held held' reads ends writes =
+    ReadsText (Ok Done) (text_of bytes) left held held' ends writes
 RefsBytes (Ok (Refused f)) bytes left held held' reads ends writes =
     ReadsText (Ok (Refused f)) (text_of bytes) left held held' ends writes
 RefsBytes (Ok WriteFault) bytes left held held' reads ends writes =
     ReadsText (Ok WriteFault) (text_of bytes) left held held' ends writes
-RefsBytes (Ok TooLong) bytes left held held' reads ends writes = (MAX_REFERENCE < length (text_of bytes)) × (held' ≡ held)
+RefsBytes (Ok TooLong) bytes left held held' reads ends writes =
+    (MAX_REFERENCE < length (text_of bytes)) × (held' ≡ held)
 RefsBytes (Ok ReadFault) bytes left held held' reads ends writes = Rose reads.0 reads.1 × (held' ≡ held)
 RefsBytes (Err _) bytes left held held' reads ends writes = held' ≡ held
 
 -- some bytes were taken, and what is answered and written is what those bytes say
-pub record Refs (answer : Result RefsEnd NoMemory) (left left' taken taken' held held' : Told) (reads ends writes : ℕ × ℕ) : Type 0 where
+pub record Refs (answer : Result RefsEnd NoMemory) (left left' taken taken' held held' : Told) (reads ends writes : ℕ × ℕ)
+    : Type 0 where
   pub bytes : List ℕ
   pub gave : Gave bytes left left' taken taken'
   pub few : length bytes ≤ MAX_REFERENCE + 2

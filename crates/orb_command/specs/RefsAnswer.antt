@@ -20,7 +20,8 @@ refs_note (Ok end.WriteFault) = WriteFault
 refs_note (Err _) = Memory
 
 -- a run came out so, and took and wrote accordingly
-pub record RefsAnswers (note : Note) (left left' taken taken' held held' : Told) (reads ends writes : ℕ × ℕ) : Type 0 where
+pub record RefsAnswers (note : Note) (left left' taken taken' held held' : Told) (reads ends writes : ℕ × ℕ)
+    : Type 0 where
   pub answer : Result RefsEnd NoMemory
   pub told : note ≡ refs_note answer
   pub refs : Refs answer left left' taken taken' held held' reads ends writes

@@ -32,8 +32,10 @@ ReadsAll limit read.NoMemory left = Unit {0}
 
 -- the bytes up to the end were taken, or one more than `limit`
 abbrev pub GivesAll : ℕ → ReadAll → Told → Told → Told → Told → Type 0
-GivesAll limit (read.Whole bytes) left left' taken taken' = Gave bytes.items left left' taken taken' × IfSome left' (λ rest. rest ≡ [])
-GivesAll limit read.TooLong left left' taken taken' = (bytes : List ℕ) × (length bytes ≡ limit + 1) × Gave bytes left left' taken taken'
+GivesAll limit (read.Whole bytes) left left' taken taken' =
+    Gave bytes.items left left' taken taken' × IfSome left' (λ rest. rest ≡ [])
+GivesAll limit read.TooLong left left' taken taken' =
+    (bytes : List ℕ) × (length bytes ≡ limit + 1) × Gave bytes left left' taken taken'
 GivesAll limit read.Failed left left' taken taken' = Unit {0}
 GivesAll limit read.NoMemory left left' taken taken' = Unit {0}
 

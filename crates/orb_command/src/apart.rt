@@ -25,7 +25,7 @@ pub fn level(priority: Priority) -> u16
     priority.get() as u16
 }
 
-/// Whether no two of the bands overlap. Copies them once and sorts the copy, so that for n bands work grows with n log n.
+/// Whether no two of the bands overlap. Copies them once and sorts the copy: for n bands work grows with n log n.
 pub fn are_apart(alloc: Global, bands: &[Band]) -> Result<bool, NoMemory>
     requires { AreBands bands.now }
     ensures { IfOk result (λ apart. apart ≡ are_apart_lem bands.now) }

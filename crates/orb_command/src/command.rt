@@ -57,9 +57,9 @@ fn note_for(ran: Result<Piped, PipeFault>) -> Note
 }
 
 /// Does all that the program does: reads the words, runs the command over the input and the output, and answers the
-/// status with its note. `pipe` answers each request of its input, `dump` writes a line for each message of it, and `refs`
-/// writes the parts of the reference that it is; the other commands aren't built yet. It returns where each read and write
-/// returns.
+/// status with its note. `pipe` answers each request of its input, `dump` writes a line for each message of it, and
+/// `refs` writes the parts of the reference that it is; the other commands aren't built yet. It returns where each read
+/// and write returns.
 #[tactic(auto, using(crate::proofs::CommandLaws::pipes_answers, crate::proofs::CommandLaws::dumps_answers, crate::proofs::CommandLaws::dumps_few, crate::proofs::CommandLaws::refs_answers, crate::proofs::CommandLaws::refs_few, crate::proofs::StreamLaws::gave_none))]
 pub fn orb_main<I: Source, O: Sink>(
     alloc: Global,
@@ -69,7 +69,7 @@ pub fn orb_main<I: Source, O: Sink>(
 ) -> Answered
     // The status is that of the note, and each note has its cause, by what the words mean: 1 exactly where they mean no
     // command, 14 exactly where they mean one that isn't built, or an input of `pipe` isn't of the built form; 3 and 4 only
-    // where a count of faults rose; 8 and 13 of `dump` exactly where the bytes that it took say so.
+    // where a count of faults rose; 8 and 13 of `dump`, and 8 of `refs`, exactly where the bytes that it took say so.
     ensures status { result.status ≡ status_of result.note }
     ensures answers { Answers (command_of string_bytes words.now) result.note (I.left input.old) (I.left input.new)
         (I.taken input.old) (I.taken input.new) (O.held out.old) (O.held out.new)

@@ -15,6 +15,9 @@ use orb_base::limits::MAX_MESSAGE;
 use orb_base::{Got, List, NoMemory, Sink, Source};
 use std::alloc::Global;
 
+/// Bytes of one read.
+const READ_LEN: usize = 4096;
+
 /// Feeds one more piece of the input, and gives what the stream breaks with it.
 fn feed(
     framer: &mut Framer,
@@ -104,7 +107,7 @@ pub fn dump_run<I: Source, O: Sink>(
         (I.faults source.old, I.faults source.new) (I.ends source.old, I.ends source.new) (O.faults sink.old, O.faults sink.new) }
 {
     let mut framer = Framer::new(alloc, MAX_MESSAGE)?;
-    let mut piece = [0u8; 4096];
+    let mut piece = [0u8; READ_LEN];
     let mut taken = 0;
     while taken < MAX_DUMPED {
         let room = piece.len().min(MAX_DUMPED - taken);

@@ -95,8 +95,8 @@ fn published(kind: u32, components: &[Tagged]) -> Option<&[u8]>
     policy_value(kind, policies)
 }
 
-/// The priority model and the server's priority that the components of a profile publish. Takes no memory. Work grows with
-/// the first component of policies.
+/// The priority model and the server's priority that the components of a profile publish. Takes no memory. Work grows
+/// with the first component of policies.
 #[tactic(auto, unfolding(crate::specs::Policies::published_model))]
 pub fn published_model(components: &[Tagged]) -> Option<(PriorityModel, Priority)>
     ensures { result ≡ Spec.published_model components.now }
@@ -105,8 +105,8 @@ pub fn published_model(components: &[Tagged]) -> Option<(PriorityModel, Priority
     read_model_policy(value)
 }
 
-/// The bands that the components of a profile publish. Work grows with the first component of policies and, for n bands, with
-/// n log n.
+/// The bands that the components of a profile publish. Work grows with the first component of policies and, for n bands,
+/// with n log n.
 #[tactic(auto, unfolding(crate::specs::Policies::published_bands))]
 pub fn published_bands(
     alloc: Global,

@@ -1,8 +1,9 @@
 //! The parts of a reference, line by line.
-ghost use Rattle.std.specs.Prelude.{◌≡◌, ◌++◌, OnOk, string_bytes};
+ghost use Rattle.std.specs.Prelude.{◌≡◌, ◌++◌, OnOk, IfOk, IfErr, string_bytes};
 ghost use Rattle.object_refs.specs.Answers.{Answers};
 ghost use Rattle.orb_command.specs.ReferenceText.{profile_text, location_text};
-ghost use Rattle.orb_command.specs.Refs as Spec;
+ghost use Rattle.orb_command.specs.RefsText as Meaning;
+ghost use Rattle.orb_command.specs.Refs.{WritesLines, Refs};
 
 use crate::policies::{published_bands, published_model};
 use crate::read_all::ReadAll;
@@ -15,9 +16,9 @@ use orb_base::{NoMemory, Sink, Source};
 use std::alloc::Global;
 
 /// The text of an input: one line feed at its end doesn't belong to it.
-#[tactic(auto, unfolding(crate::specs::Refs::text_of))]
+#[tactic(auto, unfolding(crate::specs::RefsText::text_of))]
 fn text_of(input: &[u8]) -> &[u8]
-    ensures { result.now ≡ Spec.text_of input.now }
+    ensures { result.now ≡ Meaning.text_of input.now }
 {
     match input.split_last() {
         Some((last, text)) if *last == b'\n' => text,
@@ -60,9 +61,11 @@ fn put_profile(
 }
 
 /// The lines of an object URL.
-#[tactic(auto, unfolding(crate::specs::Refs::location_lines))]
+#[tactic(auto, unfolding(crate::specs::RefsText::location_lines))]
 fn location_lines(alloc: Global, text: &[u8]) -> Result<String, RefError>
-    ensures { Answers string_bytes result (Spec.location_lines text.now) }
+    ensures exact { Answers string_bytes result (Meaning.location_lines text.now) }
+    ensures printed { IfOk result (λ lines. Meaning.IsPrinted (string_bytes lines) text.now) }
+    ensures refused { IfErr result (λ e. Meaning.NamesNone e text.now) }
 {
     let location = parse_corbaloc(alloc, text)?;
     let mut lines = String::new(alloc);
@@ -73,9 +76,11 @@ fn location_lines(alloc: Global, text: &[u8]) -> Result<String, RefError>
 }
 
 /// The lines of a stringified reference.
-#[tactic(auto, unfolding(crate::specs::Refs::reference_lines))]
+#[tactic(auto, unfolding(crate::specs::RefsText::reference_lines))]
 fn reference_lines(alloc: Global, text: &[u8]) -> Result<String, RefError>
-    ensures { Answers string_bytes result (Spec.reference_lines text.now) }
+    ensures exact { Answers string_bytes result (Meaning.reference_lines text.now) }
+    ensures printed { IfOk result (λ lines. Meaning.IsPrinted (string_bytes lines) text.now) }
+    ensures refused { IfErr result (λ e. Meaning.RefersNowhere e text.now) }
 {
     let ior = parse_ior(alloc, text)?;
     let profile = first_iiop(alloc, &ior)?;
@@ -87,9 +92,11 @@ fn reference_lines(alloc: Global, text: &[u8]) -> Result<String, RefError>
 }
 
 /// The lines of a text.
-#[tactic(auto, unfolding(crate::specs::Refs::lines_of))]
+#[tactic(auto, unfolding(crate::specs::RefsText::lines_of))]
 fn lines_of(alloc: Global, text: &[u8]) -> Result<String, RefError>
-    ensures { Answers string_bytes result (Spec.lines_of text.now) }
+    ensures exact { Answers string_bytes result (Meaning.lines_of text.now) }
+    ensures printed { IfOk result (λ lines. Meaning.IsPrinted (string_bytes lines) text.now) }
+    ensures refused { IfErr result (λ e. Meaning.MeansNothing e text.now) }
 {
     if text.starts_with(b"corbaloc:") {
         location_lines(alloc, text)
@@ -100,7 +107,7 @@ fn lines_of(alloc: Global, text: &[u8]) -> Result<String, RefError>
 
 /// Writes the lines of a text.
 fn write_lines<O: Sink>(alloc: Global, text: &[u8], sink: &mut O) -> Result<RefsEnd, NoMemory>
-    ensures { Spec.WritesLines result text.now (O.held sink.old) (O.held sink.new) (O.faults sink.old, O.faults sink.new) }
+    ensures { WritesLines result text.now (O.held sink.old) (O.held sink.new) (O.faults sink.old, O.faults sink.new) }
 {
     match lines_of(alloc, text) {
         Ok(lines) => match write_all(sink, lines.as_bytes()) {
@@ -112,20 +119,21 @@ fn write_lines<O: Sink>(alloc: Global, text: &[u8], sink: &mut O) -> Result<Refs
     }
 }
 
-/// Writes the parts of the reference that the input is, line by line: an object URL where it begins with `corbaloc:`, and
-/// else a stringified reference, of which the first IIOP profile counts. One line feed at the end of the input doesn't belong
-/// to the text, which has at most `MAX_REFERENCE` bytes.
+/// Writes the parts of the reference that the input is, line by line: an object URL where it begins with `corbaloc:`,
+/// and else a stringified reference, of which the first IIOP profile counts. One line feed at the end of the input
+/// doesn't belong to the text, which has at most `MAX_REFERENCE` bytes. Nothing is written of a text that has no reading.
 ///
-/// It keeps the input and its parts, and returns where each read and write returns. Work grows with the input and, for n
-/// bands, with n log n.
+/// It keeps the input and its parts, and returns where each read and write returns. Work grows with the input and, for
+/// n bands, with n log n.
 #[tactic(auto, using(crate::proofs::RefsLaws::failed, crate::proofs::RefsLaws::wanting))]
 pub fn refs_run<I: Source, O: Sink>(
     alloc: Global,
     source: &mut I,
     sink: &mut O,
 ) -> Result<RefsEnd, NoMemory>
-    ensures { Spec.Refs result (I.left source.old) (I.left source.new) (I.taken source.old) (I.taken source.new) (O.held sink.old) (O.held sink.new)
-        (I.faults source.old, I.faults source.new) (I.ends source.old, I.ends source.new) (O.faults sink.old, O.faults sink.new) }
+    ensures { Refs result (I.left source.old) (I.left source.new) (I.taken source.old) (I.taken source.new)
+        (O.held sink.old) (O.held sink.new) (I.faults source.old, I.faults source.new)
+        (I.ends source.old, I.ends source.new) (O.faults sink.old, O.faults sink.new) }
 {
     match read_all(alloc, MAX_REFERENCE + 1, source) {
         ReadAll::Whole(input) => {

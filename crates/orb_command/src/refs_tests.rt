@@ -1,4 +1,4 @@
-//! `orb refs` over memory: the lines of references and object URLs, what is refused, and what comes when a device fails.
+//! `orb refs` over memory: the lines of references and object URLs, what is refused, and what a failing device gives.
 
 use super::*;
 use cdr_core::CdrCause;

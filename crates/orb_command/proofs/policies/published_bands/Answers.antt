@@ -9,5 +9,6 @@ use Rattle.orb_command.proofs.policies.published_bands.Goals as goal
 
 pub are_apart-requires : goal.are_apart-requires
 are_apart-requires c =
-    let carried = (c.in_ok-bands.ensures.carries c.in-Some-2.bands.items).0 (ap (λ (o : Option (Room Span)). option_map items_of o) c.in-Some-2.is) in
+    let carried = (c.in_ok-bands.ensures.carries c.in-Some-2.bands.items).0 (ap (λ (o : Option (Room Span)).
+    option_map items_of o) c.in-Some-2.is) in
     subst (λ (xs : List Span). AreBands xs) (sym c.as_slice.ensures) carried.lawful
