@@ -10,13 +10,13 @@ use Rattle.orb_command.specs.declared.ends.Piped.{Piped}
 use Rattle.orb_command.specs.declared.ends.PipeFault.{PipeFault}
 use Rattle.orb_command.specs.declared.ends.PipeFault.TheVariants as fault
 use Rattle.orb_base.specs.declared.no_memory.NoMemory.{NoMemory}
-use Rattle.orb_command.specs.declared.dump_end.DumpEnd.{DumpEnd}
-use Rattle.orb_command.specs.declared.dump_end.TheConstants.{MAX_DUMPED}
-use Rattle.orb_command.specs.Streams.{GaveFew}
-use Rattle.orb_command.specs.Dump.{Dumps}
+use Rattle.giop_dump.specs.declared.dump_end.DumpEnd.{DumpEnd}
+use Rattle.giop_dump.specs.declared.dump_end.TheConstants.{MAX_DUMPED}
+use Rattle.text_streams.specs.Streams.{GaveFew}
+use Rattle.giop_dump.specs.Dump.{Dumps}
 use Rattle.orb_command.specs.DumpAnswer.{dump_note, DumpAnswers}
-use Rattle.orb_command.specs.declared.refs_end.RefsEnd.{RefsEnd}
-use Rattle.orb_command.specs.Refs.{Refs}
+use Rattle.reference_lines.specs.declared.refs_end.RefsEnd.{RefsEnd}
+use Rattle.reference_lines.specs.Refs.{Refs}
 use Rattle.orb_command.specs.RefsAnswer.{refs_note, RefsAnswers}
 use Rattle.orb_command.specs.Ping.{ping_outcome}
 use Rattle.orb_command.specs.Pipe.{Pipes, PipesTo}

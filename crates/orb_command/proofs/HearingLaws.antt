@@ -24,7 +24,7 @@ use Rattle.lane_machine.specs.declared.call.LaneCall.TheVariants.{Offer}
 use Rattle.orb_command.specs.Setup.{built_in, pipe_conn}
 use Rattle.orb_command.specs.Ping.{ping_request}
 use Rattle.orb_command.specs.Heard.{bind_operation, IsOffered, IsHeard, HearsEach}
-use Rattle.orb_command.specs.declared.read_all.TheConstants.{MAX_PIPED}
+use Rattle.orb_command.specs.declared.request.TheConstants.{MAX_PIPED}
 use Rattle.orb_command.specs.Built.{IsPing}
 use Rattle.orb_command.specs.PingRun.{ping_job, IsPingJob, ArePingJobs, offers}
 use Rattle.orb_command.specs.Hearing.{MeansJob, MeanJobs, MeansJobs, HeardAs}

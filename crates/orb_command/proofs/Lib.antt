@@ -1,6 +1,5 @@
 pub mod StandardFacts
 pub mod CanOpen
-pub mod StreamLaws
 pub mod StreamCounts
 pub mod HearingLaws
 pub mod ReplyLaws
@@ -10,13 +9,3 @@ pub mod PipedLaws
 pub mod CommandLaws
 pub mod Replays
 pub mod HeardLaws
-pub mod ShownLaws
-pub mod DumpLaws
-pub mod DumpPieces
-pub mod DumpRuns
-pub mod DumpGrows
-pub mod DumpFacts
-pub mod FirstPolicies
-pub mod ApartLaws
-pub mod RefsLaws
-pub mod TextForms

@@ -28,7 +28,7 @@ use Rattle.lane_machine.specs.History.{Entry}
 use Rattle.lane_machine.specs.Histories.{History, replay, IsLegal}
 use Rattle.orb_command.specs.declared.course.Course.{Course}
 use Rattle.orb_command.specs.declared.course.Course.TheVariants.{Whole, Closing, Stopped}
-use Rattle.orb_command.specs.declared.read_all.TheConstants.{MAX_PIPED}
+use Rattle.orb_command.specs.declared.request.TheConstants.{MAX_PIPED}
 use Rattle.orb_command.specs.declared.ends.Piped.{Piped}
 use Rattle.orb_command.specs.declared.ends.PipeFault.{PipeFault}
 use Rattle.orb_command.specs.declared.ends.PipeFault.TheVariants as fault
@@ -42,9 +42,9 @@ use Rattle.orb_command.specs.Piped.{Run, closed_by, answer_of, piped}
 use Rattle.orb_command.specs.Built.{IsBuilt, IsPiped}
 use Rattle.orb_command.specs.Hearing.{MeanJobs}
 use Rattle.orb_command.specs.PingRun.{ArePingJobs, offers, opened, with_thread, Does, IsSettled, Carries, ping_interface, Ran, Refused, Runs, farewell, IsRun, AnswersOne, Underway, RanAll, RanFront, AnswersAll, SaysFarewell}
-use Rattle.orb_command.specs.Streams.{WroteSome}
+use Rattle.text_streams.specs.Streams.{WroteSome}
 use Rattle.orb_command.specs.Pipe.{Outputs, WroteWhole, WroteFront, WroteAtWant, Wrote, Serves, Replies, Pipes, PipesTo}
-use Rattle.orb_command.proofs.StreamLaws.{wrote_start, wrote_nothing, wrote_behind, wrote_more, wrote_all}
+use Rattle.text_streams.proofs.CallerLemmas.{wrote_start, wrote_nothing, wrote_behind, wrote_more, wrote_all}
 use Rattle.orb_command.proofs.HearingLaws.{jobs_of}
 use Rattle.orb_command.proofs.PipeRuns.{at, idle, runs_grouped, lacking}
 

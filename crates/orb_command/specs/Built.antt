@@ -12,7 +12,7 @@ use Rattle.lane_machine.specs.declared.call.LaneCall.{LaneCall}
 use Rattle.lane_machine.specs.declared.call.How.TheVariants.{Quiet}
 use Rattle.lane_machine.specs.State.{opening}
 use Rattle.lane_machine.specs.Histories.{IsLegal}
-use Rattle.orb_command.specs.declared.read_all.TheConstants.{MAX_PIPED}
+use Rattle.orb_command.specs.declared.request.TheConstants.{MAX_PIPED}
 use Rattle.orb_command.specs.Setup.{built_in, pipe_conn}
 use Rattle.orb_command.specs.Ping.{ping_request}
 use Rattle.orb_command.specs.Heard.{Hears}

@@ -12,9 +12,9 @@ use Rattle.orb_command.specs.declared.ends.WriteEnd.TheVariants as write
 use Rattle.orb_command.specs.declared.ends.Piped.{Piped}
 use Rattle.orb_command.specs.declared.ends.PipeFault.{PipeFault}
 use Rattle.orb_command.specs.declared.ends.PipeFault.TheVariants as fault
-use Rattle.orb_command.specs.declared.read_all.TheConstants.{MAX_PIPED}
-use Rattle.orb_command.specs.declared.dump_end.TheConstants.{MAX_DUMPED}
-use Rattle.orb_command.specs.declared.refs_end.TheConstants.{MAX_REFERENCE}
+use Rattle.orb_command.specs.declared.request.TheConstants.{MAX_PIPED}
+use Rattle.giop_dump.specs.declared.dump_end.TheConstants.{MAX_DUMPED}
+use Rattle.reference_lines.specs.declared.refs_end.TheConstants.{MAX_REFERENCE}
 use Rattle.orb_command.specs.Ping.{ping_outcome}
 use Rattle.orb_command.specs.Built.{IsBuilt, IsPiped}
 use Rattle.orb_command.specs.Pipe.{WroteWhole, WroteFront, WroteAtWant}

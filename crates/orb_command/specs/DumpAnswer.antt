@@ -2,11 +2,11 @@
 use Rattle.std.specs.Prelude.{◌≡◌, ℕ, Result, Ok, Err}
 use Rattle.orb_base.specs.Outside.{Told}
 use Rattle.orb_base.specs.declared.no_memory.NoMemory.{NoMemory}
-use Rattle.orb_command.specs.declared.dump_end.DumpEnd.{DumpEnd}
-use Rattle.orb_command.specs.declared.dump_end.DumpEnd.TheVariants as end
+use Rattle.giop_dump.specs.declared.dump_end.DumpEnd.{DumpEnd}
+use Rattle.giop_dump.specs.declared.dump_end.DumpEnd.TheVariants as end
 use Rattle.orb_command.specs.declared.note.Note.{Note}
 use Rattle.orb_command.specs.declared.note.Note.TheVariants.{Nothing, ReadFault, WriteFault, Input, Memory, Limit}
-use Rattle.orb_command.specs.Dump.{Dumps}
+use Rattle.giop_dump.specs.Dump.{Dumps}
 
 -- the note of a dump
 abbrev pub dump_note : Result DumpEnd NoMemory → Note

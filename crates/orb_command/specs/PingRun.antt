@@ -26,7 +26,7 @@ use Rattle.orb_command.specs.Setup.{built_in_pool, pipe_conn}
 use Rattle.orb_command.specs.Ping.{ping_request}
 use Rattle.orb_command.specs.Heard.{job_of}
 use Rattle.orb_command.specs.Said.{item_bytes}
-use Rattle.orb_command.specs.Streams.{WroteSome}
+use Rattle.text_streams.specs.Streams.{WroteSome}
 
 -- the request of so many bytes for `current` of `ping`, as the call of this number of the pipe's connection
 abbrev pub ping_job : ℕ → Order → ℕ → ℕ → JobRecord

@@ -11,7 +11,7 @@ use Rattle.orb_command.specs.declared.ends.Piped.{Piped}
 use Rattle.orb_command.specs.declared.ends.PipeFault.{PipeFault}
 use Rattle.orb_command.specs.declared.ends.PipeFault.TheVariants.{NotBuilt, NoMemory}
 use Rattle.orb_command.specs.Built.{IsBuilt, IsPiped}
-use Rattle.orb_command.specs.Streams.{WroteSome}
+use Rattle.text_streams.specs.Streams.{WroteSome}
 
 -- outputs, each of a run that met a limit, or of one that met none
 abbrev pub Outputs : Type 1

@@ -3,12 +3,12 @@ use Rattle.std.specs.Prelude.{◌≡◌, ℕ, Result, Ok, Err}
 use Rattle.orb_base.specs.Outside.{Told}
 use Rattle.orb_base.specs.declared.no_memory.NoMemory.{NoMemory}
 use Rattle.giop_messages.specs.declared.refused.Fault.TheVariants.{Cut}
-use Rattle.orb_command.specs.declared.refs_end.RefsEnd.{RefsEnd}
-use Rattle.orb_command.specs.declared.refs_end.RefsEnd.TheVariants as end
-use Rattle.orb_command.specs.declared.refs_end.TheConstants.{MAX_REFERENCE}
+use Rattle.reference_lines.specs.declared.refs_end.RefsEnd.{RefsEnd}
+use Rattle.reference_lines.specs.declared.refs_end.RefsEnd.TheVariants as end
+use Rattle.reference_lines.specs.declared.refs_end.TheConstants.{MAX_REFERENCE}
 use Rattle.orb_command.specs.declared.note.Note.{Note}
 use Rattle.orb_command.specs.declared.note.Note.TheVariants.{Nothing, ReadFault, WriteFault, Input, Reference, Memory}
-use Rattle.orb_command.specs.Refs.{Refs}
+use Rattle.reference_lines.specs.Refs.{Refs}
 
 -- the note of a run: a text that is too long is cut behind the bytes that it may have
 abbrev pub refs_note : Result RefsEnd NoMemory → Note

@@ -2,21 +2,21 @@
 ghost use Rattle.std.specs.Prelude.{◌≡◌, ◌+◌, string_bytes};
 ghost use Rattle.orb_command.specs.Words.{command_of};
 ghost use Rattle.orb_command.specs.Ping.{ping_outcome};
-ghost use Rattle.orb_command.specs.Streams.{GaveFew};
+ghost use Rattle.text_streams.specs.Streams.{GaveFew};
 ghost use Rattle.orb_command.specs.Command.{Answers, most_taken, status_of, note_of};
 
 use crate::answered::Answered;
-use crate::dump::dump_run;
 use crate::dump_note::dump_note;
 use crate::ends::{PipeFault, Piped, ReadEnd, WriteEnd};
 use crate::meaning::Meaning;
 use crate::note::Note;
 use crate::ping::Ping;
 use crate::pipe::pipe_run;
-use crate::refs::refs_run;
 use crate::refs_note::refs_note;
 use crate::words::read_words;
+use giop_dump::dump_run;
 use orb_base::{Sink, Source};
+use reference_lines::refs_run;
 use std::alloc::Global;
 
 /// The note with its status.
@@ -60,7 +60,7 @@ fn note_for(ran: Result<Piped, PipeFault>) -> Note
 /// status with its note. `pipe` answers each request of its input, `dump` writes a line for each message of it, and
 /// `refs` writes the parts of the reference that it is; the other commands aren't built yet. It returns where each read
 /// and write returns.
-#[tactic(auto, using(crate::proofs::CommandLaws::pipes_answers, crate::proofs::CommandLaws::dumps_answers, crate::proofs::CommandLaws::dumps_few, crate::proofs::CommandLaws::refs_answers, crate::proofs::CommandLaws::refs_few, crate::proofs::StreamLaws::gave_none))]
+#[tactic(auto, using(crate::proofs::CommandLaws::pipes_answers, crate::proofs::CommandLaws::dumps_answers, crate::proofs::CommandLaws::dumps_few, crate::proofs::CommandLaws::refs_answers, crate::proofs::CommandLaws::refs_few, text_streams::proofs::CallerLemmas::gave_none))]
 pub fn orb_main<I: Source, O: Sink>(
     alloc: Global,
     words: &[String],

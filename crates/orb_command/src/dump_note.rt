@@ -2,8 +2,8 @@
 ghost use Rattle.std.specs.Prelude.{◌≡◌};
 ghost use Rattle.orb_command.specs.DumpAnswer.{dump_note as dump_note_lem};
 
-use crate::dump_end::DumpEnd;
 use crate::note::Note;
+use giop_dump::DumpEnd;
 use orb_base::NoMemory;
 
 /// The note of a dump.

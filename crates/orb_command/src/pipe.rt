@@ -2,21 +2,19 @@
 ghost use Rattle.std.specs.Prelude.{◌≡◌, ◌≤◌, ◌+◌, length};
 ghost use Rattle.lane_machine.specs.declared.doing.Doing.TheVariants.{Free};
 ghost use Rattle.orb_command.specs.PingRun.{opened, ping_interface, Does, IsPingJob, ArePingJobs, IsRun, AnswersOne, AnswersAll, SaysFarewell};
-ghost use Rattle.orb_command.specs.Streams.{GaveFew};
+ghost use Rattle.text_streams.specs.Streams.{GaveFew};
 ghost use Rattle.orb_command.specs.Pipe.{Serves, Replies, Pipes};
 
 use crate::course::Course;
 use crate::ends::{PipeFault, Piped, ReadEnd, WriteEnd};
-use crate::read_all::{MAX_PIPED, ReadAll};
 use crate::replies::{close_connection, reply_to};
-use crate::request::hear;
+use crate::request::{MAX_PIPED, hear};
 use crate::setup::{interface, open};
-use crate::streams::{read_all, write_all};
 use crate::turn::{carry_out, end};
-use crate::write_all::WriteAll;
 use lane_machine::{How, Lanes};
 use orb_base::{Arc, Job, NoMemory, Serving, Sink, Source, Text};
 use std::alloc::Global;
+use text_streams::{ReadAll, WriteAll, read_all, write_all};
 
 /// Answers one request: it is carried out, and its reply is written.
 #[tactic(auto, using(crate::proofs::PipedLaws::ran_of))]

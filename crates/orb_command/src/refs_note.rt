@@ -3,9 +3,9 @@ ghost use Rattle.std.specs.Prelude.{◌≡◌};
 ghost use Rattle.orb_command.specs.RefsAnswer.{refs_note as refs_note_lem};
 
 use crate::note::Note;
-use crate::refs_end::{MAX_REFERENCE, RefsEnd};
 use giop_messages::Fault;
 use orb_base::NoMemory;
+use reference_lines::{MAX_REFERENCE, RefsEnd};
 
 /// The note of a run of `orb refs`.
 pub fn refs_note(ran: Result<RefsEnd, NoMemory>) -> Note

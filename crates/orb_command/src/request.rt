@@ -8,13 +8,15 @@ ghost use Rattle.orb_command.specs.Ping.{ping_request};
 ghost use Rattle.orb_command.specs.PingRun.{ping_job};
 ghost use Rattle.orb_command.specs.Hearing.{HeardAs, MeansJob, MeansJobs};
 
-use crate::read_all::MAX_PIPED;
 use crate::setup::{PING, default_priority};
 use giop_frames::{FeedFault, Framer, Whole};
 use giop_messages::{Message, MessageFault, Request, Target, due_of, read_message};
 use orb_base::limits::MAX_MESSAGE;
 use orb_base::{Arc, ConnId, Job, NoMemory, Order};
 use std::alloc::Global;
+
+/// Bytes of an input that the pipe takes so far.
+pub const MAX_PIPED: usize = 8192;
 
 /// The connection of the pipe.
 pub const PIPE_CONN: ConnId = ConnId { slot: 0, nth: 0 };

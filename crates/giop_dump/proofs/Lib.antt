@@ -1,0 +1,5 @@
+pub mod DumpLaws
+pub mod Pieces
+pub mod Runs
+pub mod Growing
+pub mod Facts

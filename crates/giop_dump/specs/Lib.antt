@@ -1,0 +1,5 @@
+pub mod Lines
+pub mod Ending
+pub mod Dump
+pub mod Steps
+pub mod Growth

@@ -1,0 +1,17 @@
+//! One line of text for each GIOP message of an input, up to the first one that has no reading.
+#![tactic(auto)]
+
+mod dump;
+mod dump_end;
+mod dump_growth;
+mod dump_line;
+mod dump_lines;
+mod refusal;
+
+pub use dump::dump_run;
+pub use dump_end::{DumpEnd, MAX_DUMPED};
+pub use dump_growth::dumps_go_on;
+pub use refusal::Refusal;
+
+#[cfg(test)]
+mod tests;

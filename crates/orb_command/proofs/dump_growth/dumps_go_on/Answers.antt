@@ -1,5 +1,0 @@
-use Rattle.orb_command.proofs.DumpGrows.{text_grows, refusal_stays}
-use Rattle.orb_command.proofs.dump_growth.dumps_go_on.Goals as goal
-
-pub returns : goal.returns
-returns c = record { text = text_grows; refusal = refusal_stays }

@@ -1,0 +1,4 @@
+pub mod FirstPolicies
+pub mod ApartLaws
+pub mod RefsLaws
+pub mod TextForms

@@ -1,0 +1,5 @@
+pub mod Apart
+pub mod Policies
+pub mod ReferenceText
+pub mod RefsText
+pub mod Refs

@@ -1,0 +1,14 @@
+//! The parts of an object reference, line by line: of a stringified reference, or of an object URL.
+#![tactic(auto)]
+
+mod apart;
+mod policies;
+mod ref_lines;
+mod refs;
+mod refs_end;
+
+pub use refs::refs_run;
+pub use refs_end::{MAX_REFERENCE, RefsEnd};
+
+#[cfg(test)]
+mod tests;
