@@ -1,13 +1,10 @@
 -- The parts of a system exception are its body.
-use Rattle.std.proofs.Common.{◌≡◌, ℕ, ◌+◌, ◌≤◌, List, [], ◌∷◌, ◌++◌, length, take, replicate, refl, sym, ap, subst, ◌∙◌, append_assoc, arith}
+use Rattle.std.proofs.Common.{◌≡◌, ℕ, ◌≤◌, List, [], ◌∷◌, length, sym, ap, subst, ◌∙◌, arith}
 use Rattle.std.specs.Prelude.{IfOk, Result, Ok, Err}
-use Rattle.std.specs.Int.{w32}
 use Rattle.orb_base.specs.Room.{Room}
-use Rattle.std.proofs.lemmas.List.{append-nil, length-append, take-replicate}
+use Rattle.std.proofs.lemmas.List.{length-append}
 use Rattle.orb_base.specs.declared.order.Order.{Order}
-use Rattle.orb_base.specs.declared.order.Order.TheVariants.{Big}
 use Rattle.orb_base.specs.declared.system.Sys.{Sys}
-use Rattle.cdr_core.specs.Field.{number, number_bytes, string_fields}
 use Rattle.cdr_core.specs.Spelling.{fields_bytes}
 use Rattle.cdr_core.proofs.CallerLemmas.{fields_end-is}
 use Rattle.giop_messages.specs.Exceptions.{exception_id, completion, parts_fields, exception_body}

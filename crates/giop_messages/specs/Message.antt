@@ -48,6 +48,10 @@ pub data Message : Type 0 where
   close : Message
   error : Message
 
+-- a reply of these parts
+abbrev pub reply_of : ℕ → ℕ → List Context → List ℕ → Message
+reply_of id status contexts body = reply (record { id = id; status = status; contexts = contexts; body = body })
+
 -- the number of a message's kind: section 15.4.1
 abbrev pub kind_of : Message → ℕ
 kind_of (request _) = 0

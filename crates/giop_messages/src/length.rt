@@ -13,7 +13,6 @@ ghost use Rattle.giop_messages.specs.Views.{message_of};
 ghost use Rattle.giop_messages.specs.Lengths.{Ends, held};
 
 use crate::message::Message;
-use crate::reply::Reply;
 use crate::request::Request;
 use crate::target::Target;
 use orb_base::{Context, Tagged};
@@ -115,11 +114,14 @@ fn request_len(request: &Request) -> usize
     behind_body(contexts, request.body.len())
 }
 
-fn reply_len(reply: &Reply) -> usize
-    ensures { Ends 12 (all_fields (Spec.reply reply.now)) result }
+/// The length in bytes of a reply with these contexts and a body of so many octets as it is spelled, or usize::MAX where
+/// that is greater. One pass over the contexts. CORBA 3.0.3, section 15.4.3.
+pub fn reply_len(contexts: &[Context], len: usize) -> usize
+    ensures { (order : Order) (id status : ℕ) (body : List ℕ) → length body ≡ len
+        → result ≡ held (length (spelled order (Spec.reply_of id status contexts.now body))) }
 {
-    let contexts = behind_contexts(20, reply.contexts.as_slice());
-    behind_body(contexts, reply.body.len())
+    let at = behind_contexts(20, contexts);
+    behind_body(at, len)
 }
 
 /// The length in bytes of the message as it is spelled, or usize::MAX where that is greater. One pass
@@ -129,10 +131,11 @@ pub fn message_len(message: &Message) -> usize
 {
     match message {
         Message::Request(request) => request_len(request),
-        Message::Reply(reply) => reply_len(reply),
+        Message::Reply(reply) => reply_len(reply.contexts.as_slice(), reply.body.len()),
         Message::Cancel(_) => 16,
         Message::Locate(locate) => behind_target(16, &locate.target),
         Message::Located(_) => 20,
-        Message::Close | Message::Error => 12,
+        Message::Close => 12,
+        Message::Error => 12,
     }
 }

@@ -22,7 +22,7 @@ mod write;
 pub use exceptions::system_exception_body;
 pub use flags::due_of;
 pub use laws::{framed_is_message, reads_one_way, spelled_is_read};
-pub use length::message_len;
+pub use length::{message_len, reply_len};
 pub use locate::Locate;
 pub use located::Located;
 pub use message::Message;
@@ -33,7 +33,7 @@ pub use refused::Fault;
 pub use reply::Reply;
 pub use request::Request;
 pub use target::Target;
-pub use write::write_message;
+pub use write::{write_message, write_reply};
 
 #[cfg(test)]
 mod exception_tests;

@@ -9,7 +9,7 @@ ghost use Rattle.giop_messages.specs.Spelling.{all_fields, spelled};
 ghost use Rattle.giop_messages.specs.Views.{message_of};
 ghost use Rattle.giop_messages.specs.Front.{IsFront};
 
-use crate::length::message_len;
+use crate::length::{message_len, reply_len};
 use crate::locate::Locate;
 use crate::located::Located;
 use crate::message::Message;
@@ -18,7 +18,7 @@ use crate::reply::Reply;
 use crate::request::Request;
 use cdr_core::Writer;
 use orb_base::limits::MAX_MESSAGE;
-use orb_base::{NoMemory, Order};
+use orb_base::{Context, NoMemory, Order};
 
 /// Bit 0 of the flags.
 fn flag(order: Order) -> u8
@@ -76,15 +76,35 @@ fn put_request(into: &mut Writer, request: &Request) -> Result<(), NoMemory>
     put_body(into, request.body.as_slice())
 }
 
+/// Puts the parts of a reply behind its header.
+fn put_reply_parts(
+    into: &mut Writer,
+    id: u32,
+    status: u32,
+    contexts: &[Context],
+    body: &[u8],
+) -> Result<(), NoMemory>
+    requires { fields_end into.old.place (all_fields (Spec.reply_of id status contexts.now body.now)) < 2 ^ 32 }
+    ensures { Puts result into.old into.new (all_fields (Spec.reply_of id status contexts.now body.now)) }
+{
+    into.put_u32(id)?;
+    into.put_u32(status)?;
+    put_contexts(into, contexts)?;
+    put_body(into, body)
+}
+
 /// Puts a reply behind its header.
 fn put_reply(into: &mut Writer, reply: &Reply) -> Result<(), NoMemory>
     requires { fields_end into.old.place (all_fields (Spec.reply reply.now)) < 2 ^ 32 }
     ensures { Puts result into.old into.new (all_fields (Spec.reply reply.now)) }
 {
-    into.put_u32(reply.id)?;
-    into.put_u32(reply.status)?;
-    put_contexts(into, reply.contexts.as_slice())?;
-    put_body(into, reply.body.as_slice())
+    put_reply_parts(
+        into,
+        reply.id,
+        reply.status,
+        reply.contexts.as_slice(),
+        reply.body.as_slice(),
+    )
 }
 
 /// Puts a question behind its header.
@@ -115,7 +135,8 @@ fn put_fields(into: &mut Writer, message: &Message) -> Result<(), NoMemory>
         Message::Cancel(id) => into.put_u32(*id),
         Message::Locate(locate) => put_locate(into, locate),
         Message::Located(located) => put_located(into, *located),
-        Message::Close | Message::Error => Ok(()),
+        Message::Close => Ok(()),
+        Message::Error => Ok(()),
     }
 }
 
@@ -132,4 +153,25 @@ pub fn write_message(order: Order, message: &Message, into: &mut Writer) -> Resu
     let size = message_len(message) - 12;
     put_header(into, order, kind(message), size as u32)?;
     put_fields(into, message)
+}
+
+/// Writes a reply of parts that are borrowed, as `write_message` does the same reply, without a copy of them. Work grows
+/// with the reply's length. CORBA 3.0.3, section 15.4.3.
+pub fn write_reply(
+    order: Order,
+    id: u32,
+    status: u32,
+    contexts: &[Context],
+    body: &[u8],
+    into: &mut Writer,
+) -> Result<(), NoMemory>
+    requires empty { into.old ≡ record { order = order; place = 0; bytes = [] } }
+    requires len { length (spelled order (Spec.reply_of id status contexts.now body.now)) ≤ MAX_MESSAGE }
+    requires status { status ≤ 5 }
+    ensures ok { OnOk result (into.new.bytes ≡ spelled order (Spec.reply_of id status contexts.now body.now)) }
+    ensures memory { OnErr result (IsFront into.new.bytes (spelled order (Spec.reply_of id status contexts.now body.now))) }
+{
+    let size = reply_len(contexts, body.len()) - 12;
+    put_header(into, order, 1, size as u32)?;
+    put_reply_parts(into, id, status, contexts, body)
 }

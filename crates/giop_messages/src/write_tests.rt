@@ -209,3 +209,61 @@ fn reads_response_flags(rt: HostRuntime) {
         assert_eq!(rt; due_of(flags), due);
     }
 }
+
+/// Whether a reply of these parts has this length and is written so.
+fn spells_reply(
+    alloc: Global,
+    order: Order,
+    (id, status): (u32, u32),
+    contexts: &[Context],
+    body: &[u8],
+    bytes: &[u8],
+) -> bool {
+    let len = reply_len(contexts, body.len());
+    if len != bytes.len() || len > MAX_MESSAGE || status > 5 {
+        return false;
+    }
+    let mut writer = Writer::new(alloc, order, 0);
+    match write_reply(order, id, status, contexts, body, &mut writer) {
+        Ok(()) => writer.finish().as_slice() == bytes,
+        Err(_) => false,
+    }
+}
+
+#[test]
+fn writes_a_reply_of_borrowed_parts(rt: HostRuntime) -> Result<(), Fail> {
+    let alloc = rt.alloc();
+    let priority = contexts(alloc, 10, &[0, 0, 0, 100])?;
+    assert!(rt; spells_reply(alloc, Order::Big, (1, 0), &[], &[0, 100], PING_REPLY));
+    assert!(rt;
+        spells_reply(
+            alloc,
+            Order::Little,
+            (1, 0),
+            &[],
+            &[7, 0],
+            LITTLE_ENDIAN_PING_REPLY
+        )
+    );
+    assert!(rt;
+        spells_reply(
+            alloc,
+            Order::Little,
+            (0x0102_0304, 2),
+            priority.as_slice(),
+            b"abc",
+            b"GIOP\x01\x02\x01\x01\x1f\0\0\0\x04\x03\x02\x01\x02\0\0\0\x01\0\0\0\x0a\0\0\0\x04\0\0\0\0\0\0d\0\0\0\0abc",
+        )
+    );
+    assert!(rt;
+        spells_reply(
+            alloc,
+            Order::Big,
+            (5, 1),
+            &[],
+            &[],
+            b"GIOP\x01\x02\0\x01\0\0\0\x0c\0\0\0\x05\0\0\0\x01\0\0\0\0",
+        )
+    );
+    Ok(())
+}

@@ -8,9 +8,9 @@ ghost use Rattle.giop_messages.specs.Spelling.{spelled};
 ghost use Rattle.orb_command.specs.Said.{bare, item_bytes};
 
 use cdr_core::Writer;
-use giop_messages::{Message, Reply, system_exception_body, write_message};
+use giop_messages::{Message, system_exception_body, write_message, write_reply};
 use orb_base::limits::MAX_BODY;
-use orb_base::{Answer, List, NoMemory, Octets, Order, Outcome};
+use orb_base::{Answer, NoMemory, Octets, Order, Outcome};
 use std::alloc::Global;
 
 /// A reply without contexts.
@@ -26,14 +26,8 @@ fn reply_with(
     requires body { length body.now ≤ MAX_BODY }
     ensures { IfOk result (λ o. o.items ≡ spelled order (reply (bare id status body.now))) }
 {
-    let message = Message::Reply(Reply {
-        id,
-        status,
-        contexts: List::new(alloc),
-        body: List::from_vec(Vec::from_slice(alloc, body)?),
-    });
     let mut into = Writer::new(alloc, order, 0);
-    write_message(order, &message, &mut into)?;
+    write_reply(order, id, status, &[], body, &mut into)?;
     Ok(into.finish())
 }
 

@@ -1,9 +1,8 @@
 -- The parts were put one behind the other into an empty writer.
-use Rattle.std.proofs.Common.{◌≡◌, ◌++◌, ◌∷◌, [], ℕ, List, ap, ◌∙◌}
+use Rattle.std.proofs.Common.{◌≡◌, ◌++◌, ◌∷◌, [], ap, ◌∙◌}
 use Rattle.std.specs.Int.{w32}
 use Rattle.cdr_core.specs.Field.{number, string_fields}
 use Rattle.cdr_core.specs.Writing.{Page, page, written}
-use Rattle.giop_messages.specs.Exceptions.{parts_fields}
 use Rattle.giop_messages.proofs.PutLaws.{written_both}
 use Rattle.giop_messages.proofs.exceptions.spell.Goals as goal
 

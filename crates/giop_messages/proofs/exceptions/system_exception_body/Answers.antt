@@ -1,5 +1,5 @@
 -- A repository id is short, and so is the body.
-use Rattle.std.proofs.Common.{◌≡◌, ◌≤◌, List, ℕ, length, ap, sym, subst}
+use Rattle.std.proofs.Common.{◌≤◌, List, ℕ, length, sym, subst}
 use Rattle.giop_messages.proofs.WritingLaws.{exception_short}
 use Rattle.giop_messages.proofs.exceptions.system_exception_body.Goals as goal
 
