@@ -158,3 +158,8 @@ header_front x order message size old new e len h =
     let head = header_fields order (kind_of message) size in
     (fields_on_empty (Err x) order old new (head ++ all_fields message) (spelled order message) e (spelled_is order message size len)
     (puts_first old new head (all_fields message) h)).1
+
+-- where nothing was put, that is a front
+pub nothing_put : (order : Order) (message : Message) (p : Page) → p ≡ page order 0 [] → IsFront p.bytes (spelled order message)
+nothing_put order message p e =
+    record { missing = spelled order message; parts = ap (λ (q : Page). q.bytes ++ spelled order message) (sym e) }

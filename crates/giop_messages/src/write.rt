@@ -142,7 +142,7 @@ fn put_fields(into: &mut Writer, message: &Message) -> Result<(), NoMemory>
 
 /// Writes a message as it is spelled, in this order, into an empty writer at place 0. Pads, the reserved
 /// octets and all flag bits but that of the order are 0. After want of memory the writer holds a front
-/// of it. Work grows with the message's length. CORBA 3.0.3, section 15.4.
+/// of it. Memory is asked for once, and work grows with the message's length. CORBA 3.0.3, section 15.4.
 pub fn write_message(order: Order, message: &Message, into: &mut Writer) -> Result<(), NoMemory>
     requires empty { into.old ≡ record { order = order; place = 0; bytes = [] } }
     requires len { length (spelled order (message_of message.now)) ≤ MAX_MESSAGE }
@@ -150,13 +150,15 @@ pub fn write_message(order: Order, message: &Message, into: &mut Writer) -> Resu
     ensures ok { OnOk result (into.new.bytes ≡ spelled order (message_of message.now)) }
     ensures memory { OnErr result (IsFront into.new.bytes (spelled order (message_of message.now))) }
 {
-    let size = message_len(message) - 12;
+    let len = message_len(message);
+    into.reserve(len)?;
+    let size = len - 12;
     put_header(into, order, kind(message), size as u32)?;
     put_fields(into, message)
 }
 
-/// Writes a reply of parts that are borrowed, as `write_message` does the same reply, without a copy of them. Work grows
-/// with the reply's length. CORBA 3.0.3, section 15.4.3.
+/// Writes a reply of parts that are borrowed, as `write_message` does the same reply, without a copy of them. Memory is
+/// asked for once, and work grows with the reply's length. CORBA 3.0.3, section 15.4.3.
 pub fn write_reply(
     order: Order,
     id: u32,
@@ -171,7 +173,9 @@ pub fn write_reply(
     ensures ok { OnOk result (into.new.bytes ≡ spelled order (Spec.reply_of id status contexts.now body.now)) }
     ensures memory { OnErr result (IsFront into.new.bytes (spelled order (Spec.reply_of id status contexts.now body.now))) }
 {
-    let size = reply_len(contexts, body.len()) - 12;
+    let len = reply_len(contexts, body.len());
+    into.reserve(len)?;
+    let size = len - 12;
     put_header(into, order, 1, size as u32)?;
     put_reply_parts(into, id, status, contexts, body)
 }
