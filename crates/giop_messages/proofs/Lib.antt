@@ -17,4 +17,5 @@ pub mod FaultAgain
 pub mod RefusalAgain
 mod PartsAgain
 pub mod WholeAgain
+pub mod Written
 pub mod CallerLemmas

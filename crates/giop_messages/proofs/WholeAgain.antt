@@ -89,7 +89,7 @@ kind_again bytes c d octets (located l) three f p body = ap (as_message located)
 kind_again bytes c d octets close three f p body = refl
 kind_again bytes c d octets error three f p body = refl
 
-in_order : (w : Frames.Message) (z : Order) (m : Message) → IsHeaded w → ReadsIn z m w.bytes → message_at w ≡ Ok m
+pub in_order : (w : Frames.Message) (z : Order) (m : Message) → IsHeaded w → ReadsIn z m w.bytes → message_at w ≡ Ok m
 unfolding message_at
 in_order w z m i q =
     let behind : List ℕ = q.named ++ q.rest in

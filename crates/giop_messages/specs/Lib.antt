@@ -12,3 +12,4 @@ pub mod MessageReading
 pub mod Refusing
 pub mod Framing
 pub mod Causes
+pub mod Written

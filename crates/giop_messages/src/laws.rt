@@ -6,6 +6,7 @@ ghost use Rattle.giop_messages.specs.Message.{Message, Fits};
 ghost use Rattle.giop_messages.specs.Spelling.{spelled, all_fields};
 ghost use Rattle.giop_messages.specs.Reading.{ReadsIn, Reads};
 ghost use Rattle.giop_messages.specs.Framing.{StreamsMessages, FeedsMessages, ReadsMessages};
+ghost use Rattle.giop_messages.specs.Written.{StreamsWritten, ReadsWritten, UncutWritten};
 
 /// What a message is spelled as is read as that message, in either order.
 pub fn spelled_is_read()
@@ -24,4 +25,12 @@ pub fn framed_is_message()
     ensures stream { StreamsMessages }
     ensures feed { FeedsMessages }
     ensures whole { ReadsMessages }
+{}
+
+/// Messages that are written one behind the other are what a stream of those bytes holds, and nothing else, under a limit of at
+/// most 262,144 bytes; each is read as it was written, and can be cut into pieces where its kind allows it.
+pub fn written_is_read()
+    ensures stream { StreamsWritten }
+    ensures read { ReadsWritten }
+    ensures uncut { UncutWritten }
 {}
