@@ -2,4 +2,5 @@ pub mod DumpLaws
 pub mod Pieces
 pub mod Runs
 pub mod Growing
+pub mod WrittenLaws
 pub mod Facts

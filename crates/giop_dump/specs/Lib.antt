@@ -3,3 +3,4 @@ pub mod Ending
 pub mod Dump
 pub mod Steps
 pub mod Growth
+pub mod Written

@@ -3,14 +3,14 @@
 
 mod dump;
 mod dump_end;
-mod dump_growth;
 mod dump_line;
 mod dump_lines;
+mod laws;
 mod refusal;
 
 pub use dump::dump_run;
 pub use dump_end::{DumpEnd, MAX_DUMPED};
-pub use dump_growth::dumps_go_on;
+pub use laws::{dumps_go_on, written_is_shown};
 pub use refusal::Refusal;
 
 #[cfg(test)]
