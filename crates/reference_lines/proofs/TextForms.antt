@@ -1,5 +1,5 @@
 -- A text is an object URL or a stringified reference, and never both.
-use Rattle.std.proofs.Common.{◌≡◌, ℕ, Bool, true, false, List, [], ◌∷◌, ◌++◌, map, length, take, get_or, Ok, Err, Result, refl, sym, ap, subst, inl, inr, arith}
+use Rattle.std.proofs.Common.{◌≡◌, ℕ, Bool, true, false, List, [], ◌∷◌, ◌++◌, map, length, take, get_or, Ok, Err, Result, refl, sym, ap, ◌∙◌, subst, inl, inr, arith}
 use Rattle.std.specs.Prelude.{IfErr}
 use Rattle.std.specs.Char.{to_ascii_lowercase}
 use Rattle.std.specs.Str.{bytes_eq}
@@ -12,8 +12,9 @@ use Rattle.object_refs.specs.Locations.{scheme, version_part, slash, IsLocation}
 use Rattle.object_refs.specs.Profiles.{IsFirstProfile}
 use Rattle.object_refs.specs.References.{IsReference, lower_prefix}
 use Rattle.object_refs.specs.Answers.{Fails}
-use Rattle.object_refs.proofs.OneWay.{one_reference}
-use Rattle.reference_lines.specs.RefsText.{IsPrinted, NamesNone, RefersNowhere, MeansNothing}
+use Rattle.object_refs.proofs.OneWay.{one_location, one_first, one_reference}
+use Rattle.reference_lines.specs.ReferenceText.{profile_text, location_text}
+use Rattle.reference_lines.specs.RefsText.{IsPrinted, NamesNone, RefersNowhere, MeansNothing, PrintsOneWay}
 
 abbrev begins : List ℕ → Bool
 begins text = bytes_eq scheme (take (length scheme) text)
@@ -92,3 +93,17 @@ pub ior_refused : {S : Type 0} (result : Result S RefError) (text : List ℕ)
     → IfErr result (λ e. RefersNowhere e text) → IfErr result (λ e. MeansNothing e text)
 ior_refused (Ok lines) text other none = tt
 ior_refused (Err e) text other none = ior_means_nothing e text other none
+
+-- ---- a text is printed in one way only
+
+pub prints_one_way : PrintsOneWay
+prints_one_way text lines others (inl (l, is, e)) (inl (m, also, d)) =
+    e ∙ ap location_text (one_location l m text is also) ∙ sym d
+prints_one_way text lines others (inl (l, is, e)) (inr (r, p, also, first, d)) =
+    absurd (not_both text r (begins_so l text is) also)
+prints_one_way text lines others (inr (r, p, is, first, e)) (inl (l, also, d)) =
+    absurd (not_both text r (begins_so l text also) is)
+prints_one_way text lines others (inr (r, p, is, first, e)) (inr (s, q, also, other, d)) =
+    let same : r ≡ s = one_reference r s text is also in
+    let one : p ≡ q = one_first p q s (subst (λ (x : Reference). IsFirstProfile p x) same first) other in
+    e ∙ ap (λ (x : Reference). profile_text x.type_id p) same ∙ ap (profile_text s.type_id) one ∙ sym d

@@ -61,3 +61,7 @@ RefersNowhere NoMemory text = Unit {0}
 abbrev pub MeansNothing : RefError → List ℕ → Type 0
 MeansNothing (Refused f) text = (lines : List ℕ) → ¬ IsPrinted lines text
 MeansNothing NoMemory text = Unit {0}
+
+-- a text is printed in one way only
+abbrev pub PrintsOneWay : Type 0
+PrintsOneWay = (text lines others : List ℕ) → IsPrinted lines text → IsPrinted others text → lines ≡ others

@@ -2,11 +2,13 @@
 #![tactic(auto)]
 
 mod apart;
+mod laws;
 mod policies;
 mod ref_lines;
 mod refs;
 mod refs_end;
 
+pub use laws::prints_one_way;
 pub use refs::refs_run;
 pub use refs_end::{MAX_REFERENCE, RefsEnd};
 
