@@ -9,3 +9,4 @@ pub mod PipedLaws
 pub mod CommandLaws
 pub mod Replays
 pub mod HeardLaws
+pub mod RepliedLaws
