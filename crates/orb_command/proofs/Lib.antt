@@ -4,6 +4,7 @@ pub mod StreamCounts
 pub mod HearingLaws
 pub mod ReplyLaws
 pub mod PipeRuns
+pub mod PingSizes
 pub mod Turns
 pub mod PipedLaws
 pub mod CommandLaws

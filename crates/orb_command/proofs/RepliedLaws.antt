@@ -1,5 +1,5 @@
 -- Each request of the pipe's input gets its reply, and nothing else is written.
-use Rattle.std.proofs.Common.{◌≡◌, ℕ, suc, ◌≤◌, Bool, true, false, List, [], ◌∷◌, ◌++◌, length, refl, sym, ap, ◌∙◌, subst, inl, inr, arith, lit≤, lit<, append-nil}
+use Rattle.std.proofs.Common.{◌≡◌, ℕ, suc, ◌+◌, ◌*◌, ◌≤◌, Bool, true, false, List, [], ◌∷◌, ◌++◌, length, refl, sym, ap, ◌∙◌, subst, inl, inr, arith, lit≤, lit<, append-nil}
 use Rattle.std.specs.Prelude.{◌⊎◌, if◌then◌else◌, codes}
 use Rattle.std.specs.Int.{w16}
 use Rattle.std.specs.List.{AllByRecursion}
@@ -10,7 +10,6 @@ use Rattle.orb_base.specs.Outcomes.{no_memory, bad_operation, body_len}
 use Rattle.orb_base.specs.JobRecord.{JobRecord}
 use Rattle.orb_base.specs.declared.limits.TheConstants.{MAX_MESSAGE, MAX_BODY}
 use Rattle.orb_base.specs.declared.order.Order.{Order}
-use Rattle.orb_base.specs.declared.order.Order.TheVariants.{Big}
 use Rattle.orb_base.specs.declared.outcome.Outcome.{Outcome}
 use Rattle.orb_base.specs.declared.outcome.Outcome.TheVariants.{Returned, User, System}
 use Rattle.orb_base.specs.declared.system.SysName.TheVariants.{NoMemory}
@@ -19,7 +18,7 @@ use Rattle.cdr_core.specs.Field.{number_bytes}
 use Rattle.cdr_core.proofs.CallerLemmas.{fields_end-is, length-number_bytes}
 use Rattle.giop_frames.specs.Messages as Frames
 use Rattle.giop_frames.specs.Stream.{stream}
-use Rattle.giop_messages.specs.Message.{Message, reply, close}
+use Rattle.giop_messages.specs.Message.{Message, reply}
 use Rattle.giop_messages.specs.Exceptions.{exception_fields}
 use Rattle.giop_messages.specs.Spelling.{spelled}
 use Rattle.giop_messages.specs.Written.{written_bytes, AreWritten}
@@ -27,17 +26,20 @@ use Rattle.giop_messages.proofs.Written.{streams_written}
 use Rattle.lane_machine.specs.declared.call.How.TheVariants.{Quiet}
 use Rattle.lane_machine.specs.declared.call.LaneCall.{LaneCall}
 use Rattle.lane_machine.specs.State.{State}
+use Rattle.orb_command.specs.declared.request.TheConstants.{MAX_PIPED}
 use Rattle.orb_command.specs.Setup.{built_in, pipe_conn}
 use Rattle.orb_command.specs.Ping.{ping_outcome}
 use Rattle.orb_command.specs.Said.{reply_status, reply_body, bare, call_bytes, said}
 use Rattle.orb_command.specs.Piped.{Run, closed_by, answer_of, piped}
 use Rattle.orb_command.specs.Built.{IsPing, IsPiped}
-use Rattle.orb_command.specs.PingRun.{ping_job, offers, opened, ping_interface, Ran, Runs, farewell, IsRun}
-use Rattle.orb_command.specs.Replied.{IsReplyTo, AreRepliesTo, PingsReplied, PingsRefused}
+use Rattle.orb_command.specs.PingRun.{ping_job, offers, ping_interface, Ran, Runs, farewell, IsRun}
+use Rattle.orb_command.specs.Replied.{IsReplyTo, AreRepliesTo, PingsReplied, MeetsNoLimit}
 use Rattle.orb_command.proofs.HearingLaws.{jobs_of, no_jobs, more_jobs_of}
 use Rattle.orb_command.proofs.HeardLaws.{hears_one_way, built_in_is_distinct}
-use Rattle.orb_command.proofs.ReplyLaws.{reply_short, close_short}
-use Rattle.orb_command.proofs.PipeRuns.{at, run_over}
+use Rattle.orb_command.proofs.ReplyLaws.{reply_short}
+use Rattle.orb_command.proofs.StreamCounts.{few_messages}
+use Rattle.orb_command.proofs.PingSizes.{ping_size, answer_size, not_over}
+use Rattle.orb_command.proofs.PipeRuns.{at, idle, run_over}
 use Rattle.orb_command.proofs.PipedLaws.{gone, last, closes_so, last_says}
 
 -- ---- the pipe's output is that of a run of its jobs
@@ -117,51 +119,37 @@ one_replied n m ping s s' bytes ran = record {
 
 -- ---- all replies
 
--- where no limit was met no message is left, and else there is one
-abbrev Leaves : Bool → List Frames.Message → Type 0
-Leaves false later = later ≡ []
-Leaves true later = (refused : Frames.Message) × (others : List Frames.Message) × (later ≡ refused ∷ others)
-
--- the messages that were answered, those behind them, and the bytes of the replies
-record Front (ms : List Frames.Message) (closing : Bool) (bytes : List ℕ) : Type 0 where
-  pub answered : List Frames.Message
-  pub later : List Frames.Message
-  pub parts : ms ≡ answered ++ later
-  pub leaves : Leaves closing later
+-- no limit was met behind all messages, and these are the bytes of their replies
+record AllReplied (ms : List Frames.Message) (s : State) (bytes : List ℕ) : Type 0 where
+  pub going : s.closing ≡ false
   pub replies : List (Order × Message)
-  pub are : AreRepliesTo answered replies
+  pub are : AreRepliesTo ms replies
   pub fit : AreWritten MAX_MESSAGE replies
   pub spells : bytes ≡ written_bytes replies
 
-replied : (n : ℕ) (ms : List Frames.Message) (all : AllByRecursion IsPing ms) (s s' : State) (bytes : List ℕ) → s.closing ≡ false
-    → Runs ping_outcome (jobs_of n ms all).0 s s' bytes → Front ms s'.closing bytes
-replied n [] all s s' bytes going runs =
-    let none : Runs ping_outcome [] s s' bytes = subst (λ (jobs : List JobRecord). Runs ping_outcome jobs s s' bytes) (no_jobs n all) runs in
-    let still : s'.closing ≡ false = ap (λ (z : State). z.closing) none.0 ∙ going in
-    record { answered = []; later = []; parts = refl; leaves = subst (λ (x : Bool). Leaves x []) (sym still) refl; replies = []; are = tt; fit = tt; spells = none.1 }
-replied n (m ∷ ms) (ping, all) s s' bytes going runs =
-    let job = ping_job n m.order (length m.bytes) ping.id in
+-- a ping takes 48 bytes and its answer 2 at most
+replied : (n c b : ℕ) (ms : List Frames.Message) (all : AllByRecursion IsPing ms) (s : State) (bytes : List ℕ) → c + length ms ≤ MAX_PIPED → b + 50 * length ms ≤ 50 * MAX_PIPED
+    → Runs ping_outcome (jobs_of n ms all).0 (idle c b) s bytes → AllReplied ms s bytes
+replied n c b [] all s bytes calls few runs =
+    let none : Runs ping_outcome [] (idle c b) s bytes = subst (λ (jobs : List JobRecord). Runs ping_outcome jobs (idle c b) s bytes) (no_jobs n all) runs in
+    record { going = ap (λ (z : State). z.closing) none.0; replies = []; are = tt; fit = tt; spells = none.1 }
+replied n c b (m ∷ ms) (ping, all) s bytes calls few runs =
+    let size = length m.bytes in
+    let job = ping_job n m.order size ping.id in
     let jobs = (jobs_of (suc n) ms all).0 in
-    let some : Runs ping_outcome (job ∷ jobs) s s' bytes = subst (λ (js : List JobRecord). Runs ping_outcome js s s' bytes) (more_jobs_of n m ms ping all) runs in
+    let some : Runs ping_outcome (job ∷ jobs) (idle c b) s bytes = subst (λ (js : List JobRecord). Runs ping_outcome js (idle c b) s bytes) (more_jobs_of n m ms ping all) runs in
+    let sized = ping_size m.order ping.id m.bytes ping.reads in
     elim some [
-      | inl refused ↦ record {
-        answered = [];
-        later = m ∷ ms;
-        parts = refl;
-        leaves = subst (λ (x : Bool). Leaves x (m ∷ ms)) (sym (ap (λ (z : State). z.closing) refused.moved)) (m, ms, refl);
-        replies = [];
-        are = tt;
-        fit = tt;
-        spells = refused.silent;
-      }
+      | inl refused ↦
+          let never : true ≡ false = sym refused.over ∙ not_over c b size (omega (arith, calls)) (omega (arith, few, sized)) in
+          absurd cc
       | inr ran ↦
-          let one = one_replied n m ping s ran.0 ran.1 ran.3 in
-          let others = replied (suc n) ms all ran.0 s' ran.2 (ap (λ (z : State). z.closing) ran.3.moved) ran.4 in
+          let one = one_replied n m ping (idle c b) ran.0 ran.1 ran.3 in
+          let adds = answer_size n size ping.id m.order ran.3.answer ran.3.came in
+          let onward : Runs ping_outcome jobs (idle (c + 1) (b + size + body_len ran.3.answer)) s ran.2 = subst (λ (x : State). Runs ping_outcome jobs x s ran.2) ran.3.moved ran.4 in
+          let others = replied (suc n) (c + 1) (b + size + body_len ran.3.answer) ms all s ran.2 (omega (arith, calls)) (omega (arith, few, sized, adds)) onward in
           record {
-            answered = m ∷ others.answered;
-            later = others.later;
-            parts = ap (λ (x : List Frames.Message). m ∷ x) others.parts;
-            leaves = others.leaves;
+            going = others.going;
             replies = one.reply ∷ others.replies;
             are = (one.is, others.are);
             fit = (one.fits.0, one.fits.1, others.fit);
@@ -179,50 +167,26 @@ ping_short job =
       | inr other ↦ subst (λ (o : Outcome). body_len o ≤ MAX_BODY) (sym (ap answer other)) (lit≤ tt)
     ]
 
-front_of : (input output : List ℕ) (closing : Bool) → IsPiped ping_outcome input closing output
-    → (replies : List ℕ) × Front (stream MAX_MESSAGE input).messages closing replies × (output ≡ replies ++ farewell closing)
-front_of input output closing p =
+-- what is written to an input, behind which no limit was met
+record Written (input output : List ℕ) (closing : Bool) : Type 0 where
+  pub behind : State
+  pub all : AllReplied (stream MAX_MESSAGE input).messages behind output
+  pub unlimited : closing ≡ false
+
+written : (input output : List ℕ) (closing : Bool) → IsPiped ping_outcome input closing output → Written input output closing
+written input output closing p =
     let ms = (stream MAX_MESSAGE input).messages in
-    let run = piped_is_run ping_outcome input closing output ping_short p in (
-      run.replies,
-      subst (λ (x : Bool). Front ms x run.replies) run.closes (replied 0 ms p.built.pings opened run.behind run.replies refl run.runs),
-      run.ends,
-    )
+    let run = piped_is_run ping_outcome input closing output ping_short p in
+    let few = few_messages MAX_MESSAGE input in
+    let all = replied 0 0 0 ms p.built.pings run.behind run.replies (omega (arith, few, p.built.few)) (omega (arith, few, p.built.few)) run.runs in
+    let unlimited : closing ≡ false = sym run.closes ∙ all.going in
+    let same : output ≡ run.replies = run.ends ∙ ap (λ (x : Bool). run.replies ++ farewell x) unlimited ∙ append-nil run.replies in
+    record { behind = run.behind; all = subst (λ (x : List ℕ). AllReplied ms run.behind x) (sym same) all; unlimited = unlimited }
 
 pub pings_replied : PingsReplied
-pings_replied input output p =
-    let f = front_of input output false p in
-    let front = f.1 in
-    let all : front.answered ≡ (stream MAX_MESSAGE input).messages =
-    sym (front.parts ∙ ap (λ (x : List Frames.Message). front.answered ++ x) front.leaves ∙ append-nil front.answered) in
-    let written : output ≡ written_bytes front.replies = f.2 ∙ append-nil f.0 ∙ front.spells in (
-      front.replies,
-      subst (λ (ms : List Frames.Message). AreRepliesTo ms front.replies) all front.are,
-      ap (stream MAX_MESSAGE) written ∙ streams_written MAX_MESSAGE front.replies (lit≤ tt) front.fit,
-    )
+pings_replied input output closing p =
+    let all = (written input output closing p).all in
+    (all.replies, all.are, ap (stream MAX_MESSAGE) all.spells ∙ streams_written MAX_MESSAGE all.replies (lit≤ tt) all.fit)
 
--- one more message that fits
-fit_behind : (messages : List (Order × Message)) (last : Order × Message) → AreWritten MAX_MESSAGE messages → AreWritten MAX_MESSAGE (last ∷ [])
-    → AreWritten MAX_MESSAGE (messages ++ last ∷ [])
-fit_behind [] last fit one = one
-fit_behind (m ∷ messages) last (fits, short, fit) one = (fits, short, fit_behind messages last fit one)
-
-pub pings_refused : PingsRefused
-pings_refused input output p =
-    let f = front_of input output true p in
-    let front = f.1 in
-    let parting : Order × Message = (Big, close) in
-    let messages : List (Order × Message) = front.replies ++ parting ∷ [] in
-    let written : output ≡ written_bytes messages =
-    f.2
-    ∙ ap (λ (x : List ℕ). x ++ farewell true) front.spells
-    ∙ ap (λ (x : List ℕ). written_bytes front.replies ++ x) (sym (append-nil (farewell true)))
-    ∙ sym (flat_map-append (λ (m : Order × Message). spelled m.0 m.1) front.replies (parting ∷ [])) in (
-      front.answered,
-      front.leaves.0,
-      front.leaves.1,
-      front.replies,
-      front.parts ∙ ap (λ (x : List Frames.Message). front.answered ++ x) front.leaves.2,
-      front.are,
-      ap (stream MAX_MESSAGE) written ∙ streams_written MAX_MESSAGE messages (lit≤ tt) (fit_behind front.replies parting front.fit (tt, close_short, tt)),
-    )
+pub meets_no_limit : MeetsNoLimit
+meets_no_limit input output closing p = (written input output closing p).unlimited

@@ -1,14 +1,13 @@
 -- What the pipe's output says to the requests of its input.
-use Rattle.std.specs.Prelude.{◌≡◌, ◌⊎◌, ℕ, true, false, List, [], ◌∷◌, ◌++◌, None}
+use Rattle.std.specs.Prelude.{◌≡◌, ◌⊎◌, ℕ, Bool, false, List, [], ◌∷◌, None}
 use Rattle.std.specs.Int.{w16}
 use Rattle.orb_base.specs.Outcomes.{no_memory}
 use Rattle.orb_base.specs.declared.limits.TheConstants.{MAX_MESSAGE}
 use Rattle.orb_base.specs.declared.order.Order.{Order}
-use Rattle.orb_base.specs.declared.order.Order.TheVariants.{Big}
 use Rattle.cdr_core.specs.Field.{number_bytes}
 use Rattle.giop_frames.specs.Messages as Frames
 use Rattle.giop_frames.specs.Stream.{stream}
-use Rattle.giop_messages.specs.Message.{Message, request, reply, close}
+use Rattle.giop_messages.specs.Message.{Message, request, reply}
 use Rattle.giop_messages.specs.Reading.{ReadsIn}
 use Rattle.giop_messages.specs.Written.{wholes_from}
 use Rattle.orb_command.specs.Ping.{ping_outcome, ping_request}
@@ -38,19 +37,15 @@ AreRepliesTo [] (r ∷ rs) = ⊥
 AreRepliesTo (m ∷ ms) [] = ⊥
 AreRepliesTo (m ∷ ms) (r ∷ rs) = IsReplyTo m r × AreRepliesTo ms rs
 
--- what the pipe writes to an input, where no limit of the run is met, is read as one reply to each request of the input, in
--- the order in which the requests were completed, and as nothing else
+-- what the pipe writes to an input is read as one reply to each request of the input, in the order in which the requests were
+-- completed, and as nothing else
 abbrev pub PingsReplied : Type 0
 PingsReplied =
-    (input output : List ℕ) → IsPiped ping_outcome input false output → (replies : List (Order × Message))
+    (input output : List ℕ) (closing : Bool) → IsPiped ping_outcome input closing output → (replies : List (Order × Message))
     × AreRepliesTo (stream MAX_MESSAGE input).messages replies
     × (stream MAX_MESSAGE output ≡ record { messages = wholes_from 0 replies; rest = None; bad = None })
 
--- where a limit of the run is met, it is read as replies to the requests before the one that met it, and a CloseConnection
--- behind them, and as nothing else
-abbrev pub PingsRefused : Type 0
-PingsRefused =
-    (input output : List ℕ) → IsPiped ping_outcome input true output → (answered : List Frames.Message) × (refused : Frames.Message)
-    × (later : List Frames.Message) × (replies : List (Order × Message)) × ((stream MAX_MESSAGE input).messages ≡ answered ++ refused ∷ later)
-    × AreRepliesTo answered replies
-    × (stream MAX_MESSAGE output ≡ record { messages = wholes_from 0 (replies ++ (Big, close) ∷ []); rest = None; bad = None })
+-- no input meets a limit of the run. It has at most 8,192 bytes, and so no more requests; each is one of the 65,536 calls
+-- that a run may hear, and of its 67,108,864 bytes a request takes 48 and the answer 2 at most
+abbrev pub MeetsNoLimit : Type 0
+MeetsNoLimit = (input output : List ℕ) (closing : Bool) → IsPiped ping_outcome input closing output → closing ≡ false

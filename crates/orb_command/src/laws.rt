@@ -9,7 +9,7 @@ ghost use Rattle.lane_machine.specs.State.{opening};
 ghost use Rattle.orb_command.specs.Setup.{Setup, HasDistinctKeys, built_in};
 ghost use Rattle.orb_command.specs.Heard.{Hears};
 ghost use Rattle.orb_command.specs.Piped.{piped, IsReplayed};
-ghost use Rattle.orb_command.specs.Replied.{PingsReplied, PingsRefused};
+ghost use Rattle.orb_command.specs.Replied.{PingsReplied, MeetsNoLimit};
 
 /// A run of the pipe, over any setup, servants, calls and groups, stands where its history leads.
 pub fn piped_is_replayed()
@@ -29,10 +29,10 @@ pub fn built_in_is_distinct()
     ensures { HasDistinctKeys built_in }
 {}
 
-/// What the pipe writes to an input of the built form, where no limit of the run is met, is read as exactly one reply to each
-/// request of the input, in the order in which the requests were completed, with its id and in its byte order, and as nothing
-/// else. Where a limit is met, it is read as such replies to the requests before that one, and a CloseConnection behind them.
+/// What the pipe writes to an input of the built form is read as exactly one reply to each request of the input, in the order
+/// in which the requests were completed, with its id and in its byte order, and as nothing else. No such input meets a limit
+/// of the run.
 pub fn pings_are_replied()
     ensures replied { PingsReplied }
-    ensures refused { PingsRefused }
+    ensures unlimited { MeetsNoLimit }
 {}
