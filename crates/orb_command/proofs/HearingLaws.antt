@@ -153,6 +153,15 @@ jobs_of n (m ∷ ms) (ping, all) =
       },
     )
 
+pub no_jobs : (n : ℕ) (all : AllByRecursion IsPing []) → (jobs_of n [] all).0 ≡ []
+unfolding jobs_of
+no_jobs n all = refl
+
+pub more_jobs_of : (n : ℕ) (m : Message) (ms : List Message) (ping : IsPing m) (all : AllByRecursion IsPing ms)
+    → (jobs_of n (m ∷ ms) (ping, all)).0 ≡ ping_job n m.order (length m.bytes) ping.id ∷ (jobs_of (suc n) ms all).0
+unfolding jobs_of
+more_jobs_of n m ms ping all = refl
+
 -- ---- the whole input
 
 empty_list : {A : Type 0} (xs : List A) → length xs ≤ 0 → xs ≡ []

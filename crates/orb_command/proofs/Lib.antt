@@ -4,8 +4,10 @@ pub mod StreamCounts
 pub mod HearingLaws
 pub mod ReplyLaws
 pub mod PipeRuns
+pub mod PingSizes
 pub mod Turns
 pub mod PipedLaws
 pub mod CommandLaws
 pub mod Replays
 pub mod HeardLaws
+pub mod RepliedLaws

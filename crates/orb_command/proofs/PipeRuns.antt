@@ -1,8 +1,8 @@
 -- A run of the pipe's jobs, one after another, is what the pipe is defined to do with their calls.
-use Rattle.std.proofs.Common.{◌≡◌, ℕ, suc, ◌+◌, ◌<◌, ◌≤◌, Bool, true, false, List, [], ◌∷◌, ◌++◌, refl, sym, ap, ◌∙◌, subst, inl, inr, arith, append_assoc, append-nil}
+use Rattle.std.proofs.Common.{◌≡◌, ℕ, suc, ◌+◌, ◌<◌, ◌≤◌, Bool, true, false, List, [], ◌∷◌, ◌++◌, refl, sym, ap, ◌∙◌, subst, inl, inr, arith, lit≤, append_assoc, append-nil}
 use Rattle.std.specs.Prelude.{◌⊎◌, ◌==◌, ◌||◌, if◌then◌else◌}
 use Rattle.std.specs.List.{list_any}
-use Rattle.std.proofs.lemmas.Bool.{ne_eqb}
+use Rattle.std.proofs.lemmas.Bool.{cases_Bool, ne_eqb}
 use Rattle.std.proofs.lemmas.Bool.Decides.{eqb_tells}
 use Rattle.orb_base.specs.Outcomes.{no_memory, body_len}
 use Rattle.orb_base.specs.JobRecord.{JobRecord}
@@ -279,3 +279,69 @@ lacking outcome n (job ∷ jobs) (answer ∷ answers) (ping, numbered, pings) (i
         weaker outcome n (suc n) others.lacks jobs answers (omega arith) pings others.agrees,
       );
     }
+
+-- ---- the run of jobs over servants
+
+-- a servant answers the outcome, or for want of memory
+answer_came : (outcome : List ℕ → JobRecord → Outcome) (lacks : List ℕ) (job : JobRecord) → IsPingJob job
+    → (answer_of built_in outcome lacks job ≡ outcome ping_interface job) ⊎ (answer_of built_in outcome lacks job ≡ no_memory)
+answer_came outcome lacks job ping =
+    elim (cases_Bool (list_any (λ serial. serial == job.serial) lacks)) [
+      | inl wanting ↦ inr (ap (λ (x : Bool). if x then no_memory else outcome (interface_of built_in job.target) job) wanting)
+      | inr none ↦ inl (served outcome lacks job ping none)
+    ]
+
+answer_short : (outcome : List ℕ → JobRecord → Outcome) (job : JobRecord) (answer : Outcome) → body_len (outcome ping_interface job) ≤ MAX_BODY
+    → (answer ≡ outcome ping_interface job) ⊎ (answer ≡ no_memory) → body_len answer ≤ MAX_BODY
+answer_short outcome job answer short (inl is) = subst (λ (o : Outcome). body_len o ≤ MAX_BODY) (sym is) short
+answer_short outcome job answer short (inr is) = subst (λ (o : Outcome). body_len o ≤ MAX_BODY) (sym is) (lit≤ tt)
+
+-- a run whose answers are those of the servant
+pub record RunOver (servant : JobRecord → Outcome) (outcome : List ℕ → JobRecord → Outcome) (jobs : List JobRecord) (c b : ℕ) : Type 0 where
+  pub behind : State
+  pub replies : List ℕ
+  pub runs : Runs outcome jobs (idle c b) behind replies
+  pub grouped : Grouped outcome jobs c b behind replies
+  pub agrees : Agrees servant jobs grouped.answers
+
+none_over : (servant : JobRecord → Outcome) (outcome : List ℕ → JobRecord → Outcome) (c b : ℕ) → RunOver servant outcome [] c b
+none_over servant outcome c b = record { behind = idle c b; replies = []; runs = (refl, refl); grouped = none_grouped outcome c b; agrees = tt }
+
+shut_over : (servant : JobRecord → Outcome) (outcome : List ℕ → JobRecord → Outcome) (job : JobRecord) (jobs : List JobRecord) (c b : ℕ) → IsPingJob job
+    → is_over (idle c b) job.size ≡ true → RunOver servant outcome (job ∷ jobs) c b
+unfolding shut_run
+shut_over servant outcome job jobs c b ping over = record {
+  behind = shut c b;
+  replies = [];
+  runs = inl (record { over = over; moved = refl; silent = refl });
+  grouped = shut_run outcome job jobs c b ping over;
+  agrees = tt;
+}
+
+more_over : (servant : JobRecord → Outcome) (outcome : List ℕ → JobRecord → Outcome) (job : JobRecord) (jobs : List JobRecord) (c b : ℕ) → IsPingJob job
+    → is_over (idle c b) job.size ≡ false → (servant job ≡ outcome ping_interface job) ⊎ (servant job ≡ no_memory) → body_len (servant job) ≤ MAX_BODY
+    → RunOver servant outcome jobs (c + 1) (b + job.size + body_len (servant job)) → RunOver servant outcome (job ∷ jobs) c b
+unfolding more_grouped
+more_over servant outcome job jobs c b ping not_over came short others =
+    let mid = idle (c + 1) (b + job.size + body_len (servant job)) in
+    let first = item_bytes (Answered (record { job = job; outcome = servant job })) in
+    let ran : Ran outcome job (idle c b) mid first = record { answer = servant job; came = came; short = short; admitted = not_over; moved = refl; reply = refl } in
+    record {
+      behind = others.behind;
+      replies = first ++ others.replies;
+      runs = inr (mid, first, others.replies, ran, others.runs, refl);
+      grouped = more_grouped outcome job jobs c b mid others.behind first others.replies ping ran others.grouped;
+      agrees = (refl, others.agrees);
+    }
+
+pub run_over : (outcome : List ℕ → JobRecord → Outcome) (lacks : List ℕ) (n : ℕ) (jobs : List JobRecord) (c b : ℕ) → ((job : JobRecord) → body_len (outcome ping_interface job) ≤ MAX_BODY)
+    → ArePingJobs n jobs → RunOver (answer_of built_in outcome lacks) outcome jobs c b
+run_over outcome lacks n [] c b short pings = none_over (answer_of built_in outcome lacks) outcome c b
+run_over outcome lacks n (job ∷ jobs) c b short (ping, numbered, pings) =
+    let servant = answer_of built_in outcome lacks in
+    let came = answer_came outcome lacks job ping in
+    let others = run_over outcome lacks (suc n) jobs (c + 1) (b + job.size + body_len (servant job)) short pings in
+    elim (cases_Bool (is_over (idle c b) job.size)) [
+      | inl over ↦ shut_over servant outcome job jobs c b ping over
+      | inr not_over ↦ more_over servant outcome job jobs c b ping not_over came (answer_short outcome job (servant job) (short job) came) others
+    ]

@@ -61,7 +61,7 @@ abbrev ending : Bool → How
 ending true = Shut
 ending false = Quiet
 
-abbrev gone : ℕ → ℕ → Bool → State
+abbrev pub gone : ℕ → ℕ → Bool → State
 gone c b closing = record (settled c b closing) { ended = (pipe_conn, ending closing) ∷ [] }
 
 abbrev told : Bool → LaneReply
@@ -69,10 +69,10 @@ told true = reply.Close
 told false = reply.Done
 
 -- what is done at the end
-abbrev last : Bool → History
+abbrev pub last : Bool → History
 last closing = entry (End pipe_conn (ending closing)) reply.Noted ∷ entry (Collect pipe_conn) (told closing) ∷ []
 
-closes_so : (servant : JobRecord → Outcome) (c b : ℕ) (closing : Bool) (h : History) → closed_by servant Quiet (at (settled c b closing) h) ≡ at (gone c b closing) (h ++ last closing)
+pub closes_so : (servant : JobRecord → Outcome) (c b : ℕ) (closing : Bool) (h : History) → closed_by servant Quiet (at (settled c b closing) h) ≡ at (gone c b closing) (h ++ last closing)
 closes_so servant c b true h = ap (at (gone c b true)) (append_assoc h (entry (End pipe_conn Shut) reply.Noted ∷ []) (entry (Collect pipe_conn) reply.Close ∷ []))
 closes_so servant c b false h = ap (at (gone c b false)) (append_assoc h (entry (End pipe_conn Quiet) reply.Noted ∷ []) (entry (Collect pipe_conn) reply.Done ∷ []))
 
@@ -81,7 +81,7 @@ unfolding owed
 last_legal c b true = (refl, refl, refl, (refl, tt, refl, tt))
 last_legal c b false = (refl, refl, refl, (refl, tt, refl, tt))
 
-last_says : (closing : Bool) → said pipe_conn (last closing) ≡ farewell closing
+pub last_says : (closing : Bool) → said pipe_conn (last closing) ≡ farewell closing
 last_says true = append-nil (spelled Big close)
 last_says false = refl
 

@@ -6,6 +6,7 @@ pub mod Piped
 pub mod Built
 pub mod PingRun
 pub mod Hearing
+pub mod Replied
 pub mod Words
 pub mod Pipe
 pub mod DumpAnswer

@@ -9,6 +9,7 @@ ghost use Rattle.lane_machine.specs.State.{opening};
 ghost use Rattle.orb_command.specs.Setup.{Setup, HasDistinctKeys, built_in};
 ghost use Rattle.orb_command.specs.Heard.{Hears};
 ghost use Rattle.orb_command.specs.Piped.{piped, IsReplayed};
+ghost use Rattle.orb_command.specs.Replied.{PingsReplied, MeetsNoLimit};
 
 /// A run of the pipe, over any setup, servants, calls and groups, stands where its history leads.
 pub fn piped_is_replayed()
@@ -26,4 +27,12 @@ pub fn hears_one_way()
 /// The objects of the built-in setup have different keys.
 pub fn built_in_is_distinct()
     ensures { HasDistinctKeys built_in }
+{}
+
+/// What the pipe writes to an input of the built form is read as exactly one reply to each request of the input, in the order
+/// in which the requests were completed, with its id and in its byte order, and as nothing else. No such input meets a limit
+/// of the run.
+pub fn pings_are_replied()
+    ensures replied { PingsReplied }
+    ensures unlimited { MeetsNoLimit }
 {}

@@ -21,7 +21,7 @@ mod words;
 pub use answered::Answered;
 pub use command::orb_main;
 pub use ends::{PipeFault, Piped, ReadEnd, WriteEnd};
-pub use laws::{built_in_is_distinct, hears_one_way, piped_is_replayed};
+pub use laws::{built_in_is_distinct, hears_one_way, pings_are_replied, piped_is_replayed};
 pub use note::Note;
 pub use pipe::pipe_run;
 pub use request::MAX_PIPED;

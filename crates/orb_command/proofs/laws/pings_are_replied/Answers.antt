@@ -1,0 +1,8 @@
+use Rattle.orb_command.proofs.RepliedLaws.{pings_replied, meets_no_limit}
+use Rattle.orb_command.proofs.laws.pings_are_replied.Goals as goal
+
+pub returns-clause-replied : goal.returns-clause-replied
+returns-clause-replied c = pings_replied
+
+pub returns-clause-unlimited : goal.returns-clause-unlimited
+returns-clause-unlimited c = meets_no_limit
