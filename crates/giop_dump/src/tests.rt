@@ -61,6 +61,27 @@ const ERROR: &[u8] = b"GIOP\x01\x02\x01\x06\0\0\0\0";
 const INTERLEAVED: &[u8] =
     b"GIOP\x01\x02\x02\0\0\0\0\x0c\0\0\0\x01\x03\0\0\0\0\0\0\0GIOP\x01\x02\0\0\0\0\0$\0\0\0\x02\x03\0\0\0\0\0\0\0\0\0\0\x04ping\0\0\0\x08current\0\0\0\0\0GIOP\x01\x02\x02\x07\0\0\0\x14\0\0\0\x01\0\0\0\x04ping\0\0\0\x08currGIOP\x01\x02\0\x07\0\0\0\x0c\0\0\0\x01ent\0\0\0\0\0";
 
+/// What omniORB 4.2.5's `nameclt list` wrote to its naming service: a question of the type, `list`, a question where the
+/// list is, and `next_one` with a context of its own.
+const NAMES_REQUESTS: &[u8] =
+    b"GIOP\x01\x02\x01\0X\0\0\0\x02\0\0\0\x03\0\0\0\0\0\x05\0\x0b\0\0\0NameService\0\x06\0\0\0_is_a\0\0\0\0\0\0\0(\0\0\0IDL:omg.org/CosNaming/NamingContext:1.0\0GIOP\x01\x02\x01\00\0\0\0\x04\0\0\0\x03\0\0\0\0\0\x05\0\x0b\0\0\0NameService\0\x05\0\0\0list\0\0\0\0\0\0\0\0\0\0\0\0GIOP\x01\x02\x01\x03\x1a\0\0\0\x06\0\0\0\0\0\0\0\x0e\0\0\0\xff\0\xb9:\x09k\x01\0%u\0\0\0\x05GIOP\x01\x02\x01\0H\0\0\0\x08\0\0\0\x03\0\0\0\0\0\0\0\x0e\0\0\0\xff\0\xb9:\x09k\x01\0%u\0\0\0\x05\0\0\x09\0\0\0next_one\0\0\0\0\x01\0\0\0\x01\0\0\0\x0c\0\0\0\x01\0\0\0\x01\0\x01\0\x09\x01\x01\0";
+
+/// What the service answered to the first three.
+const NAMES_REPLIES: &[u8] =
+    b"GIOP\x01\x02\x01\x01\x0d\0\0\0\x02\0\0\0\0\0\0\0\0\0\0\0\x01GIOP\x01\x02\x01\x01\xbc\0\0\0\x04\0\0\0\0\0\0\0\0\0\0\0\0\0\0\0*\0\0\0IDL:omg.org/CosNaming/BindingIterator:1.0\0nn\x01\0\0\0\0\0\0\0p\0\0\0\x01\x01\x02\0\x0a\0\0\0127.0.0.1\0\x0a2\x0e\0\0\0\xff\0\xb9:\x09k\x01\0%u\0\0\0\x05\0\0\x03\0\0\0\0\0\0\0\x08\0\0\0\x01\0\0\0\0TTA\x01\0\0\0\x1c\0\0\0\x01\0\0\0\x01\0\x01\0\x01\0\0\0\x01\0\x01\x05\x09\x01\x01\0\x01\0\0\0\x09\x01\x01\0\x03TTA\x08\0\0\0\xb9:\x09k\x01\0%uGIOP\x01\x02\x01\x04\x08\0\0\0\x06\0\0\0\x01\0\0\0";
+
+/// What it answered to `nameclt resolve` for a name that isn't there: a user exception.
+const NAMES_NOT_FOUND: &[u8] =
+    b"GIOP\x01\x02\x01\x01\x0d\0\0\0\x02\0\0\0\0\0\0\0\0\0\0\0\x01GIOP\x01\x02\x01\x01^\0\0\0\x04\0\0\0\x01\0\0\0\0\0\0\01\0\0\0IDL:omg.org/CosNaming/NamingContext/NotFound:1.0\0nnn\0\0\0\0\x01\0\0\0\x08\0\0\0nothere\0\x02\0\0\0x\0";
+
+/// What `nameclt bind` wrote before and behind a name of 8,100 times `n`: the request comes in a first piece of 8,192 bytes
+/// and a Fragment.
+const BIND_HEAD: &[u8] =
+    b"GIOP\x01\x02\x01\0X\0\0\0\x02\0\0\0\x03\0\0\0\0\0\x05\0\x0b\0\0\0NameService\0\x06\0\0\0_is_a\0\0\0\0\0\0\0(\0\0\0IDL:omg.org/CosNaming/NamingContext:1.0\0GIOP\x01\x02\x03\0\xf4\x1f\0\0\x04\0\0\0\x03\0\0\0\0\0\x05\0\x0b\0\0\0NameService\0\x05\0\0\0bind\0\0\0\0\0\0\0\0\x01\0\0\0\xa5\x1f\0\0";
+
+const BIND_TAIL: &[u8] =
+    b"\0\0\0\0\x01\0\0\0\0\0\0\0+\0\0\0IDL:omg.org/GIOP\x01\x02\x01\x07\x9c\0\0\0\x04\0\0\0CosNaming/NamingContextExt:1.0\0d\x01\0\0\0\0\0\0\0l\0\0\0\x01\x01\x02\0\x0a\0\0\0127.0.0.1\0\x0a2\x0b\0\0\0NameService\0\x03\0\0\0\0\0\0\0\x08\0\0\0\x01\0\0\0\0TTA\x01\0\0\0\x1c\0\0\0\x01\0\0\0\x01\0\x01\0\x01\0\0\0\x01\0\x01\x05\x09\x01\x01\0\x01\0\0\0\x09\x01\x01\0\x03TTA\x08\0\0\0\xb9:\x09k\x01\0%uGIOP\x01\x02\x01\x05\0\0\0\0";
+
 /// One dump: the input with its cuts and failing reads, the sink's cuts and failing writes, and what comes.
 #[derive(Clone, Copy)]
 struct Row {
@@ -326,6 +347,52 @@ fn devices_cut_and_fail(rt: HostRuntime) -> Result<(), Fail> {
         assert_eq!(rt; end, wanted, "{}", row.name);
         assert_eq!(rt; text.as_slice(), row.output, "{}", row.name);
     }
+    Ok(())
+}
+
+/// Lengths, ids and operations are those that the analyser tshark tells of the same bytes.
+#[test]
+fn messages_of_another_broker_are_shown(rt: HostRuntime) -> Result<(), Fail> {
+    for (input, output) in [
+        (
+            NAMES_REQUESTS,
+            b"0 Request little 100 id 2 flags 3 key NameService op _is_a contexts 0 body 44\n100 Request little 60 id 4 flags 3 key NameService op list contexts 0 body 4\n160 LocateRequest little 38 id 6 key %FF%00%B9:%09k%01%00%25u%00%00%00%05\n198 Request little 84 id 8 flags 3 key %FF%00%B9:%09k%01%00%25u%00%00%00%05 op next_one contexts 1 body 0\n".as_slice(),
+        ),
+        (
+            NAMES_REPLIES,
+            b"0 Reply little 25 id 2 status 0 contexts 0 body 1\n25 Reply little 200 id 4 status 0 contexts 0 body 176\n225 LocateReply little 20 id 6 status 1\n".as_slice(),
+        ),
+        (
+            NAMES_NOT_FOUND,
+            b"0 Reply little 25 id 2 status 0 contexts 0 body 1\n25 Reply little 106 id 4 status 1 contexts 0 body 82\n".as_slice(),
+        ),
+    ] {
+        let row = plain_row("", input, DumpEnd::Done, output);
+        let (end, text) = ran(rt.alloc(), &row)?;
+        assert_eq!(rt; end, DumpEnd::Done);
+        assert_eq!(rt; text.as_slice(), output);
+    }
+    Ok(())
+}
+
+#[test]
+fn a_message_that_another_broker_cut_is_shown(rt: HostRuntime) -> Result<(), Fail> {
+    let alloc = rt.alloc();
+    let mut bytes = Vec::from_slice(alloc, BIND_HEAD)?;
+    for _ in 0..8_100 {
+        bytes.push(b'n')?;
+    }
+    bytes.extend_from_slice(BIND_TAIL)?;
+    let mut input = MemSource::new(
+        List::from_vec(bytes),
+        list(alloc, NO_CUTS)?,
+        list(alloc, NO_CALLS)?,
+    );
+    let mut out = MemSink::new(alloc, list(alloc, NO_CUTS)?, list(alloc, NO_CALLS)?);
+    assert_eq!(rt; dump_run(alloc, &mut input, &mut out), Ok(DumpEnd::Done));
+    let lines =
+        b"0 Request little 100 id 2 flags 3 key NameService op _is_a contexts 0 body 44\n8292 Request little 8344 id 4 flags 3 key NameService op bind contexts 0 body 8288\n8460 CloseConnection little 12\n";
+    assert_eq!(rt; out.held(), lines.as_slice());
     Ok(())
 }
 
