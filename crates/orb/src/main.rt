@@ -1,6 +1,9 @@
 //! The program: real devices, one call of `orb_main`, its note and its status.
 #![tactic(auto)]
 
+ghost use Rattle.std.specs.Prelude.{◌≡◌};
+ghost use Rattle.orb_command.specs.Command.{status_of};
+
 mod note_text;
 mod std_sink;
 mod std_source;
@@ -8,7 +11,7 @@ mod std_source;
 mod tests;
 
 use note_text::NoteText;
-use orb_command::{Note, orb_main};
+use orb_command::{Answered, Note, orb_main};
 use std::alloc::Global;
 use std::process::ExitCode;
 use std::rt::Env;
@@ -25,15 +28,31 @@ fn words<R: Env + AllocGlobal>(rt: &R, alloc: Global) -> io::Result<Vec<String>>
     Ok(words)
 }
 
+/// What is answered where the words can't be had: memory was wanting, or one of them isn't UTF-8.
+fn without_words(fault: &io::Error) -> Answered
+    ensures { result.status ≡ status_of result.note }
+{
+    match fault.kind() {
+        io::ErrorKind::OutOfMemory => Answered {
+            status: 12,
+            note: Note::Memory,
+        },
+        _ => Answered {
+            status: 1,
+            note: Note::Usage,
+        },
+    }
+}
+
 fn main(rt: HostRuntime) -> ExitCode {
-    // Words that can't be had are no command.
-    let words = match words(&rt, rt.alloc()) {
-        Ok(words) => words,
-        Err(_) => Vec::new(rt.alloc()),
+    let answered = match words(&rt, rt.alloc()) {
+        Ok(words) => {
+            let mut input = StdSource::new(rt.stdin());
+            let mut out = StdSink::new(rt.stdout());
+            orb_main(rt.alloc(), words.as_slice(), &mut input, &mut out)
+        }
+        Err(fault) => without_words(&fault),
     };
-    let mut input = StdSource::new(rt.stdin());
-    let mut out = StdSink::new(rt.stdout());
-    let answered = orb_main(rt.alloc(), words.as_slice(), &mut input, &mut out);
     if answered.note != Note::Nothing {
         // A note that can't be printed changes nothing.
         let _ = rt.eprintln(NoteText {

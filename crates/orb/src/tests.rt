@@ -1,9 +1,11 @@
 //! The lines that notes print.
 
 use crate::note_text::NoteText;
+use crate::without_words;
 use giop_messages::Fault;
 use object_refs::{RefCause, RefFault};
-use orb_command::Note;
+use orb_command::{Answered, Note};
+use std::io;
 use std::test::Fail;
 
 #[test]
@@ -33,4 +35,15 @@ fn each_note_has_its_line(rt: HostRuntime) -> Result<(), Fail> {
         assert_eq!(rt; text.as_str(), line);
     }
     Ok(())
+}
+
+#[test]
+fn words_that_cannot_be_had_have_their_status(rt: HostRuntime) {
+    for (kind, status, note) in [
+        (io::ErrorKind::OutOfMemory, 12, Note::Memory),
+        (io::ErrorKind::InvalidData, 1, Note::Usage),
+    ] {
+        let fault = io::Error::from(kind);
+        assert_eq!(rt; without_words(&fault), Answered { status, note });
+    }
 }
