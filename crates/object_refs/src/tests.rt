@@ -1,4 +1,5 @@
 use super::*;
+use std::alloc::Global;
 use std::test::*;
 
 /// The text of an object URL, and the host, port and key that it names.
@@ -71,4 +72,33 @@ fn a_part_without_reading_is_at_fault(rt: HostRuntime) {
             "{text:?}"
         );
     }
+}
+
+/// An object URL whose host is so many times `h`.
+fn url_of_host(alloc: Global, len: usize) -> Result<Vec<u8>, Fail> {
+    let mut text = Vec::from_slice(alloc, b"corbaloc::1.2@")?;
+    for _ in 0..len {
+        text.push(b'h')?;
+    }
+    text.extend_from_slice(b"/k")?;
+    Ok(text)
+}
+
+#[test]
+fn a_host_has_at_most_255_bytes(rt: HostRuntime) -> Result<(), Fail> {
+    let longest = url_of_host(rt.alloc(), 255)?;
+    let location = parse_corbaloc(rt.alloc(), longest.as_slice())
+        .ok()
+        .ok_or("a location")?;
+    assert_eq!(rt; location.host.len(), 255);
+    let longer = url_of_host(rt.alloc(), 256)?;
+    let fault = RefFault {
+        cause: RefCause::BadHost,
+        place: 14,
+    };
+    assert_eq!(rt;
+        parse_corbaloc(rt.alloc(), longer.as_slice()).err(),
+        Some(RefError::Refused(fault))
+    );
+    Ok(())
 }
