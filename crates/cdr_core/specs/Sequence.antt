@@ -1,0 +1,26 @@
+-- Readings one behind the other, over any error.
+use Rattle.std.specs.Prelude.{ℕ, zero, suc, List, [], ◌∷◌, Result, Ok, Err}
+use Rattle.cdr_core.specs.Cursor.{Cursor}
+
+-- a value and the cursor behind it, or the first fault
+abbrev pub Parsed : Type 0 → Type 0 → Type 0
+Parsed E A = Result (A × Cursor) E
+
+infixl 10 ◌>>=◌
+-- one reading behind another; the first fault ends both
+abbrev pub ◌>>=◌ : {E A B : Type 0} → Result A E → (A → Result B E) → Result B E
+(Ok x) >>= f = f x
+(Err e) >>= f = Err e
+
+-- so many, one behind the other
+unfoldable pub times : {E A : Type 0} → (Cursor → Parsed E A) → ℕ → Cursor → Parsed E (List A)
+times one zero c = Ok ([], c)
+times one (suc n) c = do
+  first ← one c
+  others ← times one n first.1
+  Ok (first.0 ∷ others.0, others.1)
+
+-- the same value of an error of another type
+abbrev pub told_as : {E F A : Type 0} → (E → F) → Result A E → Result A F
+told_as name (Ok x) = Ok x
+told_as name (Err e) = Err (name e)
