@@ -1,0 +1,5 @@
+pub mod Replies
+pub mod History
+pub mod Numbers
+pub mod Register
+pub mod RegisterHeirs
