@@ -1,0 +1,13 @@
+pub mod Replies
+pub mod History
+pub mod Numbers
+pub mod Good
+pub mod Views
+pub mod Rule
+pub mod Steps
+pub mod Tries
+pub mod Whole
+pub mod Seats
+pub mod Calls
+pub mod Register
+pub mod RegisterHeirs

@@ -1,0 +1,119 @@
+//! A bell, at which callers wait that the same entries may help.
+//!
+//! Nothing is promised of it: waiting changes neither the object nor its history.
+
+use std::hint;
+use std::sync::Wait;
+use std::sync::atomic::AtomicU64;
+use std::sync::atomic::Ordering::SeqCst;
+use std::time::Duration;
+
+/// The most looks that a waiter takes before it sleeps, some 20 to 50 microseconds.
+const MOST_LOOKS: u64 = 1_000;
+
+/// The looks that a trial which paid begins with.
+const FIRST_LOOKS: u64 = 250;
+
+/// Fewer looks than this never pay.
+const LEAST_LOOKS: u64 = 16;
+
+/// Where looking didn't pay, one wait in so many tries it again.
+const TRIAL_EVERY: u64 = 64;
+
+/// The longest sleep, in milliseconds. A sleeper then looks again, whether its bell was rung or not.
+pub(crate) const LONGEST_SLEEP: u64 = 100;
+
+/// What waiters look at, and sleep at.
+#[derive(Drop)]
+pub(crate) struct Bell {
+    rings: AtomicU64,
+    sleepers: AtomicU64,
+    waits: AtomicU64,
+    /// How often a waiter looks before it sleeps: more where looking paid, none where it didn't.
+    looks: AtomicU64,
+}
+
+impl Bell {
+    /// A bell that nobody waits at.
+    pub(crate) fn new() -> Bell {
+        Bell {
+            rings: AtomicU64::new(0),
+            sleepers: AtomicU64::new(0),
+            waits: AtomicU64::new(0),
+            looks: AtomicU64::new(MOST_LOOKS),
+        }
+    }
+
+    /// How often it was rung, modulo 2^64.
+    pub(crate) fn rings(&self) -> u64 {
+        self.rings.load(SeqCst)
+    }
+
+    /// Ends each wait for a ring that began before.
+    pub(crate) fn ring(&self) {
+        self.rings.fetch_add(1, SeqCst);
+        if self.has_sleepers() {
+            self.rings.wake_all();
+        }
+    }
+
+    /// Whether somebody sleeps at the bell.
+    pub(crate) fn has_sleepers(&self) -> bool {
+        self.sleepers.load(SeqCst) > 0
+    }
+
+    /// Waits for a ring behind the first `seen` ones, or for a while; whether looking was enough.
+    pub(crate) fn wait<R: Wait>(&self, rt: &R, seen: u64) -> bool {
+        for _ in 0..self.budget() {
+            if self.rings() != seen {
+                return true;
+            }
+            hint::spin_loop();
+        }
+        self.wasted();
+        self.sleep(rt, seen, LONGEST_SLEEP);
+        false
+    }
+
+    /// Sleeps for some milliseconds, unless the bell was rung behind the first `seen` rings.
+    pub(crate) fn sleep<R: Wait>(&self, rt: &R, seen: u64, millis: u64) {
+        self.enter();
+        let low = (seen % 0x1_0000_0000) as u32;
+        self.rings
+            .park_timeout(rt, low, Duration::from_millis(millis));
+        self.leave();
+    }
+
+    /// Counts a sleeper, before it looks whether to sleep.
+    pub(crate) fn enter(&self) {
+        self.sleepers.fetch_add(1, SeqCst);
+    }
+
+    /// Takes a sleeper off again.
+    pub(crate) fn leave(&self) {
+        self.sleepers.fetch_sub(1, SeqCst);
+    }
+
+    /// How often to look this time.
+    pub(crate) fn budget(&self) -> u64 {
+        let looks = self.looks.load(SeqCst).min(MOST_LOOKS);
+        if looks == 0 && self.waits.fetch_add(1, SeqCst) % TRIAL_EVERY == 0 {
+            return MOST_LOOKS;
+        }
+        looks
+    }
+
+    /// Looking ended in the call.
+    pub(crate) fn paid(&self) {
+        let looks = self.looks.load(SeqCst).min(MOST_LOOKS) * 2;
+        self.looks
+            .store(looks.max(FIRST_LOOKS).min(MOST_LOOKS), SeqCst);
+    }
+
+    /// Looking didn't end in the call.
+    pub(crate) fn wasted(&self) {
+        let looks = self.looks.load(SeqCst) / 2;
+        let looks = if looks < LEAST_LOOKS { 0 } else { looks };
+        self.looks.store(looks, SeqCst);
+    }
+}
