@@ -1,5 +1,5 @@
 -- A framer behind a feed, and what the feed tells.
-use Rattle.std.proofs.Common.{◌≡◌, ℕ, ◌+◌, ◌*◌, ◌^◌, ◌<◌, ◌≤◌, Bool, false, List, [], ◌++◌, length, Option, Some, None, Ok, Err, refl, ap, sym, ◌∙◌, subst, arith, append_assoc}
+use Rattle.std.proofs.Common.{◌≡◌, ℕ, ◌+◌, ◌*◌, ◌^◌, ◌<◌, ◌≤◌, Bool, false, List, [], ◌++◌, length, Option, Some, None, true, Result, Ok, Err, refl, ap, sym, ◌∙◌, subst, arith, append_assoc}
 use Rattle.std.specs.Prelude.{sum_by}
 use Rattle.std.proofs.lemmas.List.{append-nil}
 use Rattle.giop_frames.specs.declared.fault.FeedFault.{FeedFault}
@@ -9,19 +9,19 @@ use Rattle.giop_frames.specs.Stream.{Said, stream, with_front, stopped, rest_of,
 use Rattle.giop_frames.specs.Running.{State}
 use Rattle.giop_frames.specs.Bounds.{kept_bytes}
 use Rattle.giop_frames.specs.Joining.{Same, Fails}
-use Rattle.giop_frames.specs.Feeds.{Feed, said, Tells}
-use Rattle.giop_frames.specs.Feeding.{Follows, Ended, IsFramed, IsEmptied, lacks}
+use Rattle.giop_frames.specs.Feeds.{Feed, said, Tells, Lasts}
+use Rattle.giop_frames.specs.Feeding.{Follows, Ended, IsFramed, IsEmptied, lacks, left_by}
 use Rattle.giop_frames.proofs.Bounds.{kept_within}
 use Rattle.giop_frames.proofs.Following.{rest_is, no_bad, follows_start, fed_more, new_said, same_follows, stop_now, stops_ended}
 
 pub framed_err : (fault : FeedFault) (limit : ℕ) (fed bytes : List ℕ) (whole whole' : List Message) (s s' : State) → Follows limit fed s → Fails fault bytes s s' whole whole'
-    → IsFramed limit (fed ++ bytes) s' (rest_of s'.partials) (Some fault)
+    → IsFramed limit (fed ++ bytes) s' (left_by fault s'.partials) (Some fault)
 framed_err (Frame e) limit fed bytes whole whole' s s' f m = stops_ended limit fed bytes whole whole' s s' e f m
-framed_err NoMemory limit fed bytes whole whole' s s' f m = tt
+framed_err NoMemory limit fed bytes whole whole' s s' f m = refl
 
 framed_any : (fault : FeedFault) (limit : ℕ) (fed : List ℕ) (s t : State) (left : Option ℕ) → IsFramed limit fed s left (Some fault) → IsFramed limit fed t left (Some fault)
 framed_any (Frame e) limit fed s t left f = f
-framed_any NoMemory limit fed s t left f = tt
+framed_any NoMemory limit fed s t left f = f
 
 -- a later feed: the fault stays
 pub framed_kept : (fault : FeedFault) (limit : ℕ) (fed bytes : List ℕ) (s : State) (left : Option ℕ) → IsFramed limit fed s left (Some fault) → IsFramed limit (fed ++ bytes) s left (Some fault)
@@ -30,7 +30,7 @@ framed_kept (Frame e) limit fed bytes s left f = record {
   bad = ap (λ (x : Said). x.bad) (f.on bytes) ∙ f.bad;
   rest = ap (λ (x : Said). x.rest) (f.on bytes) ∙ f.rest;
 }
-framed_kept NoMemory limit fed bytes s left f = tt
+framed_kept NoMemory limit fed bytes s left f = f
 
 -- what the feed tells
 abbrev pub feed_of : ℕ → List ℕ → Bool → ℕ → Feed
@@ -117,7 +117,7 @@ feed_ok_framed fault limit fed fed' bytes whole whole' s s' left n f e m =
     subst P (sym n) (subst Q (sym e) (same_follows limit fed bytes whole whole' s s' (follows_of fault limit fed s left n f.0) m), tt)
 
 pub feed_err_framed : (fault : Option FeedFault) (x : FeedFault) (limit : ℕ) (fed fed' bytes : List ℕ) (whole whole' : List Message) (s s' t : State) (left left' : Option ℕ) → fault ≡ None → Holds limit fed s left fault → fed' ≡ fed ++ bytes
-    → Fails x bytes s s' whole whole' → left' ≡ rest_of s'.partials → t.tail ≡ [] → t.partials ≡ [] → Holds limit fed' t left' (Some x)
+    → Fails x bytes s s' whole whole' → left' ≡ left_by x s'.partials → t.tail ≡ [] → t.partials ≡ [] → Holds limit fed' t left' (Some x)
 feed_err_framed fault x limit fed fed' bytes whole whole' s s' t left left' n f e m hl ht hp =
     let Q : List ℕ → Type 0 = λ b. IsFramed limit b s' left' (Some x) in
     let L : Option ℕ → Type 0 = λ r. IsFramed limit (fed ++ bytes) s' r (Some x) in (
@@ -161,6 +161,31 @@ pub rest_now : (v : Feed) (fault : Option FeedFault) (limit : ℕ) (fed : List �
     → r ≡ rest_with s.partials (record { at = s.at; bytes = s.tail }) → r ≡ (said v).rest
 rest_now v fault limit fed s left k r hv n f e =
     e ∙ sym (rest_is limit fed s (follows_of fault limit fed s left n f.0)) ∙ ap (λ (y : Feed). (said y).rest) hv
+
+-- what was told stays told
+lasts_by : (x : FeedFault) (limit : ℕ) (fed : List ℕ) (s : State) (left : Option ℕ) (k : ℕ) → IsFramed limit fed s left (Some x) → Lasts (Err x) (feed_of limit fed (lacks (Some x)) k)
+lasts_by (Frame e) limit fed s left k f = λ d l h. let t : Some e ≡ Some d = sym f.bad ∙ h in cc
+lasts_by NoMemory limit fed s left k f = λ d l h. absurd (cc)
+
+pub lasts_kept : (v : Feed) (fault : Option FeedFault) (x : FeedFault) (limit : ℕ) (fed : List ℕ) (s : State) (left : Option ℕ) (k : ℕ) → feed_of limit fed (lacks fault) k ≡ v
+    → fault ≡ Some x → Holds limit fed s left fault → Lasts (Err x) v
+lasts_kept v fault x limit fed s left k hv n f =
+    let P : Option FeedFault → Type 0 = λ o. IsFramed limit fed s left o in
+    let V : Feed → Type 0 = λ y. Lasts (Err x) y in
+    let N : Option FeedFault → Type 0 = λ o. Lasts (Err x) (feed_of limit fed (lacks o) k) in
+    subst V hv (subst N (sym n) (lasts_by x limit fed s left k (subst P n f.0)))
+
+-- and nothing was told before
+pub lasts_none : (r : Result (Unit {0}) FeedFault) (v : Feed) (fault : Option FeedFault) (limit : ℕ) (fed : List ℕ) (s : State) (left : Option ℕ) (k : ℕ) → feed_of limit fed (lacks fault) k ≡ v
+    → fault ≡ None → Holds limit fed s left fault → Lasts r v
+lasts_none r v fault limit fed s left k hv n f =
+    λ e l h. absurd (let t : None ≡ Some e = sym (no_bad limit fed s (follows_of fault limit fed s left n f.0)) ∙ ap (λ (y : Feed). (said y).bad) hv ∙ h in cc)
+
+pub rest_lacked : (v : Feed) (fault : Option FeedFault) (limit : ℕ) (fed : List ℕ) (s : State) (left : Option ℕ) (k : ℕ) → feed_of limit fed (lacks fault) k ≡ v → Holds limit fed s left fault
+    → v.lacked ≡ true → left ≡ None
+rest_lacked v None limit fed s left k hv f h = absurd (let t : false ≡ true = ap (λ (y : Feed). y.lacked) hv ∙ h in cc)
+rest_lacked v (Some (Frame e)) limit fed s left k hv f h = absurd (let t : false ≡ true = ap (λ (y : Feed). y.lacked) hv ∙ h in cc)
+rest_lacked v (Some NoMemory) limit fed s left k hv f h = f.0
 
 pub rest_ended : (v : Feed) (fault : Option FeedFault) (x : FeedFault) (limit : ℕ) (fed : List ℕ) (s : State) (left : Option ℕ) (k : ℕ) → feed_of limit fed (lacks fault) k ≡ v → fault ≡ Some x → Holds limit fed s left fault
     → v.lacked ≡ false → left ≡ (said v).rest

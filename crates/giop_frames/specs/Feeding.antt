@@ -3,7 +3,8 @@ use Rattle.std.specs.Prelude.{ℕ, ◌≡◌, ◌+◌, Bool, true, false, List, 
 use Rattle.giop_frames.specs.declared.fault.FrameFault.{FrameFault}
 use Rattle.giop_frames.specs.declared.fault.FeedFault.{FeedFault}
 use Rattle.giop_frames.specs.declared.fault.FeedFault.TheVariants.{Frame, NoMemory}
-use Rattle.giop_frames.specs.Stream.{stream, with_front}
+use Rattle.giop_frames.specs.Messages.{Partial}
+use Rattle.giop_frames.specs.Stream.{stream, with_front, rest_of}
 use Rattle.giop_frames.specs.Running.{State, says}
 use Rattle.giop_frames.specs.Bounds.{kept_bytes}
 use Rattle.giop_frames.specs.Joining.{IsResting}
@@ -25,7 +26,12 @@ pub record Ended (limit : ℕ) (fed : List ℕ) (left : Option ℕ) (f : FrameFa
 abbrev pub IsFramed : ℕ → List ℕ → State → Option ℕ → Option FeedFault → Type 0
 IsFramed limit fed s left None = Follows limit fed s
 IsFramed limit fed s left (Some (Frame f)) = Ended limit fed left f
-IsFramed limit fed s left (Some NoMemory) = Unit {0}
+IsFramed limit fed s left (Some NoMemory) = left ≡ None
+
+-- what is told as unfinished behind a fault: the first of these messages, and nothing behind want of memory
+abbrev pub left_by : FeedFault → List Partial → Option ℕ
+left_by (Frame f) us = rest_of us
+left_by NoMemory us = None
 
 -- behind a fault nothing is kept
 abbrev pub IsEmptied : State → Option FeedFault → Type 0

@@ -1,6 +1,7 @@
 -- What a feed answers, by all that was fed so far.
 use Rattle.std.specs.Prelude.{ℕ, ◌≡◌, Bool, true, false, List, ◌++◌, Option, Some, None, Result, Ok, Err, flat_map}
 use Rattle.orb_base.specs.Room.{Room}
+use Rattle.giop_frames.specs.declared.fault.FrameFault.{FrameFault}
 use Rattle.giop_frames.specs.declared.fault.FeedFault.{FeedFault}
 use Rattle.giop_frames.specs.declared.fault.FeedFault.TheVariants.{Frame, NoMemory}
 use Rattle.giop_frames.specs.Messages.{Message}
@@ -41,6 +42,10 @@ Tells (Err (Frame e)) f f' whole whole' =
     (f.lacked ≡ false) × (f'.lacked ≡ false) × ((said f').bad ≡ Some e) × Adds f f' whole whole' × IsFinal f'
 Tells (Err NoMemory) f f' whole whole' =
     (f'.lacked ≡ true) × (f.lacked ≡ false → AddsFront f f' whole whole') × (f.lacked ≡ true → whole' ≡ whole)
+
+-- a fault of all that was fed before is answered again, unless memory was wanting
+abbrev pub Lasts : Result (Unit {0}) FeedFault → Feed → Type 0
+Lasts result f = (e : FrameFault) → f.lacked ≡ false → (said f).bad ≡ Some e → result ≡ Err (Frame e)
 
 -- a front of these messages was appended
 pub record GivesFront (messages whole whole' : List Message) : Type 0 where

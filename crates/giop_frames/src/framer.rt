@@ -1,6 +1,6 @@
 //! The stream of a connection's bytes, fed in any pieces.
-ghost use Rattle.std.specs.Prelude.{◌≡◌, ◌≤◌, ◌<◌, ◌+◌, ◌*◌, ◌^◌, [], ◌++◌, length, false, IfOk};
-ghost use Rattle.giop_frames.specs.Feeds.{said, Tells};
+ghost use Rattle.std.specs.Prelude.{◌≡◌, ◌≤◌, ◌<◌, ◌+◌, ◌*◌, ◌^◌, [], ◌++◌, length, true, false, IfOk, OnErr, None};
+ghost use Rattle.giop_frames.specs.Feeds.{said, Tells, Lasts};
 
 use crate::fault::FeedFault;
 use crate::joiner::Joiner;
@@ -69,7 +69,10 @@ impl Framer {
         requires { length self.old.fed + length piece.now < 2 ^ 64 }
         ensures fed { (self.new.limit ≡ self.old.limit) × (self.new.fed ≡ self.old.fed ++ piece.now) }
         ensures tells { Tells result self.old self.new whole.old.items whole.new.items }
+        // What was told stays told.
+        ensures lasts { Lasts result self.old }
         ensures kept { self.new.kept ≤ 17 * self.new.limit }
+        ensures emptied { OnErr result (self.new.kept ≡ 0) }
     {
         self.fed = self.fed.and(piece);
         match self.fault {
@@ -77,7 +80,7 @@ impl Framer {
             None => match self.joiner.read(piece, whole) {
                 Ok(()) => Ok(()),
                 Err(fault) => {
-                    self.left = self.joiner.oldest();
+                    self.left = self.joiner.left_by(fault);
                     self.joiner.clear();
                     self.fault = Some(fault);
                     Err(fault)
@@ -87,9 +90,10 @@ impl Framer {
     }
 
     /// The smallest offset at which an unfinished message or piece begins, from the first byte of the stream. After a fault
-    /// only the unfinished messages before it count.
+    /// only the unfinished messages before it count, and after want of memory none does.
     pub fn rest(&self) -> Option<u64>
-        ensures { self.now.lacked ≡ false → result ≡ (said self.now).rest }
+        ensures rest { self.now.lacked ≡ false → result ≡ (said self.now).rest }
+        ensures lacked { self.now.lacked ≡ true → result ≡ None }
     {
         match self.fault {
             Some(_) => self.left,
@@ -99,10 +103,10 @@ impl Framer {
 
     /// How many bytes it keeps: those that have come of the next piece, and those of the unfinished messages. None after a
     /// fault or want of memory.
-    pub fn kept(&self) -> usize
+    pub fn kept(&self) -> u64
         ensures value { result ≡ self.now.kept }
         ensures bound { result ≤ 17 * self.now.limit }
     {
-        self.joiner.kept()
+        self.joiner.kept() as u64
     }
 }

@@ -2,6 +2,7 @@
 ghost use Rattle.std.specs.Prelude.{◌≡◌, ◌≤◌, ◌<◌, ◌+◌, ◌^◌, [], ◌++◌, length, OnOk, IfOk, None};
 ghost use Rattle.giop_frames.specs.Stream.{rest_of, rest_with};
 ghost use Rattle.giop_frames.specs.Bounds.{kept_bytes};
+ghost use Rattle.giop_frames.specs.Feeding.{left_by as left_behind};
 ghost use Rattle.giop_frames.specs.Joining.{IsResting, IsFilled, IsReady, Reads, Takes, Needs, lifted, with_tail};
 
 use crate::fault::{FeedFault, FrameFault};
@@ -159,12 +160,22 @@ impl Joiner {
 
     /// The offset at which the oldest unfinished message begins.
     #[tactic(auto, unfolding(crate::specs::Stream::rest_of))]
-    pub fn oldest(&self) -> Option<u64>
+    fn oldest(&self) -> Option<u64>
         ensures { result ≡ rest_of self.now.partials }
     {
         match self.partials.as_slice() {
             [] => None,
             [u, ..] => Some(u.at),
+        }
+    }
+
+    /// What is told as unfinished behind this fault.
+    pub fn left_by(&self, fault: FeedFault) -> Option<u64>
+        ensures { result ≡ left_behind fault self.now.partials }
+    {
+        match fault {
+            FeedFault::Frame(_) => self.oldest(),
+            FeedFault::NoMemory => None,
         }
     }
 
