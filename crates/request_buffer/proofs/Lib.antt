@@ -1,0 +1,3 @@
+pub mod PlaceNames
+pub mod NextJobs
+pub mod Taking

@@ -1,0 +1,5 @@
+pub mod Ranks
+pub mod Growing
+pub mod Places
+pub mod Chosen
+pub mod Chains

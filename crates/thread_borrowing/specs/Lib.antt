@@ -1,0 +1,4 @@
+pub mod ThreadList
+pub mod Building
+pub mod Choice
+pub mod Chain

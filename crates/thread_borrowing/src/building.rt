@@ -1,0 +1,42 @@
+//! How the threads of a pool are put together.
+ghost use Rattle.std.specs.Prelude.{◌≡◌, ◌≤◌, OnOk, length};
+ghost use Rattle.thread_borrowing.specs.ThreadList.{some_threads, pool_threads};
+ghost use Rattle.thread_borrowing.specs.Building.{IsBuilt, IsGrown};
+
+use crate::lane_thread::LaneThread;
+use orb_base::limits::MAX_LANES;
+use orb_base::{LaneSpec, List, NoMemory};
+use std::alloc::Global;
+
+/// The threads of a pool's lanes: lanes in rising order, and in a lane the static ones first.
+#[tactic(auto, using(crate::proofs::Growing::built_none, crate::proofs::Growing::built_more, crate::proofs::Growing::built_all))]
+pub fn all_threads(alloc: Global, lanes: &[LaneSpec]) -> Result<List<LaneThread>, NoMemory>
+    requires { length lanes.now ≤ MAX_LANES }
+    ensures { IsBuilt (pool_threads 0 lanes.now) result }
+{
+    let mut threads = List::new(alloc);
+    for (lane, spec) in lanes.iter().enumerate() {
+        add_threads(&mut threads, lane as u8, true, spec.statics)?;
+        add_threads(&mut threads, lane as u8, false, spec.dynamics)?;
+    }
+    Ok(threads)
+}
+
+/// Puts so many threads of a lane behind the last one.
+#[tactic(auto, using(crate::proofs::Growing::grew_none, crate::proofs::Growing::grew_more))]
+fn add_threads(
+    threads: &mut List<LaneThread>,
+    lane: u8,
+    is_static: bool,
+    count: u8,
+) -> Result<(), NoMemory>
+    ensures { OnOk result (IsGrown threads.old (some_threads lane is_static count) threads.new) }
+{
+    for _ in 0..count {
+        match threads.push(LaneThread::idle(lane, is_static)) {
+            Ok(()) => {}
+            Err(_) => return Err(NoMemory),
+        }
+    }
+    Ok(())
+}
