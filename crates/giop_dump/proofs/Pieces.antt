@@ -1,10 +1,8 @@
 -- Lemmas on one more piece of a dump.
-use Rattle.std.proofs.Common.{◌≡◌, ℕ, List, [], ◌++◌, Option, Some, None, refl, sym, ap, ◌∙◌, arith, append-nil}
-use Rattle.std.specs.Prelude.{Result, Ok, Err, option_map, IsErr, OnErr}
+use Rattle.std.proofs.Common.{◌≡◌, ℕ, List, [], ◌++◌, Option, Some, None, refl, sym, ap, ◌∙◌, arith}
+use Rattle.std.specs.Prelude.{Ok, Err, option_map}
 use Rattle.std.specs.Option.{option_or}
 use Rattle.orb_base.specs.declared.limits.TheConstants.{MAX_MESSAGE}
-use Rattle.orb_base.specs.Outside.{Told}
-use Rattle.orb_base.specs.declared.no_memory.NoMemory.{NoMemory}
 use Rattle.giop_frames.specs.declared.fault.FrameFault.{FrameFault}
 use Rattle.giop_frames.specs.declared.fault.FeedFault.TheVariants as feed
 use Rattle.giop_frames.specs.Messages.{Message}
@@ -12,10 +10,8 @@ use Rattle.giop_frames.specs.Stream.{stream}
 use Rattle.giop_frames.specs.Feeds.{Feed, said, Tells, Adds}
 use Rattle.giop_messages.proofs.CallerLemmas.{first_messages}
 use Rattle.giop_dump.specs.declared.refusal.Refusal.{Refusal}
-use Rattle.giop_dump.specs.declared.dump_end.DumpEnd.{DumpEnd}
 use Rattle.giop_dump.specs.Ending.{broken, first_refusal, lines_before, dumped, dump_text}
-use Rattle.giop_dump.specs.Steps.{IsGoing, FeedsOn, AddsLines, GrowsText, DumpsPiece}
-use Rattle.text_streams.proofs.CallerLemmas.{wrote_start}
+use Rattle.giop_dump.specs.Steps.{IsGoing, FeedsOn, AddsLines}
 use Rattle.giop_dump.proofs.DumpLaws.{first_refusal-append, lines_before-append}
 
 -- what is said under the limit of a dump
@@ -62,17 +58,6 @@ unfolding dump_text
 grown f f' new going more =
     ap lines_before more ∙ lines_before-append (dumped f.fed).messages new (none_refused (first_refusal (dumped f.fed).messages) (option_map broken (dumped f.fed).bad) going.sound)
 
--- at want of memory
-pub fed_to_want : (f f' : Feed) (whole whole' : List Message) → IsGoing f → f'.limit ≡ f.limit → Tells (Err feed.NoMemory) f f' whole whole' → GrowsText f f'
-fed_to_want f f' whole whole' going same h =
-    let front = h.1 going.enough in
-    let limit' : f'.limit ≡ MAX_MESSAGE = same ∙ going.limit_is in
-    let new = front.new ++ front.left [] in
-    let all : (stream f'.limit f'.fed).messages ≡ (said f).messages ++ new = ap (λ x. (stream f'.limit x).messages) (sym (append-nil f'.fed)) ∙ front.says_new [] in
-    let more : (dumped f'.fed).messages ≡ (dumped f.fed).messages ++ new =
-    ap (λ s. s.messages) (sym (said_is f' limit')) ∙ all ∙ ap (λ s. s.messages ++ new) (said_is f going.limit_is) in
-    record { text = lines_before new; text_is = grown f f' new going more }
-
 -- the lines of the new messages are what is added
 pub lines_added : (f f' : Feed) (messages : List Message) (fault : Option Refusal) (text : List ℕ) (refusal all : Option Refusal) → IsGoing f → FeedsOn f f' messages fault → text ≡ lines_before messages → refusal ≡ first_refusal messages → all ≡ option_or refusal fault → AddsLines f f' text all
 lines_added f f' messages fault text refusal all going h is_text is_refusal is_all =
@@ -85,17 +70,3 @@ lines_added f f' messages fault text refusal all going h is_text is_refusal is_a
       text_is = grown f f' messages going h.messages_are ∙ ap (λ x. dump_text f.fed ++ x) (sym is_text);
       refusal_is = rw (first, h.fault_is) (sym is_all);
     }
-
--- at want of memory
-pub lines_wanting : (f f' : Feed) (messages : List Message) (fault : Option Refusal) → IsGoing f → FeedsOn f f' messages fault → GrowsText f f'
-lines_wanting f f' messages fault going h = record { text = lines_before messages; text_is = grown f f' messages going h.messages_are }
-
--- what holds anyway holds at an error
-pub at_error : {T E P : Type 0} (r : Result T E) → P → OnErr r P
-at_error (Ok x) p = tt
-at_error (Err e) p = p
-
--- nothing was written at want of memory
-pub none_written : (r : Result (Option DumpEnd) NoMemory) (f f' : Feed) (held : Told) (writes : ℕ × ℕ) → GrowsText f f' → IsErr r → DumpsPiece r f f' held held writes
-none_written (Ok x) f f' held writes h e = absurd (cc)
-none_written (Err x) f f' held writes h e = record { text = h.text; text_is = h.text_is; wrote = (h.text, wrote_start h.text held) }

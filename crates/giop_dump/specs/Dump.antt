@@ -1,37 +1,61 @@
 -- What a dump reads and writes.
-use Rattle.std.specs.Prelude.{◌≡◌, ◌≤◌, ℕ, Bool, true, false, List, [], Option, Some, None, length, IfSome, Result, Ok, Err}
-use Rattle.orb_base.specs.Outside.{Told, Rose}
+use Rattle.std.specs.Prelude.{◌≡◌, ◌≤◌, ℕ, Bool, true, false, List, [], ◌++◌, Option, Some, None, length, IfSome, Result, Ok, Err}
+use Rattle.orb_base.specs.Outside.{SourceState, SinkState, Rose}
 use Rattle.orb_base.specs.declared.no_memory.NoMemory.{NoMemory}
 use Rattle.giop_dump.specs.declared.dump_end.DumpEnd.{DumpEnd}
 use Rattle.giop_dump.specs.declared.dump_end.DumpEnd.TheVariants.{Done, Refused, Spent, ReadFault, WriteFault}
-use Rattle.giop_dump.specs.declared.dump_end.TheConstants.{MAX_DUMPED}
-use Rattle.giop_dump.specs.Ending.{dump_text, dump_ending}
-use Rattle.text_streams.specs.Streams.{Gave, WroteText, WroteFrontOf}
+use Rattle.giop_dump.specs.declared.dump_end.TheConstants.{MAX_DUMPED, READ_LEN}
+use Rattle.giop_dump.specs.Ending.{refusal_of, dumped, dump_text, dump_ending}
+use Rattle.text_streams.specs.Streams.{Gave, WroteText}
+use Rattle.text_streams.specs.Faults.{NoneFailed, ReadFailed, WriteFailed}
 
--- a read has answered the end, behind which nothing is left, or none has; `ends` is the count of ends before and after
-abbrev pub MeetsEnd : Bool → Told → ℕ × ℕ → Type 0
-MeetsEnd true left ends = Rose ends.0 ends.1 × IfSome left (λ rest. rest ≡ [])
-MeetsEnd false left ends = ends.1 ≡ ends.0
+-- a read has answered the end, behind which nothing is left, or none has
+abbrev pub MeetsEnd : Bool → SourceState → SourceState → Type 0
+MeetsEnd true old new = Rose old.ends new.ends × IfSome new.left (λ rest. rest ≡ [])
+MeetsEnd false old new = new.ends ≡ old.ends
 
 -- a dump of these bytes ends so, or goes on to read, and all of its text was written
-abbrev pub Ends : Option DumpEnd → List ℕ → Bool → Told → Told → Type 0
-Ends end bytes ended held held' = (dump_ending bytes ended ≡ end) × WroteText (dump_text bytes) held held'
+abbrev pub Ends : Option DumpEnd → List ℕ → Bool → SinkState → SinkState → Type 0
+Ends end bytes ended out out' = (dump_ending bytes ended ≡ end) × WroteText (dump_text bytes) out out'
 
--- each answer of a dump of these bytes has its cause; `reads` and `writes` are the counts of the source's and of the sink's
--- faults, before and after
-abbrev pub DumpsBytes : Result DumpEnd NoMemory → List ℕ → Bool → Told → Told → ℕ × ℕ → ℕ × ℕ → Type 0
-DumpsBytes (Ok Done) bytes ended held held' reads writes = Ends (Some Done) bytes ended held held'
-DumpsBytes (Ok (Refused r)) bytes ended held held' reads writes = Ends (Some (Refused r)) bytes ended held held'
-DumpsBytes (Ok Spent) bytes ended held held' reads writes = Ends (Some Spent) bytes ended held held'
-DumpsBytes (Ok ReadFault) bytes ended held held' reads writes = Rose reads.0 reads.1 × Ends None bytes ended held held'
-DumpsBytes (Ok WriteFault) bytes ended held held' reads writes = Rose writes.0 writes.1 × WroteFrontOf (dump_text bytes) held held'
-DumpsBytes (Err _) bytes ended held held' reads writes = WroteFrontOf (dump_text bytes) held held'
+-- the first part of a text was written whole, and of what follows it a front
+pub record WroteOn (first text : List ℕ) (out out' : SinkState) : Type 0 where
+  pub front : List ℕ
+  pub rest : List ℕ
+  pub parts : text ≡ first ++ (front ++ rest)
+  pub wrote : WroteText (first ++ front) out out'
 
--- a dump took some bytes, and what it answers and wrote is what those bytes say
-pub record Dumps (answer : Result DumpEnd NoMemory) (left left' taken taken' held held' : Told) (reads ends writes : ℕ × ℕ) : Type 0 where
+-- each answer of a dump of these bytes has its cause. `earlier` are those before the last read: at a failed write their text
+-- stands there whole, and at want of memory it alone
+abbrev pub DumpsBytes : Result DumpEnd NoMemory → List ℕ → List ℕ → Bool → SinkState → SinkState → Type 0
+DumpsBytes (Ok Done) earlier bytes ended out out' = Ends (Some Done) bytes ended out out'
+DumpsBytes (Ok (Refused r)) earlier bytes ended out out' = Ends (Some (Refused r)) bytes ended out out'
+DumpsBytes (Ok Spent) earlier bytes ended out out' = Ends (Some Spent) bytes ended out out'
+DumpsBytes (Ok ReadFault) earlier bytes ended out out' = Ends None bytes ended out out'
+DumpsBytes (Ok WriteFault) earlier bytes ended out out' = WroteOn (dump_text earlier) (dump_text bytes) out out'
+DumpsBytes (Err _) earlier bytes ended out out' = WroteText (dump_text earlier) out out'
+
+-- which count of faults rose in the call
+abbrev pub FaultsOf : Result DumpEnd NoMemory → SourceState → SourceState → SinkState → SinkState → Type 0
+FaultsOf (Ok Done) old new out out' = NoneFailed old new out out'
+FaultsOf (Ok (Refused _)) old new out out' = NoneFailed old new out out'
+FaultsOf (Ok Spent) old new out out' = NoneFailed old new out out'
+FaultsOf (Ok ReadFault) old new out out' = ReadFailed old new out out'
+FaultsOf (Ok WriteFault) old new out out' = WriteFailed old new out out'
+FaultsOf (Err _) old new out out' = NoneFailed old new out out'
+
+-- a dump took some bytes, those of its last read behind earlier ones of which nothing is refused; and what it answers and
+-- wrote is what those bytes say
+pub record Dumps (answer : Result DumpEnd NoMemory) (old new : SourceState) (out out' : SinkState) : Type 0 where
   pub bytes : List ℕ
+  pub earlier : List ℕ
+  pub last : List ℕ
   pub ended : Bool
-  pub gave : Gave bytes left left' taken taken'
+  pub gave : Gave bytes old new
   pub few : length bytes ≤ MAX_DUMPED
-  pub met : MeetsEnd ended left' ends
-  pub came : DumpsBytes answer bytes ended held held' reads writes
+  pub parts : bytes ≡ earlier ++ last
+  pub one_read : length last ≤ READ_LEN
+  pub sound : refusal_of (dumped earlier) ≡ None
+  pub met : MeetsEnd ended old new
+  pub faults : FaultsOf answer old new out out'
+  pub came : DumpsBytes answer earlier bytes ended out out'

@@ -1,7 +1,7 @@
 -- What one more piece of the input comes to.
-use Rattle.std.specs.Prelude.{◌≡◌, ◌≤◌, ℕ, false, List, ◌++◌, option_map, Option, Some, None, Result, Ok, Err}
+use Rattle.std.specs.Prelude.{◌≡◌, ℕ, false, List, ◌++◌, option_map, Option, Some, None, Result, Ok, Err}
 use Rattle.std.specs.List.{All}
-use Rattle.orb_base.specs.Outside.{Told, Rose}
+use Rattle.orb_base.specs.Outside.{SinkState, Rose}
 use Rattle.orb_base.specs.declared.no_memory.NoMemory.{NoMemory}
 use Rattle.orb_base.specs.declared.limits.TheConstants.{MAX_MESSAGE}
 use Rattle.giop_frames.specs.Messages.{Message}
@@ -34,29 +34,25 @@ pub record AddsLines (f f' : Feed) (text : List ℕ) (refusal : Option Refusal) 
   pub text_is : dump_text f'.fed ≡ dump_text f.fed ++ text
   pub refusal_is : refusal_of (dumped f'.fed) ≡ refusal
 
--- some text was added
-pub record GrowsText (f f' : Feed) : Type 0 where
-  pub text : List ℕ
-  pub text_is : dump_text f'.fed ≡ dump_text f.fed ++ text
-
 -- the text that was added was written
-pub record WritesOn (f f' : Feed) (held held' : Told) : Type 0 where
+pub record WritesOn (f f' : Feed) (out out' : SinkState) : Type 0 where
   pub text : List ℕ
   pub text_is : dump_text f'.fed ≡ dump_text f.fed ++ text
-  pub wrote : WroteText text held held'
+  pub wrote : WroteText text out out'
 
 -- a front of it was written
-pub record WritesFront (f f' : Feed) (held held' : Told) : Type 0 where
+pub record WritesFront (f f' : Feed) (out out' : SinkState) : Type 0 where
   pub text : List ℕ
   pub text_is : dump_text f'.fed ≡ dump_text f.fed ++ text
-  pub wrote : WroteFrontOf text held held'
+  pub wrote : WroteFrontOf text out out'
 
--- a dump that goes on, or ends
-abbrev pub DumpsPiece : Result (Option DumpEnd) NoMemory → Feed → Feed → Told → Told → ℕ × ℕ → Type 0
-DumpsPiece (Ok None) f f' held held' writes = IsGoing f' × WritesOn f f' held held' × (writes.0 ≤ writes.1)
-DumpsPiece (Ok (Some (Refused r))) f f' held held' writes = (refusal_of (dumped f'.fed) ≡ Some r) × WritesOn f f' held held'
-DumpsPiece (Ok (Some WriteFault)) f f' held held' writes = Rose writes.0 writes.1 × WritesFront f f' held held'
-DumpsPiece (Ok (Some Done)) f f' held held' writes = ⊥
-DumpsPiece (Ok (Some Spent)) f f' held held' writes = ⊥
-DumpsPiece (Ok (Some ReadFault)) f f' held held' writes = ⊥
-DumpsPiece (Err _) f f' held held' writes = WritesFront f f' held held'
+-- a dump that goes on, or ends; at want of memory nothing was written
+abbrev pub DumpsPiece : Result (Option DumpEnd) NoMemory → Feed → Feed → SinkState → SinkState → Type 0
+DumpsPiece (Ok None) f f' out out' = IsGoing f' × WritesOn f f' out out' × (out'.faults ≡ out.faults)
+DumpsPiece (Ok (Some (Refused r))) f f' out out' =
+    (refusal_of (dumped f'.fed) ≡ Some r) × WritesOn f f' out out' × (out'.faults ≡ out.faults)
+DumpsPiece (Ok (Some WriteFault)) f f' out out' = Rose out.faults out'.faults × WritesFront f f' out out'
+DumpsPiece (Ok (Some Done)) f f' out out' = ⊥
+DumpsPiece (Ok (Some Spent)) f f' out out' = ⊥
+DumpsPiece (Ok (Some ReadFault)) f f' out out' = ⊥
+DumpsPiece (Err _) f f' out out' = out' ≡ out

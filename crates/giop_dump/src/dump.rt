@@ -1,10 +1,10 @@
 //! The dump: one line for each message of an input.
-ghost use Rattle.std.specs.Prelude.{◌≡◌, ◌+◌, ◌<◌, ◌^◌, ◌++◌, [], length, IfOk, OnErr, string_bytes};
+ghost use Rattle.std.specs.Prelude.{◌≡◌, ◌+◌, ◌<◌, ◌^◌, ◌++◌, [], length, IfOk, string_bytes};
 ghost use Rattle.giop_dump.specs.Ending.{at_end as at_end_lem};
 ghost use Rattle.giop_dump.specs.Dump.{Dumps};
-ghost use Rattle.giop_dump.specs.Steps.{IsGoing, FeedsOn, AddsLines, GrowsText, DumpsPiece};
+ghost use Rattle.giop_dump.specs.Steps.{IsGoing, FeedsOn, AddsLines, DumpsPiece};
 
-use crate::dump_end::{DumpEnd, MAX_DUMPED};
+use crate::dump_end::{DumpEnd, MAX_DUMPED, READ_LEN};
 use crate::dump_lines::{DumpLines, dump_lines};
 use crate::refusal::Refusal;
 use giop_frames::{FeedFault, Framer, Whole};
@@ -13,9 +13,6 @@ use orb_base::limits::MAX_MESSAGE;
 use orb_base::{Got, List, NoMemory, Sink, Source};
 use std::alloc::Global;
 use text_streams::{WriteAll, write_all};
-
-/// Bytes of one read.
-const READ_LEN: usize = 4096;
 
 /// Feeds one more piece of the input, and gives what the stream breaks with it.
 fn feed(
@@ -28,7 +25,6 @@ fn feed(
     requires none { messages.old.items ≡ [] }
     ensures fed { framer.new.fed ≡ framer.old.fed ++ piece.now }
     ensures ok { IfOk result (λ fault. FeedsOn framer.old framer.new messages.new.items fault) }
-    ensures err { OnErr result (GrowsText framer.old framer.new) }
 {
     match framer.feed(piece, messages) {
         Ok(()) => Ok(None),
@@ -46,7 +42,6 @@ fn take_piece(alloc: Global, framer: &mut Framer, piece: &[u8]) -> Result<DumpLi
     requires short { length framer.old.fed + length piece.now < 2 ^ 64 }
     ensures fed { framer.new.fed ≡ framer.old.fed ++ piece.now }
     ensures ok { IfOk result (λ lines. AddsLines framer.old framer.new (string_bytes lines.text) lines.refusal) }
-    ensures err { OnErr result (GrowsText framer.old framer.new) }
 {
     let mut messages = List::new(alloc);
     let broken = feed(framer, piece, &mut messages)?;
@@ -67,7 +62,7 @@ fn dump_piece<O: Sink>(
     requires going { IsGoing framer.old }
     requires short { length framer.old.fed + length piece.now < 2 ^ 64 }
     ensures fed { framer.new.fed ≡ framer.old.fed ++ piece.now }
-    ensures dumps { DumpsPiece result framer.old framer.new (O.held sink.old) (O.held sink.new) (O.faults sink.old, O.faults sink.new) }
+    ensures dumps { DumpsPiece result framer.old framer.new (O.state sink.old) (O.state sink.new) }
 {
     let lines = take_piece(alloc, framer, piece)?;
     match write_all(sink, lines.text.as_bytes()) {
@@ -93,7 +88,8 @@ fn at_end(rest: Option<u64>) -> DumpEnd
 }
 
 /// Writes one line for each message of the input, up to the end of the input, to its first fault, or to `MAX_DUMPED` bytes. A
-/// CloseConnection or a MessageError ends nothing.
+/// CloseConnection or a MessageError ends nothing. The lines of a message are written before the next read; a failed read or
+/// write ends the dump.
 ///
 /// It keeps what the framer keeps, one piece of input, and the messages and lines that this piece completes. It returns where
 /// each read and write returns. Work per byte is constant.
@@ -102,8 +98,7 @@ pub fn dump_run<I: Source, O: Sink>(
     source: &mut I,
     sink: &mut O,
 ) -> Result<DumpEnd, NoMemory>
-    ensures { Dumps result (I.left source.old) (I.left source.new) (I.taken source.old) (I.taken source.new) (O.held sink.old) (O.held sink.new)
-        (I.faults source.old, I.faults source.new) (I.ends source.old, I.ends source.new) (O.faults sink.old, O.faults sink.new) }
+    ensures { Dumps result (I.state source.old) (I.state source.new) (O.state sink.old) (O.state sink.new) }
 {
     let mut framer = Framer::new(alloc, MAX_MESSAGE)?;
     let mut piece = [0u8; READ_LEN];

@@ -5,6 +5,9 @@ use crate::refusal::Refusal;
 /// Bytes of an input that a dump takes.
 pub const MAX_DUMPED: usize = 67_108_864;
 
+/// Bytes of one read at most.
+pub const READ_LEN: usize = 4096;
+
 /// How a dump came out.
 #[derive(Clone, Copy, Debug, PartialEq, Eq, Hash)]
 pub enum DumpEnd {

@@ -9,7 +9,7 @@ mod laws;
 mod refusal;
 
 pub use dump::dump_run;
-pub use dump_end::{DumpEnd, MAX_DUMPED};
+pub use dump_end::{DumpEnd, MAX_DUMPED, READ_LEN};
 pub use laws::{dumps_go_on, written_is_shown};
 pub use refusal::Refusal;
 

@@ -406,13 +406,7 @@ struct LongMessages {
 const LONG_HEADER: [u8; 12] = *b"GIOP\x01\x02\0\x05\0\x03\xff\xf4";
 
 impl Source for LongMessages {
-    ghost left = { λ _. None };
-
-    ghost taken = { λ _. None };
-
-    ghost faults = { λ _. 0 };
-
-    ghost ends = { λ _. 0 };
+    ghost state = { λ _. record { left = None; taken = None; faults = 0; ends = 0 } };
 
     fn read(&mut self, into: &mut [u8]) -> Got {
         let at = self.at % 262_144;
@@ -434,11 +428,11 @@ impl Source for LongMessages {
 fn as_many_bytes_as_are_taken_are_the_limit(rt: HostRuntime) -> Result<(), Fail> {
     let alloc = rt.alloc();
     let mut input = LongMessages { at: 0 };
-    let mut out = CountingSink { bytes: 0 };
+    let mut out = CountingSink::new();
     let end = dump_run(alloc, &mut input, &mut out)?;
     assert_eq!(rt; end, DumpEnd::Spent);
     assert_eq!(rt; input.at, 0);
     // "<offset> CloseConnection big 262144" and a line feed: one offset of 1 digit, 3 of 6, 35 of 7 and 217 of 8.
-    assert_eq!(rt; out.bytes, 9_168);
+    assert_eq!(rt; out.bytes(), 9_168);
     Ok(())
 }

@@ -25,6 +25,7 @@ pub fn conn_of(item: &Item) -> ConnId
         Item::Answered(answer) => answer.job.get().conn,
         Item::Early(job) => job.get().conn,
         Item::Transient(job) => job.get().conn,
+        Item::Noticed(notice) => notice.conn,
     }
 }
 

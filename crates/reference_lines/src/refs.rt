@@ -3,7 +3,7 @@ ghost use Rattle.std.specs.Prelude.{◌≡◌, ◌++◌, OnOk, IfOk, IfErr, stri
 ghost use Rattle.object_refs.specs.Answers.{Answers};
 ghost use Rattle.reference_lines.specs.ReferenceText.{profile_text, location_text};
 ghost use Rattle.reference_lines.specs.RefsText as Meaning;
-ghost use Rattle.reference_lines.specs.Refs.{WritesLines, Refs};
+ghost use Rattle.reference_lines.specs.Refs.{WritesLines, CutsOff, Refs};
 
 use crate::policies::{published_bands, published_model};
 use crate::ref_lines::{Address, put_address, put_bands, put_model, put_type};
@@ -105,7 +105,7 @@ fn lines_of(alloc: Global, text: &[u8]) -> Result<String, RefError>
 
 /// Writes the lines of a text.
 fn write_lines<O: Sink>(alloc: Global, text: &[u8], sink: &mut O) -> Result<RefsEnd, NoMemory>
-    ensures { WritesLines result text.now (O.held sink.old) (O.held sink.new) (O.faults sink.old, O.faults sink.new) }
+    ensures { WritesLines result text.now (O.state sink.old) (O.state sink.new) }
 {
     match lines_of(alloc, text) {
         Ok(lines) => match write_all(sink, lines.as_bytes()) {
@@ -117,21 +117,30 @@ fn write_lines<O: Sink>(alloc: Global, text: &[u8], sink: &mut O) -> Result<Refs
     }
 }
 
+/// What comes of a text behind which a read failed: what is there may be too long already.
+fn cut_off(text: &[u8]) -> RefsEnd
+    ensures { CutsOff result text.now }
+{
+    if text.len() > MAX_REFERENCE {
+        RefsEnd::TooLong
+    } else {
+        RefsEnd::ReadFault
+    }
+}
+
 /// Writes the parts of the reference that the input is, line by line: an object URL where it begins with `corbaloc:`,
 /// and else a stringified reference, of which the first IIOP profile counts. One line feed at the end of the input
-/// doesn't belong to the text, which has at most `MAX_REFERENCE` bytes. Nothing is written of a text that has no reading.
+/// doesn't belong to the text, which has at most `MAX_REFERENCE` bytes: a longer one is refused also where the next read
+/// fails. Nothing is written of a text that has no reading.
 ///
 /// It keeps the input and its parts, and returns where each read and write returns. Work grows with the input and, for
 /// n bands, with n log n.
-#[tactic(auto, using(crate::proofs::RefsLaws::failed, crate::proofs::RefsLaws::wanting))]
 pub fn refs_run<I: Source, O: Sink>(
     alloc: Global,
     source: &mut I,
     sink: &mut O,
 ) -> Result<RefsEnd, NoMemory>
-    ensures { Refs result (I.left source.old) (I.left source.new) (I.taken source.old) (I.taken source.new)
-        (O.held sink.old) (O.held sink.new) (I.faults source.old, I.faults source.new)
-        (I.ends source.old, I.ends source.new) (O.faults sink.old, O.faults sink.new) }
+    ensures { Refs result (I.state source.old) (I.state source.new) (O.state sink.old) (O.state sink.new) }
 {
     match read_all(alloc, MAX_REFERENCE + 1, source) {
         ReadAll::Whole(input) => {
@@ -142,7 +151,7 @@ pub fn refs_run<I: Source, O: Sink>(
             write_lines(alloc, text, sink)
         }
         ReadAll::TooLong => Ok(RefsEnd::TooLong),
-        ReadAll::Failed => Ok(RefsEnd::ReadFault),
+        ReadAll::Failed(input) => Ok(cut_off(text_of(input.as_slice()))),
         ReadAll::NoMemory => Err(NoMemory),
     }
 }

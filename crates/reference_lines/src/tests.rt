@@ -256,6 +256,23 @@ fn a_text_has_at_most_65536_bytes(rt: HostRuntime) -> Result<(), Fail> {
     Ok(())
 }
 
+/// Of the text 65,536 bytes come in 64 reads, one byte in the next one, and then a read fails.
+#[test]
+fn a_text_that_is_too_long_is_cut_whatever_comes_next(rt: HostRuntime) -> Result<(), Fail> {
+    for (key, behind, failed, wanted) in [
+        (65_521, b"".as_slice(), 65, RefsEnd::TooLong),
+        (65_520, b"\n".as_slice(), 65, RefsEnd::ReadFault),
+        (65_520, b"".as_slice(), 64, RefsEnd::ReadFault),
+        (65_521, b"".as_slice(), 64, RefsEnd::ReadFault),
+    ] {
+        let input = long_url(rt.alloc(), key, behind)?;
+        let (end, text) = ran(rt.alloc(), input, (&[], &[failed]), PLAIN)?;
+        assert_eq!(rt; end, wanted, "{key}");
+        assert_eq!(rt; text.len(), 0, "{key}");
+    }
+    Ok(())
+}
+
 #[test]
 fn devices_cut_and_fail(rt: HostRuntime) -> Result<(), Fail> {
     let url = b"corbaloc::1.2@h/a\n";

@@ -34,7 +34,7 @@ fn read(
     match read_all(alloc, limit, &mut source) {
         ReadAll::Whole(bytes) => Ok((Came::Whole, bytes.into_vec())),
         ReadAll::TooLong => Ok((Came::TooLong, Vec::new(alloc))),
-        ReadAll::Failed => Ok((Came::Failed, Vec::new(alloc))),
+        ReadAll::Failed(bytes) => Ok((Came::Failed, bytes.into_vec())),
         ReadAll::NoMemory => Ok((Came::NoMemory, Vec::new(alloc))),
     }
 }

@@ -13,9 +13,9 @@ pub enum WriteAll {
 }
 
 /// Writes all bytes, piece by piece as the sink takes them.
-#[tactic(auto, using(crate::proofs::CallerLemmas::wrote_start, crate::proofs::CallerLemmas::wrote_step, crate::proofs::CallerLemmas::wrote_whole))]
+#[tactic(auto, using(crate::proofs::CallerLemmas::wrote_start, crate::proofs::CallerLemmas::wrote_step, crate::proofs::CallerLemmas::wrote_same, crate::proofs::CallerLemmas::wrote_whole))]
 pub fn write_all<O: Sink>(sink: &mut O, bytes: &[u8]) -> WriteAll
-    ensures { WritesAll result bytes.now (O.held sink.old) (O.held sink.new) (O.faults sink.old, O.faults sink.new) }
+    ensures { WritesAll result bytes.now (O.state sink.old) (O.state sink.new) }
 {
     let mut rest = bytes;
     while !rest.is_empty() {

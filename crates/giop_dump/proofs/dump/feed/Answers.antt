@@ -1,4 +1,4 @@
-use Rattle.giop_dump.proofs.Pieces.{fed_on, fed_to_fault, fed_to_want}
+use Rattle.giop_dump.proofs.Pieces.{fed_on, fed_to_fault}
 use Rattle.giop_dump.proofs.dump.feed.Goals as goal
 
 pub returns-in-Ok-clause-ok : goal.returns-in-Ok-clause-ok
@@ -9,8 +9,3 @@ pub returns-in-Err-Frame-clause-ok : goal.returns-in-Err-Frame-clause-ok
 returns-in-Err-Frame-clause-ok c =
     let told = rw c.in-Err-Frame.field-0-is at c.in-Err-Frame.ensures.tells in
     fed_to_fault c.args.framer.now c.feed.new.self c.args.messages.now.items c.feed.new.whole.items c.in-Err-Frame.broken c.requires.going c.in-Err-Frame.ensures.fed.0 c.requires.none told
-
-pub returns-in-Err-NoMemory-clause-err : goal.returns-in-Err-NoMemory-clause-err
-returns-in-Err-NoMemory-clause-err c =
-    let told = rw c.in-Err-NoMemory.field-0-is at c.in-Err-NoMemory.ensures.tells in
-    fed_to_want c.args.framer.now c.feed.new.self c.args.messages.now.items c.feed.new.whole.items c.requires.going c.in-Err-NoMemory.ensures.fed.0 told

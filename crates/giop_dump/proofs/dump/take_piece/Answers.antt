@@ -1,11 +1,7 @@
 use Rattle.std.proofs.Common.{ap, ◌∙◌}
 use Rattle.giop_dump.specs.Ending.{lines_before, first_refusal}
-use Rattle.giop_dump.proofs.Pieces.{lines_added, lines_wanting, at_error}
+use Rattle.giop_dump.proofs.Pieces.{lines_added}
 use Rattle.giop_dump.proofs.dump.take_piece.Goals as goal
-
-pub returns-in_err-text-clause-err : goal.returns-in_err-text-clause-err
-returns-in_err-text-clause-err c =
-    at_error c.from_residual-in_err-text.result (lines_wanting c.args.framer.now c.feed.new.framer _ _ c.requires.going c.in_ok-broken.ensures.ok)
 
 pub returns-clause-ok : goal.returns-clause-ok
 returns-clause-ok c =

@@ -8,8 +8,8 @@ returns-then-le c =
     let touch : c.index-bands-at.result.low ≤ c.index-bands-at-in-loop-at.result.high = omega (
       arith,
       le,
-      c.low.ensures,
-      c.high.ensures,
+      c.low.ensures.value,
+      c.high.ensures.value,
     ) in
     sym (climb_stops c.args.bands.now c.loop-at.at c.index-bands-at-in-loop-at.result c.index-bands-at.result
     c.loop-at.invariant.some c.loop-at-test.true c.index-bands-at-in-loop-at.is c.index-bands-at.is touch)
@@ -21,8 +21,8 @@ loop-at-preserved c =
     let below : c.index-bands-at-in-loop-at.result.high < c.index-bands-at.result.low = omega (
       arith,
       lt,
-      c.low.ensures,
-      c.high.ensures,
+      c.low.ensures.value,
+      c.high.ensures.value,
     ) in
     record {
       behind = sym (climb_goes c.args.bands.now c.loop-at.at c.index-bands-at-in-loop-at.result
