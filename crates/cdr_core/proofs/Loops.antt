@@ -10,6 +10,8 @@ use Rattle.std.proofs.lemmas.Grind.{flat_map-append}
 use Rattle.orb_base.specs.declared.no_memory.NoMemory.{NoMemory}
 use Rattle.orb_base.specs.declared.order.Order.{Order}
 use Rattle.orb_base.specs.declared.order.Order.TheVariants.{Big, Little}
+use Rattle.std.specs.Prelude.{Option, Some, None}
+use Rattle.cdr_core.specs.Answers.{FailsWith}
 use Rattle.cdr_core.specs.Cursor.{Cursor}
 use Rattle.cdr_core.specs.Encapsulation.{order_byte, encapsulation}
 use Rattle.cdr_core.specs.Field.{Field, number, number_bytes}
@@ -48,6 +50,13 @@ ends one e front count i c total lt h so_far =
     let k : count - i ≡ suc (count - (i + 1)) = omega arith in
     let step : with_front front (times one (count - i) c) ≡ Err e = rw (k, h) refl in
     sym so_far ∙ step
+
+-- the same of an error that may be no fault
+pub ends_with : {F A : Type 0} (one : Cursor → Parsed F A) (f : Option F) (front : List A) (count i : ℕ) (c : Cursor)
+    (total : Parsed F (List A)) → i < count → FailsWith f (one c)
+    → with_front front (times one (count - i) c) ≡ total → FailsWith f total
+ends_with one (Some f) front count i c total lt h so_far = ends one f front count i c total lt h so_far
+ends_with one None front count i c total lt h so_far = tt
 
 pub is_done : {E A : Type 0} (one : Cursor → Parsed E A) (front : List A) (count i : ℕ) (c : Cursor)
     (total : Parsed E (List A)) → count ≤ i → with_front front (times one (count - i) c) ≡ total

@@ -49,6 +49,14 @@ FitsList Fits list = (length list < 2 ^ 32) × AllByRecursion Fits list
 unfoldable pub list_at : {A : Type 0} → (Cursor → Reads A) → Cursor → Reads (List A)
 list_at one c = count_at c >>= λ count. times one count.0 count.1
 
+-- a list of values, each spelled as its item
+abbrev pub are_spelled_as : {A : Type 0} → (A → Item) → List A → List Field
+are_spelled_as item_of list = list_fields (λ x. item_fields (item_of x)) list
+
+-- as many as an unsigned long counts, each of as many octets at most
+abbrev pub AreCounted : {A : Type 0} → (A → Item) → List A → Type 0
+AreCounted item_of list = (length list < 2 ^ 32) × AllByRecursion (λ x. length (item_of x).1 < 2 ^ 32) list
+
 -- tagged data as an item
 abbrev pub item_of_tagged : Tagged → Item
 item_of_tagged tagged = (tagged.tag, tagged.bytes)

@@ -73,7 +73,7 @@ carries_back : (A : Type 0) (IsLawful : A → Type 0) (fields : A
 carries_back A IsLawful fields order a behind lawful =
     record { lawful = lawful; order = order; content = encapsulates_back_law order (fields a) behind }
 
-read_as_spelled : (A : Type 0) (IsLawful : A → Type 0) (fields : A → List Field) (one : Cursor → Taken A)
+pub read_as_spelled : (A : Type 0) (IsLawful : A → Type 0) (fields : A → List Field) (one : Cursor → Taken A)
     → Takes A IsLawful fields one → Again A IsLawful fields one
     → IsReadAsSpelled A IsLawful fields one
 read_as_spelled A IsLawful fields one takes again = record {

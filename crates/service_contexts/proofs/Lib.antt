@@ -1,9 +1,8 @@
 pub mod Steps
-pub mod Items
-pub mod Puts
 pub mod Several
 pub mod Taking
 pub mod Carried
 pub mod Firsts
 pub mod Faults
 pub mod StandardFacts
+pub mod Published

@@ -3,4 +3,5 @@ pub mod Carrying
 pub mod Reading
 pub mod Moves
 pub mod Telling
+pub mod Policies
 pub mod Laws

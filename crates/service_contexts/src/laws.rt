@@ -1,7 +1,9 @@
 //! Laws of contexts and policy values, each the contract of a call that does nothing.
 ghost use Rattle.std.specs.Prelude.{ℕ, List};
 ghost use Rattle.orb_base.specs.Span.{Span};
-ghost use Rattle.orb_base.specs.Tagged.{Context};
+ghost use Rattle.orb_base.specs.Tagged.{Context, Tagged};
+ghost use Rattle.cdr_core.specs.Lists.{list_fields, tagged_fields, FitsList, FitsTagged};
+ghost use Rattle.service_contexts.specs.Policies.{policies_at};
 ghost use Rattle.service_contexts.specs.Laws.{IsReadAsSpelled, TellOneThing};
 ghost use Rattle.service_contexts.specs.Layout.{IsPriority, IsBand, ModelValue, IsModelValue, AreBands};
 ghost use Rattle.service_contexts.specs.Layout.{priority_fields, band_fields, model_fields, bands_fields};
@@ -30,6 +32,12 @@ pub fn models_are_read_as_spelled()
 #[tactic(auto, using(crate::proofs::Carried::bands_law))]
 pub fn bands_are_read_as_spelled()
     ensures { IsReadAsSpelled (List Span) AreBands bands_fields bands_at }
+{}
+
+/// The same of components of policies.
+#[tactic(auto, using(crate::proofs::Published::policies_law))]
+pub fn policies_are_read_as_spelled()
+    ensures { IsReadAsSpelled (List Tagged) (FitsList FitsTagged) (list_fields tagged_fields) policies_at }
 {}
 
 /// The contexts of a message tell one thing, or have one first fault, and not both.

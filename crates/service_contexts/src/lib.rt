@@ -1,5 +1,5 @@
-//! Service contexts that carry priorities, and the values of two policies, read and written (Real-time CORBA 1.2, CORBA
-//! priorities, Priority models and Priority banded connections).
+//! Service contexts that carry priorities, the values of two policies, and the component that carries policies, read and
+//! written (Real-time CORBA 1.2, CORBA priorities, Priority models and Priority banded connections).
 //!
 //! Each is an encapsulation of a few fields. What bytes carry stands in `specs/Carrying.antt`, and which of a message's
 //! contexts count in `specs/Telling.antt`.
@@ -10,6 +10,7 @@ mod content;
 mod contexts;
 pub mod laws;
 mod model;
+mod policies;
 mod read;
 mod short;
 
@@ -17,6 +18,9 @@ pub use bands::{bands_policy, read_bands_policy};
 pub use content::{priority_context, range_context};
 pub use contexts::{ContextFault, Contexts, PRIORITY_CONTEXT, RANGE_CONTEXT, contexts_of};
 pub use model::{model_policy, read_model_policy};
+pub use policies::{
+    BANDS_POLICY, MODEL_POLICY, POLICIES_TAG, policies_component, read_policies_component,
+};
 
 #[cfg(test)]
 mod tests;

@@ -12,7 +12,7 @@ ghost use Rattle.service_contexts.specs.Reading.{model_at, carried};
 
 use crate::read::take_model;
 use crate::short::short_bytes;
-use cdr_core::Reader;
+use cdr_core::{Reader, bytes_of_u32};
 use orb_base::{Order, Priority, PriorityModel};
 
 /// The value of a priority model policy, big endian: the encapsulation of the number of the model and of the server's
@@ -26,11 +26,10 @@ pub fn model_policy(model: PriorityModel, priority: Priority) -> [u8; 10]
 }
 
 /// The number of the model as an unsigned long.
-#[tactic(auto, unfolding(cdr_core::specs::Field::number_bytes))]
 fn model_bytes(model: PriorityModel) -> [u8; 4]
     ensures { result ≡ number_bytes Big w32 (model_number model) }
 {
-    model.number().to_be_bytes()
+    bytes_of_u32(Order::Big, model.number())
 }
 
 /// The model and the server's priority that the value of a priority model policy carries, in either byte order. None

@@ -3,6 +3,7 @@ ghost use Rattle.std.specs.Prelude.{◌≡◌};
 ghost use Rattle.std.specs.Int.{w16};
 ghost use Rattle.cdr_core.specs.Field.{number_bytes};
 
+use cdr_core::bytes_of_u16;
 use orb_base::{Order, Priority};
 
 /// The number that a short carries.
@@ -13,13 +14,8 @@ pub fn short_of(priority: Priority) -> u16
 }
 
 /// The short's bytes in this order.
-#[tactic(auto, unfolding(cdr_core::specs::Field::number_bytes))]
 pub fn short_bytes(order: Order, priority: Priority) -> [u8; 2]
     ensures { result ≡ number_bytes order w16 priority }
 {
-    let short = short_of(priority);
-    match order {
-        Order::Big => short.to_be_bytes(),
-        Order::Little => short.to_le_bytes(),
-    }
+    bytes_of_u16(order, short_of(priority))
 }

@@ -287,3 +287,24 @@ fn a_fault_prints_its_context(rt: HostRuntime) -> Result<(), Fail> {
     assert_eq!(rt; printed.as_str(), "context 11");
     Ok(())
 }
+
+// Two policies: the model of an object, and one of another type, without a value; and a byte behind them.
+#[test]
+fn policies_are_carried_by_a_component(rt: HostRuntime) -> Result<(), Fail> {
+    let want = [
+        0, 0, 0, 0, 0, 0, 0, 2, 0, 0, 0, 40, 0, 0, 0, 2, 7, 8, 0, 0, 0, 0, 0, 41, 0, 0, 0, 0,
+    ];
+    let bytes = orb_base::List::from_vec(Vec::from_slice(rt.alloc(), &[7, 8])?);
+    let model = orb_base::Tagged { tag: 40, bytes };
+    let bytes = orb_base::List::new(rt.alloc());
+    let other = orb_base::Tagged { tag: 41, bytes };
+    let written = policies_component(rt.alloc(), &[model, other]);
+    assert!(rt; matches!(&written, Ok(bytes) if bytes.as_slice() == want.as_slice()));
+    let read = read_policies_component(rt.alloc(), &want)?;
+    assert!(rt;
+        matches!(&read, Some(list) if list.len() == 2 && list.as_slice()[0].tag == 40 && list.as_slice()[1].tag == 41)
+    );
+    let cut = read_policies_component(rt.alloc(), &want[..27])?;
+    assert!(rt; cut.is_none());
+    Ok(())
+}

@@ -1,9 +1,10 @@
 use Rattle.std.proofs.Common.{◌∷◌, [], length, ◌∙◌}
 use Rattle.std.specs.Int.{w32}
 use Rattle.std.specs.List.{flat_map}
+use Rattle.orb_base.specs.declared.order.Order.TheVariants.{Big}
 use Rattle.cdr_core.specs.Field.{number}
 use Rattle.service_contexts.specs.Layout.{band_fields, bands_fields}
-use Rattle.service_contexts.proofs.Puts.{written_both, encapsulated}
+use Rattle.cdr_core.proofs.CallerLemmas.{written_both, encapsulated}
 use Rattle.service_contexts.proofs.bands.bands_policy.Goals as goal
 
 pub returns : goal.returns
@@ -13,5 +14,5 @@ returns c =
     (number w32 (length bands) ∷ []) (flat_map band_fields bands) c.in_ok-put_u32.ensures
     c.in_ok-put_bands.ensures in
     c.finish.ensures
-    ∙ encapsulated c.new-into.result c.put_u8.new.self c.put_bands.new.into (bands_fields bands)
+    ∙ encapsulated Big c.new-into.result c.put_u8.new.self c.put_bands.new.into (bands_fields bands)
     c.new-into.ensures c.in_ok-put_u8.ensures all

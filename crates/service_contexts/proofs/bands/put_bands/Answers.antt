@@ -1,6 +1,6 @@
 use Rattle.std.proofs.lemmas.Result.{err_from_is_err_and}
 use Rattle.service_contexts.specs.Layout.{band_fields}
-use Rattle.service_contexts.proofs.Puts.{written_none, list_next, list_front, list_done}
+use Rattle.cdr_core.proofs.CallerLemmas.{written_none, list_next, list_front, list_done}
 use Rattle.service_contexts.proofs.bands.put_bands.Goals as goal
 
 pub loop-band-init : goal.loop-band-init

@@ -3,7 +3,7 @@ use Rattle.std.proofs.lemmas.Result.{err_from_is_err_and}
 use Rattle.orb_base.specs.Tagged.{Context}
 use Rattle.service_contexts.specs.declared.contexts.ContextFault.{ContextFault}
 use Rattle.service_contexts.specs.Telling.{Tells, IsFirstFault}
-use Rattle.service_contexts.proofs.Items.{one_more, around, all_of}
+use Rattle.cdr_core.proofs.CallerLemmas.{one_more, around, all_of}
 use Rattle.service_contexts.proofs.Faults.{told_told, told_fault, fault_told, fault_fault}
 use Rattle.service_contexts.proofs.contexts.contexts_of.Goals as goal
 
