@@ -11,3 +11,4 @@ pub mod Seats
 pub mod Calls
 pub mod Register
 pub mod RegisterHeirs
+pub mod Hatch
