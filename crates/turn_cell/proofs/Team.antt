@@ -7,6 +7,7 @@ use Rattle.turn_cell.specs.declared.board.Gone.{Gone}
 use Rattle.turn_cell.specs.Numbers.{Each, Has, IsWhole}
 use Rattle.turn_cell.specs.Register.{heir}
 use Rattle.turn_cell.specs.RegisterHeirs.{tells}
+use Rattle.turn_cell.specs.Team.{team}
 use Rattle.turn_cell.specs.Whole.{numbers}
 
 -- the first seat has an heir below 8
@@ -39,5 +40,29 @@ two = (
   (
     (λ k lt m e. let t = tells (eqb 0 0) (nat_lt k 8) k m e in let p = t.1 in inr (inl (omega arith))),
     ((λ k lt m e. absurd (omega arith)), tt),
+  ),
+)
+
+-- the heirs of the first seat stand in the team
+stands : (k : ℕ) → k < 7 → Has (k + 1) (team 7)
+stands zero l = inr (inl refl)
+stands (suc zero) l = inr (inr (inl refl))
+stands (suc (suc zero)) l = inr (inr (inr (inl refl)))
+stands (suc (suc (suc zero))) l = inr (inr (inr (inr (inl refl))))
+stands (suc (suc (suc (suc zero)))) l = inr (inr (inr (inr (inr (inl refl)))))
+stands (suc (suc (suc (suc (suc zero))))) l = inr (inr (inr (inr (inr (inr (inl refl))))))
+stands (suc (suc (suc (suc (suc (suc zero)))))) l = inr (inr (inr (inr (inr (inr (inr (inl refl)))))))
+stands (suc (suc (suc (suc (suc (suc (suc k))))))) l = absurd (omega arith)
+
+none_below : (n : ℕ) → (k : ℕ) → k < 0 → (m : ℕ) → heir n k ≡ Some m → Has m (team 7)
+none_below n k l m e = absurd (omega arith)
+
+-- eight seats
+pub eight : IsWhole heir (team 7)
+eight = (
+  inl refl,
+  (
+    (λ k l m e. let t = tells (eqb 0 0) (nat_lt k 8) k m e in subst (λ (z : ℕ). Has z (team 7)) t.1 (stands k l)),
+    (none_below 1, (none_below 2, (none_below 3, (none_below 4, (none_below 5, (none_below 6, (none_below 7, tt))))))),
   ),
 )

@@ -12,3 +12,4 @@ pub mod Calls
 pub mod Register
 pub mod RegisterHeirs
 pub mod Hatch
+pub mod Team

@@ -1,4 +1,5 @@
 mod objects;
 mod rows;
 mod seats;
+mod storm;
 mod waiting;

@@ -1,5 +1,6 @@
 ghost use Rattle.std.specs.Prelude.{◌≡◌, [], ◌∷◌};
 ghost use Rattle.turn_cell.specs.Calls.{IsOf};
+ghost use Rattle.turn_cell.specs.Team.{IsSame};
 ghost use Rattle.turn_cell.specs.Whole.{numbers};
 
 use super::seats::{make, next, take_in};
@@ -19,13 +20,13 @@ fn make_there<R: Wait + Threads + Sync>(
 ) -> (Seat<Register>, Option<RegisterReply>)
     requires { IsOf cell.now seat }
     ensures of { IsOf cell.now result.0 }
-    ensures same { (result.0.number ≡ seat.number) × (result.0.splits ≡ seat.splits) × (result.0.ended ≡ seat.ended) }
+    ensures same { IsSame seat result.0 }
 {
     let (answered, ()) = thread::join(
         rt,
         move || -> (Seat<Register>, Option<RegisterReply>)
             requires { IsOf cell.now seat }
-            ensures { IsOf cell.entry.now result.0 × (result.0.number ≡ seat.number) × (result.0.splits ≡ seat.splits) × (result.0.ended ≡ seat.ended) }
+            ensures { IsOf cell.entry.now result.0 × IsSame seat result.0 }
         {
             let mut seat = seat;
             let reply = make(rt, cell, &mut seat, call);

@@ -1,6 +1,7 @@
 //! Seats of a register's cell, as the tests split, call by and join them.
 ghost use Rattle.std.specs.Prelude.{◌≡◌, ◌<◌, ◌+◌, [], ◌∷◌, ◌++◌};
 ghost use Rattle.turn_cell.specs.Calls.{IsOf};
+ghost use Rattle.turn_cell.specs.Team.{IsSame, team};
 ghost use Rattle.turn_cell.specs.Whole.{numbers};
 
 use crate::{Register, RegisterCall, RegisterReply, Seat, TurnCell};
@@ -30,7 +31,7 @@ pub fn make<R: Wait>(
 ) -> Option<RegisterReply>
     requires { IsOf cell.now seat.old }
     ensures of { IsOf cell.now seat.new }
-    ensures same { (seat.new.number ≡ seat.old.number) × (seat.new.splits ≡ seat.old.splits) × (seat.new.ended ≡ seat.old.ended) }
+    ensures same { IsSame seat.old seat.new }
 {
     cell.call(rt, seat, call).ok()
 }
@@ -43,4 +44,20 @@ pub fn take_in(cell: &TurnCell<Register>, first: &mut Seat<Register>, other: Sea
     ensures numbers { numbers first.new.number first.new.splits first.new.ended ≡ numbers first.old.number first.old.splits first.old.ended ++ (other.number, 0) ∷ [] }
 {
     cell.join(first, other);
+}
+
+/// Joins the seat that was split as the k-th of seven, once those before it were joined.
+pub fn take_in_turn(
+    cell: &TurnCell<Register>,
+    first: &mut Seat<Register>,
+    other: Seat<Register>,
+    k: u32,
+)
+    requires of { IsOf cell.now first.old × IsOf cell.now other }
+    requires other { (other.number ≡ k + 1) × (other.splits ≡ 0) × (other.ended ≡ []) }
+    requires before { numbers first.old.number first.old.splits first.old.ended ≡ team k }
+    ensures of { IsOf cell.now first.new }
+    ensures numbers { numbers first.new.number first.new.splits first.new.ended ≡ team (k + 1) }
+{
+    take_in(cell, first, other);
 }
