@@ -11,3 +11,5 @@ pub mod Seats
 pub mod Calls
 pub mod Register
 pub mod RegisterHeirs
+pub mod Hatch
+pub mod Team

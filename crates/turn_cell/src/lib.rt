@@ -6,6 +6,7 @@ mod bells;
 mod board;
 mod cell;
 mod entry;
+mod hatch;
 mod log;
 mod object;
 mod open;
@@ -20,6 +21,7 @@ mod turn_cell;
 mod waits;
 
 pub use entry::Entry;
+pub use hatch::{Hatch, HatchCall, HatchReply};
 pub use object::Object;
 pub use register::{Register, RegisterCall, RegisterReply};
 pub use seat::Seat;

@@ -3,7 +3,8 @@ use crate::board::Place;
 use crate::object::Object;
 use std::marker::Model;
 
-/// What a caller knows of a cell. Contracts see it as its number, what it has seen, and its own calls.
+/// What a caller calls by. Contracts see it as its cell, its number, the history that it has seen, its own calls, how many
+/// seats were split from it, and what the seats that were joined into it had.
 #[derive(Drop)]
 pub struct Seat<O: Object> {
     pub(crate) place: Place<O>,

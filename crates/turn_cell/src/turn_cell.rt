@@ -1,4 +1,4 @@
-//! A concurrent object with one legal history.
+//! An object that threads call, and whose calls are one legal history.
 ghost use Rattle.std.specs.Prelude.{◌≡◌, ℕ, [], ◌^◌, ◌-◌, ◌↔◌, MatchResult, IfOk, IfErr, IsErr, OnErr};
 ghost use Rattle.turn_cell.specs.Calls.{IsOpened, IsOf, IsGood, TriesOn, Calls, WornOut, IsSplit, IsJoined, HasMet};
 ghost use Rattle.turn_cell.specs.Good.{Good};
@@ -18,6 +18,7 @@ use std::alloc::Global;
 use std::marker::Model;
 use std::sync::Wait;
 
+/// An object behind one turn, beside the history of its calls. Contracts see which cell it is, and what it was opened with.
 #[derive(Drop)]
 pub struct TurnCell<O: Object> {
     board: Board<O>,
@@ -31,11 +32,13 @@ impl<O: Object> Model for TurnCell<O> {
     ghost view = { λ c. record { id = c.board.table.shared.table_id; terms = c.board.table.shared.key.value } };
 }
 
-/// The history has no room. The call comes back.
+/// The history has its whole length. The call comes back.
 #[derive(Drop)]
 pub struct Worn<C>(pub C);
 
 impl<O: Object> TurnCell<O> {
+    /// Opens a cell, whose history has room for `length` entries, and gives its first seat. For want of memory it hands
+    /// the object back.
     pub fn new(alloc: Global, object: O, length: u32) -> Result<(TurnCell<O>, Seat<O>), O>
         requires opens { O.opens object }
         ensures ok { IfOk result (λ p. IsOpened object length p.0 p.1) }
@@ -52,6 +55,7 @@ impl<O: Object> TurnCell<O> {
         ))
     }
 
+    // One try of a call.
     fn attempt(&self, seat: &mut Seat<O>, call: O::Call) -> Tried<O>
         requires cell { IsOf self.now seat.old }
         requires fit { O.fit self.now.terms.opening seat.old.number seat.old.mine call }
@@ -60,7 +64,7 @@ impl<O: Object> TurnCell<O> {
         self.board.attempt(&mut seat.place, seat.number, call)
     }
 
-    /// What a seat has seen is good, at any time.
+    /// Does nothing: what a seat has seen is legal and fit at any time, and its own calls are those of its number there.
     pub fn facts(&self, seat: &Seat<O>)
         requires { IsOf self.now seat.now }
         ensures { IsGood O.ready O.sound O.step O.opens O.fit self.now seat.now }
@@ -68,6 +72,10 @@ impl<O: Object> TurnCell<O> {
         let _ = &seat.place;
     }
 
+    /// Makes a call: waits until it is ready, enters it into the history and gives its reply. Takes no memory.
+    ///
+    /// Where the object wants memory it is asked again later. A call that never gets ready waits for ever; no clause says
+    /// that a call comes back. Alone on its processor a call costs some atomic steps beside the object's own work.
     pub fn call<R: Wait>(
         &self,
         rt: &R,
@@ -99,7 +107,8 @@ impl<O: Object> TurnCell<O> {
 }
 
 impl<O: Object> TurnCell<O> {
-    /// Cuts the seat's next heir off, which has seen as much.
+    /// Splits the seat's next heir off, which has seen as much and has no calls of its own. Takes no memory. A seat that was
+    /// split 2^32 - 1 times can't be split again.
     pub fn split(&self, seat: &mut Seat<O>) -> Result<Seat<O>, NoMemory>
         requires cell { IsOf self.now seat.old }
         requires heir { (m : ℕ) × (O.heir seat.old.number seat.old.splits ≡ Some m) }
@@ -121,7 +130,7 @@ impl<O: Object> TurnCell<O> {
         })
     }
 
-    /// Takes in another seat.
+    /// Takes another seat in: its history, where it is the longer one, and its number, calls and splits. Takes no memory.
     pub fn join(&self, into: &mut Seat<O>, other: Seat<O>)
         requires { IsOf self.now into.old × IsOf self.now other }
         ensures { IsJoined into.old other into.new }
@@ -135,7 +144,7 @@ impl<O: Object> TurnCell<O> {
         self.board.hear(&mut into.place);
     }
 
-    /// Tells the second seat what the first has seen.
+    /// Tells the hearer what the teller has seen, so that its next call stands behind that. Takes no memory.
     pub fn meet(&self, teller: &mut Seat<O>, hearer: &mut Seat<O>)
         requires { IsOf self.now teller.old × IsOf self.now hearer.old }
         ensures teller { teller.new ≡ teller.old }
@@ -145,7 +154,7 @@ impl<O: Object> TurnCell<O> {
         self.board.hear(&mut hearer.place);
     }
 
-    /// The object and its one history.
+    /// Closes a cell whose every other seat was joined into this one, and gives the object and the one history.
     pub fn close(self, seat: Seat<O>) -> (O, List<Entry<O>>)
         requires cell { IsOf self seat }
         requires whole { IsWhole O.heir (numbers seat.number seat.splits seat.ended) }
@@ -161,6 +170,7 @@ impl<O: Object> TurnCell<O> {
         (object, List::from_vec(list))
     }
 
+    // What comes out at the end.
     fn end(self, seat: Seat<O>) -> (O, Vec<Entry<O>>)
         requires cell { IsOf self seat }
         requires whole { IsWhole O.heir (numbers seat.number seat.splits seat.ended) }
