@@ -1,0 +1,10 @@
+pub mod Basics
+pub mod Chained
+pub mod Sound
+pub mod First
+pub mod Complete
+pub mod Local
+pub mod WholeTexts
+pub mod Depth
+pub mod Turns
+pub mod Parts

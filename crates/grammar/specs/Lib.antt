@@ -1,0 +1,11 @@
+pub mod Rules
+pub mod Language
+pub mod Grammar
+pub mod Reading
+pub mod Refusal
+pub mod Plain
+pub mod Views
+pub mod Gives
+pub mod Laws
+pub use Rattle.idl_tokens.specs.Placed
+pub use Rattle.idl_tokens.specs.Stream
