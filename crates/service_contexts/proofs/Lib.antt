@@ -5,4 +5,5 @@ pub mod Carried
 pub mod Firsts
 pub mod Faults
 pub mod StandardFacts
+pub mod FirstPolicies
 pub mod Published

@@ -4,4 +4,5 @@ pub mod Reading
 pub mod Moves
 pub mod Telling
 pub mod Policies
+pub mod Publishing
 pub mod Laws

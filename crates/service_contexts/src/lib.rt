@@ -11,6 +11,7 @@ mod contexts;
 pub mod laws;
 mod model;
 mod policies;
+mod publishing;
 mod read;
 mod short;
 
@@ -21,6 +22,7 @@ pub use model::{model_policy, read_model_policy};
 pub use policies::{
     BANDS_POLICY, MODEL_POLICY, POLICIES_TAG, policies_component, read_policies_component,
 };
+pub use publishing::{published_bands, published_model};
 
 #[cfg(test)]
 mod tests;
