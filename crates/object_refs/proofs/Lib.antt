@@ -2,9 +2,9 @@ pub mod Digits
 pub mod Steps
 pub mod Firsts
 pub mod Located
-pub mod Several
 pub mod Taking
 pub mod Wholes
-pub mod Puts
 pub mod Texts
 pub mod OneWay
+pub mod Refused
+pub mod RefusedTexts

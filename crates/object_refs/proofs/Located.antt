@@ -15,24 +15,29 @@ use Rattle.object_refs.specs.Locations.{IsHost, IsPortNumber, IsPort, is_escaped
 use Rattle.object_refs.specs.LocationReading.{part, behind, or_else, behind_protocol, host_of_len, host_of}
 use Rattle.object_refs.specs.LocationReading.{port_number, port_of_len, port_of, port_at, key_of, location_of}
 use Rattle.object_refs.specs.Laws.{IsExactly}
-use Rattle.object_refs.proofs.Steps.{done, ok_is, bind_ok, some_is, passed_some, then_some}
+use Rattle.cdr_core.proofs.CallerLemmas.{ok_is, bind_ok}
+use Rattle.object_refs.specs.Reading.{Read}
+use Rattle.object_refs.proofs.Steps.{some_is, passed_some, then_some}
 use Rattle.object_refs.proofs.Firsts.{behind_found, behind_again, cut_found, cut_again, none_within}
 
-part_ok : {A : Type 0} (cause : RefCause) (text rest : List ℕ) (o : Option A) (x : A) → part cause text rest o ≡ done x
+abbrev pub done : {A : Type 0} → A → Read A
+done x = Ok x
+
+pub part_ok : {A : Type 0} (cause : RefCause) (text rest : List ℕ) (o : Option A) (x : A) → part cause text rest o ≡ done x
     → o ≡ Some x
 part_ok cause text rest (Some y) x e = ap (λ z. Some z) (ok_is y x e)
 part_ok cause text rest None x e = absurd cc
 
 -- ---- the protocol
 
-abbrev IsProtocol : List ℕ → Type 0
+abbrev pub IsProtocol : List ℕ → Type 0
 IsProtocol protocol = (protocol ≡ iiop_protocol) ⊎ (protocol ≡ short_protocol)
 
 one_of : (a b : Option (List ℕ)) (x : List ℕ) → or_else a b ≡ Some x → (a ≡ Some x) ⊎ (b ≡ Some x)
 one_of (Some y) b x e = inl e
 one_of None b x e = inr e
 
-protocol_found : (text rest : List ℕ) → behind_protocol text ≡ Some rest
+pub protocol_found : (text rest : List ℕ) → behind_protocol text ≡ Some rest
     → (protocol : List ℕ) × IsProtocol protocol × (text ≡ scheme ++ (protocol ++ rest))
 unfolding behind_protocol
 protocol_found text rest e =
@@ -49,7 +54,7 @@ not_iiop : (rest : List ℕ) → behind iiop_protocol (short_protocol ++ rest) �
 unfolding behind
 not_iiop rest = refl
 
-protocol_again : (protocol rest : List ℕ) → IsProtocol protocol
+pub protocol_again : (protocol rest : List ℕ) → IsProtocol protocol
     → behind_protocol (scheme ++ (protocol ++ rest)) ≡ Some rest
 unfolding behind_protocol
 protocol_again protocol rest (inl h) =
@@ -59,7 +64,7 @@ protocol_again protocol rest (inr h) =
 
 -- ---- the host
 
-abbrev Ends : ℕ → Type 0
+abbrev pub Ends : ℕ → Type 0
 Ends e = (e ≡ colon) ⊎ (e ≡ slash)
 
 one_end : (a b : Bool) → (a || b) ≡ true → (a ≡ true) ⊎ (b ≡ true)
@@ -83,7 +88,7 @@ pub record Hosted (text : List ℕ) (x : List ℕ × ℕ × List ℕ) : Type 0 w
   pub end : Ends x.1
   pub parts : text ≡ x.0 ++ x.1 ∷ x.2
 
-host_found : (text : List ℕ) (x : List ℕ × ℕ × List ℕ) → host_of text ≡ Some x → Hosted text x
+pub host_found : (text : List ℕ) (x : List ℕ × ℕ × List ℕ) → host_of text ≡ Some x → Hosted text x
 unfolding host_of host_of_len
 host_found text x e =
     let n = then_some (position ends_host text) (host_of_len text) x e in
@@ -116,7 +121,7 @@ rest_of (b ∷ front) e rest =
     let one_more : length (b ∷ front) + 1 ≡ suc (length front + 1) = omega arith in
     rw one_more (rest_of front e rest)
 
-host_again : (host : List ℕ) (e : ℕ) (rest : List ℕ) → IsHost host → Ends e
+pub host_again : (host : List ℕ) (e : ℕ) (rest : List ℕ) → IsHost host → Ends e
     → host_of (host ++ e ∷ rest) ≡ Some (host, e, rest)
 unfolding host_of host_of_len
 host_again host e rest h end =
@@ -153,7 +158,7 @@ port_number_again digits port h =
 abbrev is_slash : ℕ → Bool
 is_slash byte = eqb byte slash
 
-port_of_found : (text : List ℕ) (x : ℕ × List ℕ) → port_of text ≡ Some x
+pub port_of_found : (text : List ℕ) (x : ℕ × List ℕ) → port_of text ≡ Some x
     → (digits : List ℕ) × IsPortNumber digits x.0 × (text ≡ digits ++ slash ∷ x.1)
 unfolding port_of port_of_len
 port_of_found text x e =
@@ -183,7 +188,7 @@ no_slash_len (d ∷ digits) h =
 no_slash : (digits : List ℕ) → list_all is_ascii_digit digits ≡ true → position is_slash digits ≡ None
 no_slash digits h = none_within is_slash digits (no_slash_len digits h)
 
-port_of_again : (digits rest : List ℕ) (port : ℕ) → IsPortNumber digits port
+pub port_of_again : (digits rest : List ℕ) (port : ℕ) → IsPortNumber digits port
     → port_of (digits ++ slash ∷ rest) ≡ Some (port, rest)
 unfolding port_of port_of_len
 port_of_again digits rest port h =

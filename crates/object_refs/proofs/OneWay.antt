@@ -15,8 +15,9 @@ use Rattle.object_refs.specs.Layout.{profile_fields, reference_fields, FitsProfi
 use Rattle.object_refs.specs.Locations.{IsLocation}
 use Rattle.object_refs.specs.Profiles.{IsFirstProfile, IsProfile}
 use Rattle.object_refs.specs.Reference.{Location, Profile, Reference}
-use Rattle.object_refs.specs.References.{IsReference, reference_text}
-use Rattle.object_refs.proofs.Steps.{ok_is, some_is}
+use Rattle.object_refs.specs.References.{IsReference, stringified}
+use Rattle.cdr_core.proofs.CallerLemmas.{ok_is}
+use Rattle.object_refs.proofs.Steps.{some_is}
 use Rattle.object_refs.proofs.Located.{location_again}
 use Rattle.object_refs.proofs.Texts.{reference_again}
 use Rattle.object_refs.proofs.Wholes.{profile_again}
@@ -45,7 +46,7 @@ profile_back p bytes e fits version =
     rw e (record { fits = fits; version = version; order = Big; content = whole (profile_fields p) })
 
 pub reference_back : (r : Reference) (bytes text : List ℕ) → bytes ≡ encapsulation Big (reference_fields r)
-    → AreBytes bytes → text ≡ reference_text r → FitsReference r → IsReference r text
+    → AreBytes bytes → text ≡ stringified r → FitsReference r → IsReference r text
 reference_back r bytes text e small t fits = record {
   prefix = codes "IOR:";
   digits = encode_lower bytes;

@@ -1,33 +1,17 @@
 -- Readings, one after the other.
 use Rattle.std.proofs.Common.{◌≡◌, Bool, true, false, cond, Option, Some, None, Result, Ok, Err, refl, sym, ◌∙◌}
 use Rattle.std.specs.Prelude.{IfOk, option_and_then}
-use Rattle.cdr_core.specs.declared.fault.CdrFault.{CdrFault}
+use Rattle.std.specs.Prelude.{IfErr, IfSome}
+use Rattle.cdr_core.proofs.CallerLemmas.{ok_is}
 use Rattle.object_refs.specs.declared.fault.RefError.{RefError}
 use Rattle.object_refs.specs.declared.fault.RefError.TheVariants.{Refused, NoMemory}
 use Rattle.object_refs.specs.declared.fault.RefFault.{RefFault}
-use Rattle.object_refs.specs.Answers.{Answers}
-use Rattle.object_refs.specs.Laws.{IsExactly}
-use Rattle.object_refs.specs.Reading.{Read, ◌>>=◌, cdr}
-
-abbrev pub done : {A : Type 0} → A → Read A
-done x = Ok x
-
-pub ok_is : {A : Type 0} (x y : A) → done x ≡ done y → x ≡ y
-ok_is x y e = cc
-
--- a reading that has a value
-pub bind_ok : {A B : Type 0} (r : Read A) (f : A → Read B) (y : B) → (r >>= f) ≡ Ok y
-    → (x : A) × (r ≡ Ok x) × (f x ≡ Ok y)
-bind_ok (Ok x) f y e = (x, refl, e)
-bind_ok (Err d) f y e = absurd cc
-
--- what the Common Data Representation read
-pub cdr_ok : {A : Type 0} (r : Result A CdrFault) (x : A) → cdr r ≡ Ok x → r ≡ Ok x
-cdr_ok (Ok y) x e = let h : y ≡ x = ok_is y x e in rw h refl
-cdr_ok (Err f) x e = absurd cc
+use Rattle.object_refs.specs.Answers.{Answers, fault_of}
+use Rattle.object_refs.specs.Laws.{IsExactly, RefusesExactly}
+use Rattle.object_refs.specs.Reading.{Read}
 
 -- a value that a test lets by
-pub passed : {A : Type 0} (b : Bool) (x y : A) (f : RefFault) → cond b (Ok x) (Err f) ≡ done y → (b ≡ true) × (x ≡ y)
+pub passed : {A : Type 0} (b : Bool) (x y : A) (f : RefFault) → cond b (Ok x) (Err f) ≡ Ok y → (b ≡ true) × (x ≡ y)
 passed true x y f e = (refl, ok_is x y e)
 passed false x y f e = absurd cc
 
@@ -56,3 +40,29 @@ pub only_so : {X A : Type 0} (view : X → A) (r : Result X RefError) (reading :
 only_so view (Ok x) reading Fact exact e a h = sym ((exact a).1 h) ∙ e
 only_so view (Err (Refused f)) reading Fact exact e a h = sym ((exact a).1 h) ∙ e
 only_so view (Err NoMemory) reading Fact exact e a h = tt
+
+-- a fault that is told is the first one
+pub fails_so : {X A : Type 0} (view : X → A) (r : Result X RefError) (reading : Read A) (Bad : RefFault → Type 0)
+    → RefusesExactly reading Bad → Answers view r reading → IfErr r (λ e. IfSome (fault_of e) Bad)
+fails_so view (Ok x) reading Bad exact e = tt
+fails_so view (Err (Refused f)) reading Bad exact e = (exact f).0 e
+fails_so view (Err NoMemory) reading Bad exact e = tt
+
+-- and the first one is told
+pub told_so : {X A : Type 0} (view : X → A) (r : Result X RefError) (reading : Read A) (Bad : RefFault → Type 0)
+    → RefusesExactly reading Bad → Answers view r reading → (f : RefFault) → Bad f → Answers {Y = A} view r (Err f)
+told_so view (Ok x) reading Bad exact e f h = sym ((exact f).1 h) ∙ e
+told_so view (Err (Refused g)) reading Bad exact e f h = sym ((exact f).1 h) ∙ e
+told_so view (Err NoMemory) reading Bad exact e f h = tt
+
+-- a test that lets nothing by, and what there is none of
+pub failed : {A : Type 0} (b : Bool) (x : A) (f g : RefFault) → cond b (Ok x) (Err f) ≡ Err g → (b ≡ false) × (g ≡ f)
+failed true x f g e = absurd cc
+failed false x f g e = (refl, cc)
+
+pub none_of : {A : Type 0} (o : Option A) → ((x : A) → o ≡ Some x → ⊥) → o ≡ None
+none_of (Some x) never = absurd (never x refl)
+none_of None never = refl
+
+pub some_none : {A : Type 0} (o : Option A) (x : A) → o ≡ None → o ≡ Some x → ⊥
+some_none o x e h = absurd cc

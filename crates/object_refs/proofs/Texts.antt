@@ -13,10 +13,11 @@ use Rattle.hex.proofs.HexLemmas.{decode_of-ok, decode_of-err}
 use Rattle.object_refs.specs.Reference.{Reference}
 use Rattle.object_refs.specs.References.{lower_prefix, IsReference, digits_of, decoded, reference_in, reference_of}
 use Rattle.object_refs.specs.Laws.{IsExactly}
-use Rattle.object_refs.proofs.Steps.{ok_is, bind_ok, passed}
+use Rattle.cdr_core.proofs.CallerLemmas.{ok_is, bind_ok}
+use Rattle.object_refs.proofs.Steps.{passed}
 use Rattle.object_refs.proofs.Wholes.{encapsulated_exact}
 
-decoded_ok : (len : ℕ) (r : Result (List ℕ) FromHexError) (bytes : List ℕ) → decoded len r ≡ Ok bytes → r ≡ Ok bytes
+pub decoded_ok : (len : ℕ) (r : Result (List ℕ) FromHexError) (bytes : List ℕ) → decoded len r ≡ Ok bytes → r ≡ Ok bytes
 decoded_ok len (Ok b) bytes e = let h : b ≡ bytes = ok_is b bytes e in rw h refl
 decoded_ok len (Err f) bytes e = absurd cc
 

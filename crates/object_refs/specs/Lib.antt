@@ -4,7 +4,10 @@ pub mod Profiles
 pub mod Locations
 pub mod Reading
 pub mod Answers
+pub mod Errors
 pub mod LocationReading
 pub mod ProfileReading
 pub mod References
 pub mod Laws
+pub mod Refusing
+pub mod RefusingTexts

@@ -13,7 +13,8 @@ use Rattle.object_refs.specs.declared.fault.RefCause.TheVariants.{NoPrefix, BadV
 use Rattle.object_refs.specs.Reference.{Location}
 use Rattle.object_refs.specs.Locations.{scheme, iiop_protocol, short_protocol, version_part, default_port}
 use Rattle.object_refs.specs.Locations.{colon, slash, ends_host, is_escaped}
-use Rattle.object_refs.specs.Reading.{Read, fault, ◌>>=◌}
+use Rattle.object_refs.specs.Reading.{Read, fault}
+use Rattle.cdr_core.specs.Sequence.{◌>>=◌}
 
 -- a part of a text, or its cause at its first byte, from which `rest` goes to the end of the text
 abbrev pub part : {A : Type 0} → RefCause → List ℕ → List ℕ → Option A → Read A

@@ -3,26 +3,27 @@
 use Rattle.std.specs.Prelude.{ℕ, Bool, ◌&&◌, ◌==◌, nat_lt, if◌then◌else◌, List, [], Option, Some, None, Ok, Err}
 use Rattle.std.specs.Int.{w8, w16}
 use Rattle.orb_base.specs.Tagged.{Tagged}
-use Rattle.cdr_core.specs.Cursor.{Cursor}
+use Rattle.cdr_core.specs.Cursor.{Cursor, Reads}
 use Rattle.cdr_core.specs.Reading.{number_at, octets_at, string_at, entered}
 use Rattle.object_refs.specs.declared.fault.RefCause.TheVariants.{BadVersion, NoIiop}
 use Rattle.object_refs.specs.Reference.{Reference, Profile}
 use Rattle.object_refs.specs.Layout.{has_components}
 use Rattle.object_refs.specs.Profiles.{first_of}
-use Rattle.object_refs.specs.Reading.{Read, Parsed, fault, ◌>>=◌, cdr, list_at}
+use Rattle.object_refs.specs.Reading.{Read, fault, cdr, tagged_list_at}
+use Rattle.cdr_core.specs.Sequence.{◌>>=◌}
 
 -- components, where the version has them
-unfoldable pub components_at : Bool → Cursor → Parsed (List Tagged)
-components_at present c = if present then list_at c else Ok ([], c)
+unfoldable pub components_at : Bool → Cursor → Reads (List Tagged)
+components_at present c = if present then tagged_list_at c else Ok ([], c)
 
 -- a profile of any version: its major version, and what stands behind that
-unfoldable pub versioned_at : Cursor → Parsed (ℕ × Profile)
+unfoldable pub versioned_at : Cursor → Reads (ℕ × Profile)
 versioned_at c = do
-  major ← cdr (number_at w8 c)
-  minor ← cdr (number_at w8 major.1)
-  host ← cdr (string_at minor.1)
-  port ← cdr (number_at w16 host.1)
-  key ← cdr (octets_at port.1)
+  major ← number_at w8 c
+  minor ← number_at w8 major.1
+  host ← string_at minor.1
+  port ← number_at w16 host.1
+  key ← octets_at port.1
   components ← components_at (has_components major.0 minor.0) key.1
   Ok (
     (
@@ -46,7 +47,7 @@ supported major p = if major == 1 && nat_lt 1 p.minor then Ok p else Err (fault 
 unfoldable pub profile_of : List ℕ → Read Profile
 profile_of bytes = do
   inner ← cdr (entered bytes)
-  any ← versioned_at inner
+  any ← cdr (versioned_at inner)
   supported any.0.0 any.0.1
 
 -- the profile in tagged data, where there is some

@@ -1,6 +1,7 @@
 -- What the data of an IIOP profile means, and which profile of a reference counts: CORBA 3.0.3, section 15.7.2. That
 -- profiles below version 1.2 are refused, and that the first profile of tag 0 alone counts, is own profile.
-use Rattle.std.specs.Prelude.{◌≡◌, ◌≤◌, ◌==◌, ℕ, List, Option, Some, find}
+use Rattle.std.specs.Prelude.{◌≡◌, ◌≤◌, ℕ, List, Option, Some}
+use Rattle.cdr_core.specs.Lists as Lists
 use Rattle.orb_base.specs.Tagged.{Tagged}
 use Rattle.orb_base.specs.declared.order.Order.{Order}
 use Rattle.orb_base.specs.declared.order.Order.TheVariants.{Big}
@@ -21,7 +22,7 @@ pub record IsProfile (p : Profile) (bytes : List ℕ) : Type 0 where
 
 -- the first profile of IIOP, if there is one
 abbrev pub first_of : List Tagged → Option Tagged
-first_of profiles = find (λ profile. profile.tag == iiop_tag) profiles
+first_of profiles = Lists.first_of (λ profile. profile.tag) iiop_tag profiles
 
 -- the reference's first profile of IIOP
 abbrev pub IsFirstProfile : Profile → Reference → Type 0

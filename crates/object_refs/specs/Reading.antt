@@ -1,9 +1,11 @@
--- Readings one behind the other, and the faults that they meet. The causes and their order are own profile.
-use Rattle.std.specs.Prelude.{ℕ, zero, suc, List, [], ◌∷◌, Result, Ok, Err}
-use Rattle.std.specs.Int.{w32}
+-- The faults that readings meet, and those of the Common Data Representation among them. The causes and their order are
+-- own profile.
+use Rattle.std.specs.Prelude.{ℕ, List, Result}
 use Rattle.orb_base.specs.Tagged.{Tagged}
-use Rattle.cdr_core.specs.Cursor.{Cursor}
-use Rattle.cdr_core.specs.Reading.{number_at, count_at, octets_at}
+use Rattle.cdr_core.specs.Cursor.{Cursor, Reads}
+use Rattle.cdr_core.specs.Lists as Lists
+pub use Rattle.cdr_core.specs.Sequence.{◌>>=◌}
+use Rattle.cdr_core.specs.Sequence.{told_as}
 use Rattle.cdr_core.specs.declared.fault.CdrFault.{CdrFault}
 use Rattle.object_refs.specs.declared.fault.RefFault.{RefFault}
 use Rattle.object_refs.specs.declared.fault.RefCause.{RefCause}
@@ -17,38 +19,14 @@ fault cause place = record { cause = cause; place = place }
 abbrev pub Read : Type 0 → Type 0
 Read A = Result A RefFault
 
--- a value and the cursor behind it, or the first fault
-abbrev pub Parsed : Type 0 → Type 0
-Parsed A = Read (A × Cursor)
-
-infixl 10 ◌>>=◌
--- one reading behind another; the first fault ends both
-abbrev pub ◌>>=◌ : {A B : Type 0} → Read A → (A → Read B) → Read B
-(Ok x) >>= f = f x
-(Err e) >>= f = Err e
+-- a fault of the Common Data Representation
+abbrev pub cdr_fault : CdrFault → RefFault
+cdr_fault f = fault (causes.Cdr f.cause) f.place
 
 -- what the Common Data Representation reads
 abbrev pub cdr : {A : Type 0} → Result A CdrFault → Read A
-cdr (Ok x) = Ok x
-cdr (Err f) = Err (fault (causes.Cdr f.cause) f.place)
-
--- so many, one behind the other
-unfoldable pub times : {A : Type 0} → (Cursor → Parsed A) → ℕ → Cursor → Parsed (List A)
-times one zero c = Ok ([], c)
-times one (suc n) c = do
-  first ← one c
-  others ← times one n first.1
-  Ok (first.0 ∷ others.0, others.1)
-
--- tagged data: its tag and its bytes
-unfoldable pub tagged_at : Cursor → Parsed Tagged
-tagged_at c = do
-  tag ← cdr (number_at w32 c)
-  bytes ← cdr (octets_at tag.1)
-  Ok (record { tag = tag.0; bytes = bytes.0 }, bytes.1)
+cdr reading = told_as cdr_fault reading
 
 -- tagged data behind their number
-unfoldable pub list_at : Cursor → Parsed (List Tagged)
-list_at c = do
-  count ← cdr (count_at c)
-  times tagged_at count.0 count.1
+abbrev pub tagged_list_at : Cursor → Reads (List Tagged)
+tagged_list_at = Lists.list_at (Lists.made_at Lists.tagged_of)

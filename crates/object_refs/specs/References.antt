@@ -6,7 +6,7 @@ use Rattle.std.specs.Char.{to_ascii_lowercase}
 use Rattle.std.specs.Str.{bytes_eq}
 use Rattle.orb_base.specs.declared.order.Order.{Order}
 use Rattle.orb_base.specs.declared.order.Order.TheVariants.{Big}
-use Rattle.cdr_core.specs.Cursor.{Cursor}
+use Rattle.cdr_core.specs.Cursor.{Cursor, Reads}
 use Rattle.cdr_core.specs.Encapsulation.{Encapsulates, encapsulation}
 use Rattle.cdr_core.specs.Reading.{string_at, entered}
 use Rattle.hex.specs.Hex.{decode_of, encode_lower}
@@ -17,7 +17,8 @@ use Rattle.object_refs.specs.declared.fault.RefFault.{RefFault}
 use Rattle.object_refs.specs.declared.fault.RefCause.TheVariants.{NoPrefix, OddHex, BadHex}
 use Rattle.object_refs.specs.Reference.{Reference}
 use Rattle.object_refs.specs.Layout.{reference_fields, FitsReference}
-use Rattle.object_refs.specs.Reading.{Read, Parsed, fault, ◌>>=◌, cdr, list_at}
+use Rattle.object_refs.specs.Reading.{Read, fault, cdr, tagged_list_at}
+use Rattle.cdr_core.specs.Sequence.{◌>>=◌}
 
 -- what a text begins with, its letters in lower case
 abbrev pub lower_prefix : List ℕ
@@ -40,8 +41,8 @@ pub record IsReference (r : Reference) (text : List ℕ) : Type 0 where
   pub encapsulated : IsEncapsulated r bytes
 
 -- the one text of a reference that is written
-abbrev pub reference_text : Reference → List ℕ
-reference_text r = codes "IOR:" ++ encode_lower (encapsulation Big (reference_fields r))
+abbrev pub stringified : Reference → List ℕ
+stringified r = codes "IOR:" ++ encode_lower (encapsulation Big (reference_fields r))
 
 -- the digits behind the prefix
 unfoldable pub digits_of : List ℕ → Read (List ℕ)
@@ -62,17 +63,17 @@ decoded len (Ok bytes) = Ok bytes
 decoded len (Err e) = Err (digits_fault len e)
 
 -- a reference: the repository id of its type, and its profiles
-unfoldable pub reference_at : Cursor → Parsed Reference
+unfoldable pub reference_at : Cursor → Reads Reference
 reference_at c = do
-  type_id ← cdr (string_at c)
-  profiles ← list_at type_id.1
+  type_id ← string_at c
+  profiles ← tagged_list_at type_id.1
   Ok (record { type_id = type_id.0; profiles = profiles.0 }, profiles.1)
 
 -- the reference that the bytes encapsulate
 unfoldable pub reference_in : List ℕ → Read Reference
 reference_in bytes = do
   inner ← cdr (entered bytes)
-  reference ← reference_at inner
+  reference ← cdr (reference_at inner)
   Ok reference.0
 
 -- the reference of a text

@@ -1,6 +1,8 @@
 //! Object URLs of the scheme corbaloc: CORBA 3.0.3, section 13.6.10.
-ghost use Rattle.std.specs.Prelude.{◌≡◌, IfOk, Ok, option_map};
-ghost use Rattle.object_refs.specs.Answers.{Answers};
+ghost use Rattle.std.specs.Prelude.{◌≡◌, IfOk, IfErr, IfSome, Ok, Err, option_map};
+ghost use Rattle.object_refs.specs.Answers.{Answers, fault_of};
+ghost use Rattle.object_refs.specs.declared.fault.RefFault.{RefFault as Fault};
+ghost use Rattle.object_refs.specs.RefusingTexts.{RefusesLocation};
 ghost use Rattle.object_refs.specs.Locations.{IsLocation};
 ghost use Rattle.object_refs.specs.LocationReading.{behind, behind_protocol, location_of};
 ghost use Rattle.object_refs.specs.Reference as Spec;
@@ -82,6 +84,10 @@ pub fn parse_corbaloc(alloc: Global, text: &[u8]) -> Result<Corbaloc, RefError>
     ensures found { IfOk result (λ l. IsLocation l text.now) }
     // What the text names is read, unless memory is wanting.
     ensures only { (l : Spec.Location) → IsLocation l text.now → Answers (λ l. l) result (Ok l) }
+    // A fault that is told is the first one.
+    ensures fails { IfErr result (λ e. IfSome (fault_of e) (RefusesLocation text.now)) }
+    // The first fault is told, unless memory is wanting.
+    ensures told { (f : Fault) → RefusesLocation text.now f → Answers {Y = Spec.Location} (λ l. l) result (Err f) }
 {
     location(alloc, text)
 }

@@ -1,9 +1,10 @@
 //! Why a reference is refused.
 ghost use Rattle.std.specs.Prelude.{◌≡◌, ◌-◌, length};
-ghost use Rattle.object_refs.specs.Reading.{fault};
+ghost use Rattle.object_refs.specs.Reading.{fault, cdr_fault};
+ghost use Rattle.object_refs.specs.Errors.{ref_error};
 ghost use Rattle.object_refs.specs.declared.fault.RefError.TheVariants.{Refused};
 
-use cdr_core::CdrCause;
+use cdr_core::{CdrCause, CdrError, CdrFault};
 use thiserror::Error;
 
 /// What is wrong with a reference: own profile. A stringified reference is tested for NoPrefix, OddHex, BadHex and Cdr
@@ -60,6 +61,28 @@ pub enum RefError {
     /// Memory was wanting.
     #[error("out of memory")]
     NoMemory,
+}
+
+impl From<CdrFault> for RefError {
+    ghost from_gives = { λ found e. e ≡ Refused (cdr_fault found) };
+
+    fn from(found: CdrFault) -> RefError {
+        RefError::Refused(RefFault {
+            cause: RefCause::Cdr(found.cause),
+            place: found.place,
+        })
+    }
+}
+
+impl From<CdrError> for RefError {
+    ghost from_gives = { λ error e. e ≡ ref_error error };
+
+    fn from(error: CdrError) -> RefError {
+        match error {
+            CdrError::Refused(found) => RefError::from(found),
+            CdrError::NoMemory => RefError::NoMemory,
+        }
+    }
 }
 
 /// A fault of a text at the first byte of what is left of it.

@@ -1,6 +1,10 @@
 //! The reading of IIOP profiles: CORBA 3.0.3, section 15.7.2.
-ghost use Rattle.std.specs.Prelude.{◌≡◌, ℕ, IfOk, Ok, option_map};
-ghost use Rattle.object_refs.specs.Answers.{Answers, Gives};
+ghost use Rattle.std.specs.Prelude.{◌≡◌, ℕ, IfOk, IfErr, IfSome, Ok, Err, option_map};
+ghost use Rattle.cdr_core.specs.Answers.{Gives};
+ghost use Rattle.cdr_core.specs.Errors as cdr;
+ghost use Rattle.object_refs.specs.Answers.{Answers, fault_of};
+ghost use Rattle.object_refs.specs.declared.fault.RefFault.{RefFault as Fault};
+ghost use Rattle.object_refs.specs.Refusing.{RefusesProfile, RefusesFirst};
 ghost use Rattle.object_refs.specs.Layout.{has_components};
 ghost use Rattle.object_refs.specs.Profiles.{first_of, IsProfile, IsFirstProfile};
 ghost use Rattle.object_refs.specs.ProfileReading.{components_at, versioned_at, supported};
@@ -10,8 +14,8 @@ ghost use Rattle.object_refs.specs.Reference as Spec;
 use crate::fault::{RefCause, RefError, RefFault};
 use crate::iiop_profile::IiopProfile;
 use crate::ior::Ior;
-use crate::take::{entered, take_list, take_octets, take_text, take_u8, take_u16};
-use cdr_core::Reader;
+use crate::take::{take_octets, take_text};
+use cdr_core::{CdrError, Reader, take_list};
 use orb_base::{List, Tagged};
 use std::alloc::Global;
 
@@ -31,8 +35,8 @@ fn components(
     alloc: Global,
     present: bool,
     reader: &mut Reader<'_>,
-) -> Result<List<Tagged>, RefError>
-    ensures { Gives (λ l. l.items) result reader.new (components_at present reader.old) }
+) -> Result<List<Tagged>, CdrError>
+    ensures { Gives cdr.fault_of (λ l. l.items) result reader.new (components_at present reader.old) }
 {
     if present {
         take_list(alloc, reader)
@@ -43,13 +47,13 @@ fn components(
 
 /// Takes a profile of any version, and gives its major version with it.
 #[tactic(auto, unfolding(crate::specs::ProfileReading::versioned_at))]
-fn versioned(alloc: Global, reader: &mut Reader<'_>) -> Result<(u8, IiopProfile), RefError>
-    ensures { Gives {Y = ℕ × Spec.Profile} (λ x. x) result reader.new (versioned_at reader.old) }
+fn versioned(alloc: Global, reader: &mut Reader<'_>) -> Result<(u8, IiopProfile), CdrError>
+    ensures { Gives {Y = ℕ × Spec.Profile} cdr.fault_of (λ x. x) result reader.new (versioned_at reader.old) }
 {
-    let major = take_u8(reader)?;
-    let minor = take_u8(reader)?;
+    let major = reader.take_u8()?;
+    let minor = reader.take_u8()?;
     let host = take_text(alloc, reader)?;
-    let port = take_u16(reader)?;
+    let port = reader.take_u16()?;
     let key = take_octets(alloc, reader)?;
     let components = components(alloc, has_components(major, minor), reader)?;
     let profile = IiopProfile {
@@ -82,7 +86,7 @@ fn supported(major: u8, profile: IiopProfile) -> Result<IiopProfile, RefError>
 fn profile_of(alloc: Global, bytes: &[u8]) -> Result<IiopProfile, RefError>
     ensures { Answers (λ p. p) result (profile_of bytes.now) }
 {
-    let mut reader = entered(bytes)?;
+    let mut reader = Reader::encapsulated(bytes)?;
     let (major, profile) = versioned(alloc, &mut reader)?;
     supported(major, profile)
 }
@@ -92,6 +96,8 @@ fn meant(alloc: Global, bytes: &[u8]) -> Result<IiopProfile, RefError>
     ensures exact { Answers (λ p. p) result (profile_of bytes.now) }
     ensures found { IfOk result (λ p. IsProfile p bytes.now) }
     ensures only { (p : Spec.Profile) → IsProfile p bytes.now → Answers (λ p. p) result (Ok p) }
+    ensures fails { IfErr result (λ e. IfSome (fault_of e) (RefusesProfile bytes.now)) }
+    ensures told { (f : Fault) → RefusesProfile bytes.now f → Answers {Y = Spec.Profile} (λ p. p) result (Err f) }
 {
     profile_of(alloc, bytes)
 }
@@ -115,6 +121,10 @@ pub fn first_iiop(alloc: Global, ior: &Ior) -> Result<IiopProfile, RefError>
     ensures found { IfOk result (λ p. IsFirstProfile p ior.now) }
     // The first profile of a reference is read, unless memory is wanting.
     ensures only { (p : Spec.Profile) → IsFirstProfile p ior.now → Answers (λ p. p) result (Ok p) }
+    // A fault that is told is the first one.
+    ensures fails { IfErr result (λ e. IfSome (fault_of e) (RefusesFirst ior.now)) }
+    // The first fault is told, unless memory is wanting.
+    ensures told { (f : Fault) → RefusesFirst ior.now f → Answers {Y = Spec.Profile} (λ p. p) result (Err f) }
 {
     match first_of(ior.profiles.as_slice()) {
         Some(tagged) => meant(alloc, tagged.bytes.as_slice()),

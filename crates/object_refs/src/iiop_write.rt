@@ -5,14 +5,14 @@ ghost use Rattle.orb_base.specs.declared.order.Order.TheVariants.{Big};
 ghost use Rattle.cdr_core.specs.Encapsulation.{encapsulation};
 ghost use Rattle.cdr_core.specs.Field.{number, string_fields, octets_fields};
 ghost use Rattle.cdr_core.specs.Writing.{Puts};
-ghost use Rattle.object_refs.specs.Layout.{AreCounted, FitsProfile, IsCountedProfile};
+ghost use Rattle.cdr_core.specs.Lists.{AreCounted, item_of_tagged};
+ghost use Rattle.object_refs.specs.Layout.{FitsProfile, IsCountedProfile};
 ghost use Rattle.object_refs.specs.Layout.{components_fields, profile_fields};
 ghost use Rattle.object_refs.specs.Profiles.{IsProfile, tagged_profile};
 
 use crate::iiop_profile::IiopProfile;
 use crate::iiop_read::IIOP_TAG;
-use crate::put::put_list;
-use cdr_core::Writer;
+use cdr_core::{Writer, put_list};
 use orb_base::{NoMemory, Octets, Order, Tagged, Text};
 use std::alloc::Global;
 
@@ -35,7 +35,7 @@ fn put_version(into: &mut Writer, minor: u8) -> Result<(), NoMemory>
 
 /// Puts components, where the version has them.
 fn put_components(into: &mut Writer, present: bool, list: &[Tagged]) -> Result<(), NoMemory>
-    requires { AreCounted list.now }
+    requires { AreCounted item_of_tagged list.now }
     ensures { Puts result into.old into.new (components_fields present list.now) }
 {
     if present {

@@ -1,15 +1,19 @@
 //! The reading of stringified references: CORBA 3.0.3, section 13.6.9.
-ghost use Rattle.std.specs.Prelude.{◌≡◌, ◌+◌, length, IfOk, Ok};
+ghost use Rattle.std.specs.Prelude.{◌≡◌, ◌+◌, length, IfOk, IfErr, IfSome, Ok, Err};
 ghost use Rattle.hex.specs.Hex.{decode_of};
-ghost use Rattle.object_refs.specs.Answers.{Answers, Gives};
+ghost use Rattle.cdr_core.specs.Answers.{Gives};
+ghost use Rattle.cdr_core.specs.Errors as cdr;
+ghost use Rattle.object_refs.specs.Answers.{Answers, fault_of};
+ghost use Rattle.object_refs.specs.declared.fault.RefFault.{RefFault as Fault};
+ghost use Rattle.object_refs.specs.RefusingTexts.{RefusesReference};
 ghost use Rattle.object_refs.specs.Reference as Spec;
 ghost use Rattle.object_refs.specs.References.{IsReference, decoded, digits_of};
 ghost use Rattle.object_refs.specs.References.{reference_at, reference_in, reference_of};
 
 use crate::fault::{RefCause, RefError, RefFault};
 use crate::ior::Ior;
-use crate::take::{entered, take_list, take_text};
-use cdr_core::Reader;
+use crate::take::take_text;
+use cdr_core::{CdrError, Reader, take_list};
 use hex::FromHexError;
 use std::alloc::Global;
 
@@ -56,8 +60,8 @@ fn decoded(alloc: Global, len: usize, digits: &[u8]) -> Result<Vec<u8>, RefError
 
 /// Takes a reference.
 #[tactic(auto, unfolding(crate::specs::References::reference_at))]
-fn reference(alloc: Global, reader: &mut Reader<'_>) -> Result<Ior, RefError>
-    ensures { Gives (λ r. r) result reader.new (reference_at reader.old) }
+fn reference(alloc: Global, reader: &mut Reader<'_>) -> Result<Ior, CdrError>
+    ensures { Gives cdr.fault_of (λ r. r) result reader.new (reference_at reader.old) }
 {
     let type_id = take_text(alloc, reader)?;
     let profiles = take_list(alloc, reader)?;
@@ -69,8 +73,9 @@ fn reference(alloc: Global, reader: &mut Reader<'_>) -> Result<Ior, RefError>
 fn reference_in(alloc: Global, bytes: &[u8]) -> Result<Ior, RefError>
     ensures { Answers (λ r. r) result (reference_in bytes.now) }
 {
-    let mut reader = entered(bytes)?;
-    reference(alloc, &mut reader)
+    let mut reader = Reader::encapsulated(bytes)?;
+    let ior = reference(alloc, &mut reader)?;
+    Ok(ior)
 }
 
 /// The reference of a text.
@@ -94,6 +99,10 @@ pub fn parse_ior(alloc: Global, text: &[u8]) -> Result<Ior, RefError>
     ensures found { IfOk result (λ r. IsReference r text.now) }
     // What the text means is read, unless memory is wanting.
     ensures only { (r : Spec.Reference) → IsReference r text.now → Answers (λ r. r) result (Ok r) }
+    // A fault that is told is the first one.
+    ensures fails { IfErr result (λ e. IfSome (fault_of e) (RefusesReference text.now)) }
+    // The first fault is told, unless memory is wanting.
+    ensures told { (f : Fault) → RefusesReference text.now f → Answers {Y = Spec.Reference} (λ r. r) result (Err f) }
 {
     reference_of(alloc, text)
 }

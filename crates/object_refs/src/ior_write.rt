@@ -6,11 +6,10 @@ ghost use Rattle.cdr_core.specs.Encapsulation.{encapsulation};
 ghost use Rattle.cdr_core.specs.Writing.{Puts};
 ghost use Rattle.hex.specs.Hex.{encode_lower};
 ghost use Rattle.object_refs.specs.Layout.{FitsReference, IsCountedReference, reference_fields};
-ghost use Rattle.object_refs.specs.References.{IsReference, reference_text};
+ghost use Rattle.object_refs.specs.References.{IsReference, stringified};
 
 use crate::ior::Ior;
-use crate::put::put_list;
-use cdr_core::Writer;
+use cdr_core::{Writer, put_list};
 use orb_base::{NoMemory, Octets, Order, Text};
 use std::alloc::Global;
 
@@ -53,7 +52,7 @@ fn digits_text(alloc: Global, bytes: &[u8]) -> Result<Text, NoMemory>
 /// order. Each length must be below 2^32. Work grows with the reference.
 pub fn ior_text(alloc: Global, ior: &Ior) -> Result<Text, NoMemory>
     requires { IsCountedReference ior.now }
-    ensures text { IfOk result (λ t. t ≡ reference_text ior.now) }
+    ensures text { IfOk result (λ t. t ≡ stringified ior.now) }
     // What is written is read as the reference.
     ensures reads_back { FitsReference ior.now → IfOk result (IsReference ior.now) }
 {

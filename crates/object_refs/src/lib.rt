@@ -16,7 +16,6 @@ mod ior_read;
 mod ior_write;
 pub mod laws;
 mod port;
-mod put;
 mod take;
 
 pub use corbaloc::{Corbaloc, parse_corbaloc};

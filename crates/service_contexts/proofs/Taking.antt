@@ -16,7 +16,7 @@ use Rattle.cdr_core.specs.Cursor.{Cursor, AreBytes}
 use Rattle.cdr_core.specs.Reading.{number_at, count_at}
 use Rattle.cdr_core.specs.Passing.{Spans}
 use Rattle.cdr_core.proofs.CallerLemmas.{spans_then, spans_split, length-spelled, number_takes, number_reads}
-use Rattle.cdr_core.proofs.CallerLemmas.{count_takes, count_reads}
+use Rattle.cdr_core.proofs.CallerLemmas.{count_takes, count_reads, nothing, same_cursor}
 use Rattle.service_contexts.specs.Layout.{IsPriority, IsBand, ModelValue, IsModelValue, AreBands, priority_fields}
 use Rattle.service_contexts.specs.Layout.{band_fields, model_fields, bands_fields}
 use Rattle.service_contexts.specs.Reading.{Taken, priority_at, band_at, model_at, times, bands_at}
@@ -135,18 +135,6 @@ model_again c d v lawful p =
     ) refl
 
 -- ---- several
-
-nothing : (c : Cursor) → Spans c c []
-nothing c = record { spelling = []; parts = refl; spelled = refl; order = refl; place = omega arith }
-
--- between no fields one stands where one stood
-same_cursor : (c d : Cursor) → Spans c d [] → c ≡ d
-same_cursor c d p =
-    let none : p.spelling ≡ [] = p.spelled in
-    let order = sym p.order in
-    let place : c.place ≡ d.place = omega (arith, p.place, ap length none) in
-    let rest : c.rest ≡ d.rest = p.parts ∙ ap (λ (x : List ℕ). x ++ d.rest) none in
-    λ i. record { order = order i; place = place i; rest = rest i }
 
 -- so many lawful values between two cursors
 pub record TookAll (A : Type 0) (IsLawful : A → Type 0) (fields : A → List Field) (n : ℕ) (c d : Cursor)

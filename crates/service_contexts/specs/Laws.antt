@@ -1,5 +1,6 @@
 -- What readings and spellings of contexts and policy values have to do with each other.
-use Rattle.std.specs.Prelude.{◌≡◌, ℕ, List, ◌++◌, ◌↔◌, Option, Some}
+use Rattle.std.specs.Prelude.{◌≡◌, ℕ, List, ◌++◌, Option, Some}
+use Rattle.cdr_core.specs.Answers as Cdr
 use Rattle.orb_base.specs.Tagged.{Context}
 use Rattle.orb_base.specs.declared.order.Order.{Order}
 use Rattle.cdr_core.specs.Field.{Field}
@@ -13,7 +14,7 @@ use Rattle.service_contexts.specs.Telling.{Tells, IsFirstFault}
 
 -- the answer is the value of which the fact holds, and None where it holds of none
 abbrev pub IsExactly : {A : Type 0} → Option A → (A → Type 0) → Type 0
-IsExactly {A} answer Fact = (value : A) → (answer ≡ Some value) ↔ Fact value
+IsExactly {A} = Cdr.IsExactly {A = A} {B = Option A} (λ value. Some value)
 
 -- a value is read as it is spelled: its reading takes what the bytes carry; what is spelled, in either order and whatever
 -- follows, is read as that value and carries it; bytes carry at most one

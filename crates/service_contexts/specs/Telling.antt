@@ -1,6 +1,7 @@
 -- What the service contexts of a message tell of priorities: Real-time CORBA 1.2, CORBA priorities and Priority banded
 -- connections. That the first context of an id counts is own profile.
-use Rattle.std.specs.Prelude.{◌≡◌, ℕ, ◌==◌, List, ◌∷◌, ◌++◌, Option, Some, None, find, ◌⊎◌}
+use Rattle.std.specs.Prelude.{◌≡◌, ℕ, List, ◌∷◌, ◌++◌, Option, Some, None, ◌⊎◌}
+use Rattle.cdr_core.specs.Lists as Lists
 use Rattle.orb_base.specs.Span.{Span}
 use Rattle.orb_base.specs.Tagged.{Context}
 use Rattle.service_contexts.specs.declared.contexts.Contexts.{Contexts}
@@ -10,7 +11,7 @@ use Rattle.service_contexts.specs.Carrying.{CarriesPriority, CarriesBand}
 
 -- the first context of an id, if there is one
 abbrev pub first_of : ℕ → List Context → Option Context
-first_of id list = find (λ context. context.id == id) list
+first_of id list = Lists.first_of (λ context. context.id) id list
 
 -- what the first context of an id carries, or None where there is none of the id
 abbrev pub TellsFirst : {A : Type 0} → ℕ → (A → List ℕ → Type 0) → List Context → Option A → Type 0

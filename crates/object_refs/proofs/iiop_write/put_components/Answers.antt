@@ -1,4 +1,4 @@
-use Rattle.object_refs.proofs.Puts.{written_none}
+use Rattle.cdr_core.proofs.CallerLemmas.{written_none}
 use Rattle.object_refs.proofs.iiop_write.put_components.Goals as goal
 
 pub returns-else-present : goal.returns-else-present

@@ -4,7 +4,7 @@ use Rattle.std.specs.Int.{w8, w16}
 use Rattle.cdr_core.specs.Field.{number, string_fields, octets_fields}
 use Rattle.cdr_core.proofs.CallerLemmas.{puts_then, puts_first}
 use Rattle.object_refs.specs.Layout.{components_fields}
-use Rattle.object_refs.proofs.Puts.{written_both, front_then}
+use Rattle.cdr_core.proofs.CallerLemmas.{written_both, front_then}
 use Rattle.object_refs.proofs.iiop_write.put_profile.Goals as goal
 
 pub returns-in_err-put_version : goal.returns-in_err-put_version
