@@ -15,8 +15,7 @@ pub struct StdSource<R: Read + Drop> {
 impl<R: Read + Drop> StdSource<R> {
     /// A source over the reader, with its counts at 0.
     pub fn new(reader: R) -> StdSource<R>
-        ensures faults { ⟦<StdSource<R> as Source>⟧.faults result ≡ 0 }
-        ensures ends { ⟦<StdSource<R> as Source>⟧.ends result ≡ 0 }
+        ensures { ⟦<StdSource<R> as Source>⟧.state result ≡ record { left = None; taken = None; faults = 0; ends = 0 } }
     {
         StdSource {
             reader,
@@ -27,13 +26,7 @@ impl<R: Read + Drop> StdSource<R> {
 }
 
 impl<R: Read + Drop> Source for StdSource<R> {
-    ghost left = { λ _. None };
-
-    ghost taken = { λ _. None };
-
-    ghost faults = { λ s. s.faults };
-
-    ghost ends = { λ s. s.ends };
+    ghost state = { λ s. record { left = None; taken = None; faults = s.faults; ends = s.ends } };
 
     fn read(&mut self, into: &mut [u8]) -> Got {
         match self.reader.read(into) {

@@ -1,7 +1,8 @@
--- The answers of the top call where its words mean the pipe.
-use Rattle.std.proofs.Common.{ℕ, refl}
+-- The answers of the top call, by what its words mean.
+use Rattle.std.proofs.Common.{◌≡◌, ℕ, List, refl, ap, ◌∙◌, subst, sym, inl, inr, arith}
 use Rattle.std.specs.Prelude.{Result, Ok, Err}
-use Rattle.orb_base.specs.Outside.{Told}
+use Rattle.orb_base.specs.Outside.{SourceState, SinkState, Rose}
+use Rattle.orb_base.specs.declared.no_memory.NoMemory.{NoMemory}
 use Rattle.orb_command.specs.declared.ends.ReadEnd.{ReadEnd}
 use Rattle.orb_command.specs.declared.ends.ReadEnd.TheVariants as read
 use Rattle.orb_command.specs.declared.ends.WriteEnd.{WriteEnd}
@@ -9,48 +10,107 @@ use Rattle.orb_command.specs.declared.ends.WriteEnd.TheVariants as write
 use Rattle.orb_command.specs.declared.ends.Piped.{Piped}
 use Rattle.orb_command.specs.declared.ends.PipeFault.{PipeFault}
 use Rattle.orb_command.specs.declared.ends.PipeFault.TheVariants as fault
-use Rattle.orb_base.specs.declared.no_memory.NoMemory.{NoMemory}
 use Rattle.giop_dump.specs.declared.dump_end.DumpEnd.{DumpEnd}
-use Rattle.giop_dump.specs.declared.dump_end.TheConstants.{MAX_DUMPED}
-use Rattle.text_streams.specs.Streams.{GaveFew}
-use Rattle.giop_dump.specs.Dump.{Dumps}
-use Rattle.orb_command.specs.DumpAnswer.{dump_note, DumpAnswers}
+use Rattle.giop_dump.specs.declared.dump_end.DumpEnd.TheVariants as dump
+use Rattle.giop_dump.specs.Dump.{Dumps, FaultsOf}
 use Rattle.reference_lines.specs.declared.refs_end.RefsEnd.{RefsEnd}
-use Rattle.reference_lines.specs.Refs.{Refs}
-use Rattle.orb_command.specs.RefsAnswer.{refs_note, RefsAnswers}
+use Rattle.reference_lines.specs.declared.refs_end.RefsEnd.TheVariants as refs
+use Rattle.reference_lines.specs.Refs.{Refs, RefsBytes}
+use Rattle.text_streams.proofs.CallerLemmas.{gave_none}
+use Rattle.orb_command.specs.declared.answered.Answered.{Answered}
+use Rattle.orb_command.specs.declared.meaning.Meaning.TheVariants.{Pipe, Dump, Refs as RefsMeaning, Unbuilt, Unread}
+use Rattle.orb_command.specs.declared.note.Note.TheVariants.{Usage, NotBuilt}
+use Rattle.orb_command.specs.Moment.{Moment}
 use Rattle.orb_command.specs.Ping.{ping_outcome}
-use Rattle.orb_command.specs.Pipe.{Pipes, PipesTo}
-use Rattle.orb_command.specs.Command.{PipeAnswers, note_of, note_of_ends}
+use Rattle.orb_command.specs.Pipe.{Pipes, PipesTo, PipesBytes}
+use Rattle.orb_command.specs.PipeAnswer.{note_of, note_of_ends}
+use Rattle.orb_command.specs.DumpAnswer.{dump_note}
+use Rattle.orb_command.specs.RefsAnswer.{refs_note}
+use Rattle.orb_command.specs.Command.{status_of, FaultsAt, Answers}
 
-ends_answer : (read_end : ReadEnd) (write_end : WriteEnd) (left held held' : Told) (reads ends writes : ℕ × ℕ) → PipesTo read_end write_end ping_outcome left held held' reads ends writes → PipeAnswers (note_of_ends read_end write_end) left held held' reads ends writes
-ends_answer read.Ended write.Done left held held' reads ends writes h = (h.0, h.1)
-ends_answer read.RunClosed write.Closed left held held' reads ends writes h = (h.0, h.1)
-ends_answer read.RunClosed write.WriteFault left held held' reads ends writes h = (h.0, h.1)
-ends_answer read.Stopped write.WriteFault left held held' reads ends writes h = (h.0, h.1)
-ends_answer read.ReadFault write.Done left held held' reads ends writes h = (h.0, h.1)
-ends_answer read.Ended write.Closed left held held' reads ends writes h = absurd h
-ends_answer read.Ended write.WriteFault left held held' reads ends writes h = absurd h
-ends_answer read.RunClosed write.Done left held held' reads ends writes h = absurd h
-ends_answer read.Stopped write.Done left held held' reads ends writes h = absurd h
-ends_answer read.Stopped write.Closed left held held' reads ends writes h = absurd h
-ends_answer read.ReadFault write.Closed left held held' reads ends writes h = absurd h
-ends_answer read.ReadFault write.WriteFault left held held' reads ends writes h = absurd h
+-- ---- the pipe
 
-pub pipes_answers : (ran : Result Piped PipeFault) (left held held' : Told) (reads ends writes : ℕ × ℕ) → Pipes ran ping_outcome left held held' reads ends writes → PipeAnswers (note_of ran) left held held' reads ends writes
-pipes_answers (Ok piped) left held held' reads ends writes h = ends_answer piped.read piped.write left held held' reads ends writes h
-pipes_answers (Err fault.NotBuilt) left held held' reads ends writes h = (h.0, h.1)
-pipes_answers (Err fault.NoMemory) left held held' reads ends writes h = h
+ends_faults : (read_end : ReadEnd) (write_end : WriteEnd) (bytes : List ℕ) (before after : Moment)
+    → PipesTo read_end write_end ping_outcome bytes before.input after.input before.out after.out → FaultsAt (note_of_ends read_end write_end) before after
+ends_faults read.Ended write.Done bytes before after h = (h.0.2, h.1.1)
+ends_faults read.RunClosed write.Closed bytes before after h = (h.0.2, h.1.1)
+ends_faults read.RunClosed write.WriteFault bytes before after h = (h.0.2, h.1.1)
+ends_faults read.Stopped write.WriteFault bytes before after h = (h.0.2, h.1.1)
+ends_faults read.ReadFault write.Done bytes before after h = (h.1, ap (λ (o : SinkState). o.faults) h.2)
+ends_faults read.Ended write.Closed bytes before after h = absurd h.1
+ends_faults read.Ended write.WriteFault bytes before after h = absurd h.1
+ends_faults read.RunClosed write.Done bytes before after h = absurd h.1
+ends_faults read.Stopped write.Done bytes before after h = absurd h.1
+ends_faults read.Stopped write.Closed bytes before after h = absurd h.1
+ends_faults read.ReadFault write.Closed bytes before after h = absurd h.1
+ends_faults read.ReadFault write.WriteFault bytes before after h = absurd h.1
 
--- the answers where the words mean a dump
-pub dumps_answers : (answer : Result DumpEnd NoMemory) (left left' taken taken' held held' : Told) (reads ends writes : ℕ × ℕ) → Dumps answer left left' taken taken' held held' reads ends writes → DumpAnswers (dump_note answer) left left' taken taken' held held' reads ends writes
-dumps_answers answer left left' taken taken' held held' reads ends writes h = record { answer = answer; told = refl; dumps = h }
+pipe_faults : (ran : Result Piped PipeFault) (bytes : List ℕ) (before after : Moment) → PipesBytes ran ping_outcome bytes before.input after.input before.out after.out → FaultsAt (note_of ran) before after
+pipe_faults (Ok piped) bytes before after h = ends_faults piped.read piped.write bytes before after h
+pipe_faults (Err fault.NotBuilt) bytes before after h = (elim h.1 [ inl whole ↦ whole.2 | inr long ↦ long.1 ], ap (λ (o : SinkState). o.faults) h.2)
+pipe_faults (Err fault.NoMemory) bytes before after h = tt
 
-pub dumps_few : (answer : Result DumpEnd NoMemory) (left left' taken taken' held held' : Told) (reads ends writes : ℕ × ℕ) → Dumps answer left left' taken taken' held held' reads ends writes → GaveFew MAX_DUMPED left left' taken taken'
-dumps_few answer left left' taken taken' held held' reads ends writes h = record { bytes = h.bytes; few = h.few; gave = h.gave }
+pub pipe_answers : (ran : Result Piped PipeFault) (answered : Answered) (before after : Moment) → Pipes ran ping_outcome before.input after.input before.out after.out
+    → answered.note ≡ note_of ran → answered.status ≡ status_of (note_of ran) → Answers Pipe answered before after
+pipe_answers ran answered before after h note status = record {
+  status = status ∙ ap status_of (sym note);
+  means = record { answer = ran; told = note; pipes = h };
+  faults = subst (λ n. FaultsAt n before after) (sym note) (pipe_faults ran h.bytes before after h.came);
+  few = record { bytes = h.bytes; few = h.few; gave = h.gave };
+}
 
--- the answers where the words mean `refs`
-pub refs_answers : (answer : Result RefsEnd NoMemory) (left left' taken taken' held held' : Told) (reads ends writes : ℕ × ℕ) → Refs answer left left' taken taken' held held' reads ends writes → RefsAnswers (refs_note answer) left left' taken taken' held held' reads ends writes
-refs_answers answer left left' taken taken' held held' reads ends writes h = record { answer = answer; told = refl; refs = h }
+-- ---- a dump
 
-pub refs_few : (answer : Result RefsEnd NoMemory) (left left' taken taken' held held' : Told) (reads ends writes : ℕ × ℕ) → Refs answer left left' taken taken' held held' reads ends writes → GaveFew 65538 left left' taken taken'
-refs_few answer left left' taken taken' held held' reads ends writes h = record { bytes = h.bytes; few = h.few; gave = h.gave }
+dump_faults : (ran : Result DumpEnd NoMemory) (before after : Moment) → FaultsOf ran before.input after.input before.out after.out → FaultsAt (dump_note ran) before after
+dump_faults (Ok dump.Done) before after h = h
+dump_faults (Ok (dump.Refused r)) before after h = h.1
+dump_faults (Ok dump.Spent) before after h = h
+dump_faults (Ok dump.ReadFault) before after h = h
+dump_faults (Ok dump.WriteFault) before after h = h
+dump_faults (Err e) before after h = tt
+
+pub dump_answers : (ran : Result DumpEnd NoMemory) (answered : Answered) (before after : Moment) → Dumps ran before.input after.input before.out after.out
+    → answered.note ≡ dump_note ran → answered.status ≡ status_of (dump_note ran) → Answers Dump answered before after
+dump_answers ran answered before after h note status = record {
+  status = status ∙ ap status_of (sym note);
+  means = record { answer = ran; told = note; dumps = h };
+  faults = subst (λ n. FaultsAt n before after) (sym note) (dump_faults ran before after h.faults);
+  few = record { bytes = h.bytes; few = h.few; gave = h.gave };
+}
+
+-- ---- a reference
+
+refs_faults : (ran : Result RefsEnd NoMemory) (bytes : List ℕ) (before after : Moment) → RefsBytes ran bytes before.input after.input before.out after.out → FaultsAt (refs_note ran) before after
+refs_faults (Ok refs.Done) bytes before after h = (h.1, h.3.1)
+refs_faults (Ok (refs.Refused f)) bytes before after h = (h.1, ap (λ (o : SinkState). o.faults) h.3.2)
+refs_faults (Ok refs.TooLong) bytes before after h = ap (λ (o : SinkState). o.faults) h.1
+refs_faults (Ok refs.ReadFault) bytes before after h = (h.2, ap (λ (o : SinkState). o.faults) h.3)
+refs_faults (Ok refs.WriteFault) bytes before after h = (h.1, h.3.1)
+refs_faults (Err e) bytes before after h = tt
+
+pub refs_answers : (ran : Result RefsEnd NoMemory) (answered : Answered) (before after : Moment) → Refs ran before.input after.input before.out after.out
+    → answered.note ≡ refs_note ran → answered.status ≡ status_of (refs_note ran) → Answers RefsMeaning answered before after
+refs_answers ran answered before after h note status = record {
+  status = status ∙ ap status_of (sym note);
+  means = record { answer = ran; told = note; refs = h };
+  faults = subst (λ n. FaultsAt n before after) (sym note) (refs_faults ran h.bytes before after h.came);
+  few = record { bytes = h.bytes; few = h.few; gave = h.gave };
+}
+
+-- ---- no command that is built
+
+pub unbuilt_answers : (answered : Answered) (before : Moment) → answered.note ≡ NotBuilt → answered.status ≡ 14 → Answers Unbuilt answered before before
+unbuilt_answers answered before note status = record {
+  status = status ∙ ap status_of (sym note);
+  means = (note, refl);
+  faults = subst (λ n. FaultsAt n before before) (sym note) (refl, refl);
+  few = gave_none 0 before.input;
+}
+
+pub unread_answers : (answered : Answered) (before : Moment) → answered.note ≡ Usage → answered.status ≡ 1 → Answers Unread answered before before
+unread_answers answered before note status = record {
+  status = status ∙ ap status_of (sym note);
+  means = (note, refl);
+  faults = subst (λ n. FaultsAt n before before) (sym note) (refl, refl);
+  few = gave_none 0 before.input;
+}

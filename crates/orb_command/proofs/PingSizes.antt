@@ -15,7 +15,7 @@ use Rattle.giop_messages.specs.Layout.{target_fields, contexts_fields, named_fie
 use Rattle.giop_messages.specs.Reading.{ReadsIn}
 use Rattle.lane_machine.specs.Machine.{is_over}
 use Rattle.orb_command.specs.Ping.{ping_outcome, ping_request}
-use Rattle.orb_command.specs.PingRun.{ping_job, ping_interface}
+use Rattle.orb_command.specs.PingRun.{ping_job, ping_interface, IsAnswered}
 use Rattle.orb_command.proofs.PipeRuns.{idle}
 
 -- the named fields of a ping end at its byte 48
@@ -35,9 +35,9 @@ ping_size order id bytes reads =
     omega (arith, stop, ap length reads.parts, joined, headed, length-number_bytes order w32 (length inner), ap length none)
 
 -- its answer is the priority, or for want of memory
-pub answer_size : (serial size id : ℕ) (order : Order) (answer : Outcome) → (answer ≡ ping_outcome ping_interface (ping_job serial order size id)) ⊎ (answer ≡ no_memory) → body_len answer ≤ 2
+pub answer_size : (serial size id : ℕ) (order : Order) (answer : Outcome) → IsAnswered answer (ping_outcome ping_interface (ping_job serial order size id)) → body_len answer ≤ 2
 answer_size serial size id order answer (inl is) = subst (λ (o : Outcome). body_len o ≤ 2) (sym is) (omega (arith, length-number_bytes order w16 100))
-answer_size serial size id order answer (inr is) = subst (λ (o : Outcome). body_len o ≤ 2) (sym is) (omega arith)
+answer_size serial size id order answer (inr (is, other)) = subst (λ (o : Outcome). body_len o ≤ 2) (sym is) (omega arith)
 
 -- behind fewer calls than a run may hear, and with the bytes that it may take, no limit is met
 pub not_over : (c b size : ℕ) → c < MAX_RUN_CALLS → b + size ≤ MAX_RUN_BYTES → is_over (idle c b) size ≡ false

@@ -4,7 +4,7 @@ use Rattle.std.specs.Prelude.{◌⊎◌, ◌==◌, ◌||◌, if◌then◌else◌
 use Rattle.std.specs.List.{list_any}
 use Rattle.std.proofs.lemmas.Bool.{cases_Bool, ne_eqb}
 use Rattle.std.proofs.lemmas.Bool.Decides.{eqb_tells}
-use Rattle.orb_base.specs.Outcomes.{no_memory, body_len}
+use Rattle.orb_base.specs.Outcomes.{no_memory, bad_operation, body_len}
 use Rattle.orb_base.specs.JobRecord.{JobRecord}
 use Rattle.orb_base.specs.declared.limits.TheConstants.{MAX_BODY}
 use Rattle.orb_base.specs.declared.order.Order.{Order}
@@ -22,9 +22,11 @@ use Rattle.lane_machine.specs.Readiness.{owed}
 use Rattle.lane_machine.specs.History.{Entry}
 use Rattle.lane_machine.specs.Histories.{History, replay, IsLegal}
 use Rattle.orb_command.specs.Setup.{built_in, pipe_conn, interface_of}
-use Rattle.orb_command.specs.Said.{said, item_bytes}
+use Rattle.orb_command.specs.Said.{call_bytes, said, item_bytes}
 use Rattle.orb_command.specs.Piped.{Run, settled, grouped, answer_of}
-use Rattle.orb_command.specs.PingRun.{ping_job, IsPingJob, ArePingJobs, offers, with_thread, IsSettled, Ran, Runs, ping_interface}
+use Rattle.orb_command.specs.Stops.{has_closing, has_end}
+use Rattle.orb_command.specs.Built.{Spares}
+use Rattle.orb_command.specs.PingRun.{ping_job, IsPingJob, ArePingJobs, offers, with_thread, IsSettled, IsAnswered, Ran, Runs, RunsOn, ping_interface}
 
 -- ---- words
 
@@ -171,7 +173,7 @@ Agrees servant (job ∷ jobs) (answer ∷ answers) = (servant job ≡ answer) ×
 abbrev pub Came : (List ℕ → JobRecord → Outcome) → List JobRecord → List Outcome → Type 0
 Came outcome [] answers = Unit {0}
 Came outcome (job ∷ jobs) [] = Unit {0}
-Came outcome (job ∷ jobs) (answer ∷ answers) = ((answer ≡ outcome ping_interface job) ⊎ (answer ≡ no_memory)) × Came outcome jobs answers
+Came outcome (job ∷ jobs) (answer ∷ answers) = IsAnswered answer (outcome ping_interface job) × Came outcome jobs answers
 
 pub record Grouped (outcome : List ℕ → JobRecord → Outcome) (jobs : List JobRecord) (c b : ℕ) (s : State) (bytes : List ℕ) : Type 0 where
   pub answers : List Outcome
@@ -182,6 +184,8 @@ pub record Grouped (outcome : List ℕ → JobRecord → Outcome) (jobs : List J
   pub stands : replay (idle c b) history ≡ s
   pub says : said pipe_conn history ≡ bytes
   pub settled_so : IsSettled s
+  pub told : has_closing history ≡ s.closing
+  pub no_end : has_end history ≡ false
 
 none_grouped : (outcome : List ℕ → JobRecord → Outcome) (c b : ℕ) → Grouped outcome [] c b (idle c b) []
 none_grouped outcome c b = record {
@@ -193,6 +197,8 @@ none_grouped outcome c b = record {
   stands = refl;
   says = refl;
   settled_so = refl;
+  told = refl;
+  no_end = refl;
 }
 
 shut_run : (outcome : List ℕ → JobRecord → Outcome) (job : JobRecord) (jobs : List JobRecord) (c b : ℕ) → IsPingJob job → is_over (idle c b) job.size ≡ true → Grouped outcome (job ∷ jobs) c b (shut c b) []
@@ -205,6 +211,8 @@ shut_run outcome job jobs c b ping over = record {
   stands = ap (λ (x : State × LaneReply). x.0) (offer_closes c b job over);
   says = refl;
   settled_so = refl;
+  told = refl;
+  no_end = refl;
 }
 
 more_grouped : (outcome : List ℕ → JobRecord → Outcome) (job : JobRecord) (jobs : List JobRecord) (c b : ℕ) (mid s : State) (first rest : List ℕ) → IsPingJob job
@@ -223,6 +231,8 @@ more_grouped outcome job jobs c b mid s first rest ping ran others = record {
   stands = one_stands c b job ran.answer others.history ping ran.admitted ∙ others.stands;
   says = one_says job ran.answer others.history ∙ ap (λ (x : List ℕ). x ++ said pipe_conn others.history) (sym ran.reply) ∙ ap (λ (x : List ℕ). first ++ x) others.says;
   settled_so = others.settled_so;
+  told = others.told;
+  no_end = others.no_end;
 }
 
 pub runs_grouped : (outcome : List ℕ → JobRecord → Outcome) (n : ℕ) (jobs : List JobRecord) (c b : ℕ) (s : State) (bytes : List ℕ) → ArePingJobs n jobs → Runs outcome jobs (idle c b) s bytes → Grouped outcome jobs c b s bytes
@@ -235,12 +245,95 @@ runs_grouped outcome n (job ∷ jobs) c b s bytes (ping, numbered, pings) (inr (
     let further = runs_grouped outcome (suc n) jobs (c + 1) (b + job.size + body_len ran.answer) s rest pings (subst (λ (x : State). Runs outcome jobs x s rest) ran.moved runs) in
     subst (λ (x : List ℕ). Grouped outcome (job ∷ jobs) c b s x) (sym joined) (more_grouped outcome job jobs c b mid s first rest ping ran further)
 
+-- ---- up to the collect of one answer
+
+-- the history of jobs, cut before the collect of the answer to one of them
+pub record CutAt (history : History) (so_far reply : List ℕ) : Type 0 where
+  pub before : History
+  pub last : Entry LaneCall LaneReply
+  pub later : History
+  pub parts : history ≡ before ++ last ∷ later
+  pub says : said pipe_conn before ≡ so_far
+  pub hands : call_bytes pipe_conn last.call last.reply ≡ reply
+  pub told : has_closing before ≡ false
+  pub no_end : has_end before ≡ false
+
+pub record GroupedTo (outcome : List ℕ → JobRecord → Outcome) (jobs : List JobRecord) (c b : ℕ) (so_far reply : List ℕ) : Type 0 where
+  pub behind : State
+  pub bytes : List ℕ
+  pub grouped : Grouped outcome jobs c b behind bytes
+  pub cut : CutAt grouped.history so_far reply
+
+-- the answer to the first job
+first_cut : (outcome : List ℕ → JobRecord → Outcome) (job : JobRecord) (jobs : List JobRecord) (c b : ℕ) (mid s : State) (first rest : List ℕ) → IsPingJob job
+    → (ran : Ran outcome job (idle c b) mid first) → Grouped outcome jobs (c + 1) (b + job.size + body_len ran.answer) s rest
+    → GroupedTo outcome (job ∷ jobs) c b [] first
+unfolding more_grouped
+first_cut outcome job jobs c b mid s first rest ping ran others = record {
+  behind = s;
+  bytes = first ++ rest;
+  grouped = more_grouped outcome job jobs c b mid s first rest ping ran others;
+  cut = record {
+    before = entry (Offer job) (reply.Run 0 false) ∷ entry (Take 0) (reply.Given job) ∷ entry (Finish 0 (record { job = job; outcome = ran.answer })) reply.Finished ∷ [];
+    last = entry (Collect pipe_conn) (reply.Handed (Answered (record { job = job; outcome = ran.answer })));
+    later = others.history;
+    parts = refl;
+    says = refl;
+    hands = sym ran.reply;
+    told = refl;
+    no_end = refl;
+  };
+}
+
+-- the answer to a later one
+later_cut : (outcome : List ℕ → JobRecord → Outcome) (job : JobRecord) (jobs : List JobRecord) (c b : ℕ) (mid : State) (first so_far reply_bytes : List ℕ) → IsPingJob job
+    → (ran : Ran outcome job (idle c b) mid first) → GroupedTo outcome jobs (c + 1) (b + job.size + body_len ran.answer) so_far reply_bytes
+    → GroupedTo outcome (job ∷ jobs) c b (first ++ so_far) reply_bytes
+unfolding more_grouped
+later_cut outcome job jobs c b mid first so_far reply_bytes ping ran others =
+    let d = deeds job ran.answer in
+    let cut = others.cut in
+    record {
+      behind = others.behind;
+      bytes = first ++ others.bytes;
+      grouped = more_grouped outcome job jobs c b mid others.behind first others.bytes ping ran others.grouped;
+      cut = record {
+        before = d ++ cut.before;
+        last = cut.last;
+        later = cut.later;
+        parts = ap (λ (h : History). d ++ h) cut.parts;
+        says = one_says job ran.answer cut.before ∙ ap (λ (x : List ℕ). x ++ said pipe_conn cut.before) (sym ran.reply) ∙ ap (λ (x : List ℕ). first ++ x) cut.says;
+        hands = cut.hands;
+        told = cut.told;
+        no_end = cut.no_end;
+      };
+    }
+
+pub cut_grouped : (outcome : List ℕ → JobRecord → Outcome) (n : ℕ) (done : List JobRecord) (job : JobRecord) (left : List JobRecord) (c b : ℕ) (mid mid' s : State) (so_far reply_bytes others : List ℕ)
+    → ArePingJobs n (done ++ job ∷ left) → RunsOn outcome done (idle c b) mid so_far → Ran outcome job mid mid' reply_bytes → Runs outcome left mid' s others
+    → GroupedTo outcome (done ++ job ∷ left) c b so_far reply_bytes
+cut_grouped outcome n [] job left c b mid mid' s so_far reply_bytes others (ping, numbered, pings) (is, none) ran later =
+    let here : Ran outcome job (idle c b) mid' reply_bytes = subst (λ (x : State). Ran outcome job x mid' reply_bytes) is ran in
+    let further = runs_grouped outcome (suc n) left (c + 1) (b + job.size + body_len here.answer) s others pings (subst (λ (x : State). Runs outcome left x s others) here.moved later) in
+    subst (λ (x : List ℕ). GroupedTo outcome (job ∷ left) c b x reply_bytes) (sym none) (first_cut outcome job left c b mid' s reply_bytes others ping here further)
+cut_grouped outcome n (d ∷ done) job left c b mid mid' s so_far reply_bytes others (ping, numbered, pings) (next, first, rest, ran_d, runs, joined) ran later =
+    let further = cut_grouped outcome (suc n) done job left (c + 1) (b + d.size + body_len ran_d.answer) mid mid' s rest reply_bytes others pings
+    (subst (λ (x : State). RunsOn outcome done x mid rest) ran_d.moved runs) ran later in
+    subst (λ (x : List ℕ). GroupedTo outcome (d ∷ (done ++ job ∷ left)) c b x reply_bytes) (sym joined)
+    (later_cut outcome d (done ++ job ∷ left) c b next first rest reply_bytes ping ran_d further)
+
 -- ---- the jobs for which memory was wanting
 
 pub record Lacking (outcome : List ℕ → JobRecord → Outcome) (n : ℕ) (jobs : List JobRecord) (answers : List Outcome) : Type 0 where
   pub lacks : List ℕ
   pub later : (m : ℕ) → m < n → list_any (λ serial. serial == m) lacks ≡ false
   pub agrees : Agrees (answer_of built_in outcome lacks) jobs answers
+  pub spares : Spares built_in outcome lacks (offers jobs)
+
+-- memory is wanting to none
+none_spares : (outcome : List ℕ → JobRecord → Outcome) (jobs : List JobRecord) → Spares built_in outcome [] (offers jobs)
+none_spares outcome [] = tt
+none_spares outcome (job ∷ jobs) = (λ bad. refl, none_spares outcome jobs)
 
 -- one more serial among them says nothing of later jobs
 weaker : (outcome : List ℕ → JobRecord → Outcome) (n k : ℕ) (lacks : List ℕ) (jobs : List JobRecord) (answers : List Outcome) → n < k → ArePingJobs k jobs
@@ -252,6 +345,20 @@ weaker outcome n k lacks (job ∷ jobs) (answer ∷ answers) lt (ping, numbered,
     let here = ap (λ (x : Bool). if (x || list_any (λ serial. serial == job.serial) lacks) then no_memory else outcome (interface_of built_in job.target) job) other in
     (here ∙ first, weaker outcome n (suc k) lacks jobs answers (omega arith) pings others)
 
+-- nor does it lack memory to later jobs
+spares_later : (outcome : List ℕ → JobRecord → Outcome) (n k : ℕ) (lacks : List ℕ) (jobs : List JobRecord) → n < k → ArePingJobs k jobs
+    → Spares built_in outcome lacks (offers jobs) → Spares built_in outcome (n ∷ lacks) (offers jobs)
+spares_later outcome n k lacks [] lt pings spares = tt
+spares_later outcome n k lacks (job ∷ jobs) lt (ping, numbered, pings) (first, others) =
+    let other : (n == job.serial) ≡ false = ne_eqb n job.serial (λ same. omega (arith, same, numbered)) in (
+      λ bad. ap (λ (x : Bool). x || list_any (λ serial. serial == job.serial) lacks) other ∙ first bad,
+      spares_later outcome n (suc k) lacks jobs (omega arith) pings others,
+    )
+
+-- the interface of the object of a ping
+at_ping : (outcome : List ℕ → JobRecord → Outcome) (job : JobRecord) → IsPingJob job → outcome (interface_of built_in job.target) job ≡ outcome ping_interface job
+at_ping outcome job ping = ap (λ (target : ℕ). outcome (interface_of built_in target) job) (ap (λ (j : JobRecord). j.target) ping)
+
 served : (outcome : List ℕ → JobRecord → Outcome) (lacks : List ℕ) (job : JobRecord) → IsPingJob job → list_any (λ serial. serial == job.serial) lacks ≡ false
     → answer_of built_in outcome lacks job ≡ outcome ping_interface job
 served outcome lacks job ping none =
@@ -259,16 +366,17 @@ served outcome lacks job ping none =
     ∙ ap (λ (target : ℕ). outcome (interface_of built_in target) job) (ap (λ (j : JobRecord). j.target) ping)
 
 pub lacking : (outcome : List ℕ → JobRecord → Outcome) (n : ℕ) (jobs : List JobRecord) (answers : List Outcome) → ArePingJobs n jobs → Came outcome jobs answers → Lacking outcome n jobs answers
-lacking outcome n [] answers pings came = record { lacks = []; later = λ m lt. refl; agrees = tt }
-lacking outcome n (job ∷ jobs) [] pings came = record { lacks = []; later = λ m lt. refl; agrees = tt }
+lacking outcome n [] answers pings came = record { lacks = []; later = λ m lt. refl; agrees = tt; spares = tt }
+lacking outcome n (job ∷ jobs) [] pings came = record { lacks = []; later = λ m lt. refl; agrees = tt; spares = none_spares outcome (job ∷ jobs) }
 lacking outcome n (job ∷ jobs) (answer ∷ answers) (ping, numbered, pings) (inl is, came) =
     let others = lacking outcome (suc n) jobs answers pings came in
     record {
       lacks = others.lacks;
       later = λ m lt. others.later m (omega arith);
       agrees = (served outcome others.lacks job ping (others.later job.serial (omega (arith, numbered))) ∙ sym is, others.agrees);
+      spares = (λ bad. others.later job.serial (omega (arith, numbered)), others.spares);
     }
-lacking outcome n (job ∷ jobs) (answer ∷ answers) (ping, numbered, pings) (inr is, came) =
+lacking outcome n (job ∷ jobs) (answer ∷ answers) (ping, numbered, pings) (inr (is, other), came) =
     let others = lacking outcome (suc n) jobs answers pings came in
     let here : (n == job.serial) ≡ true = subst (λ (m : ℕ). (n == m) ≡ true) (sym numbered) (eqb-same n) in
     record {
@@ -278,23 +386,27 @@ lacking outcome n (job ∷ jobs) (answer ∷ answers) (ping, numbered, pings) (i
         ap (λ (x : Bool). if (x || list_any (λ serial. serial == job.serial) others.lacks) then no_memory else outcome (interface_of built_in job.target) job) here ∙ sym is,
         weaker outcome n (suc n) others.lacks jobs answers (omega arith) pings others.agrees,
       );
+      spares = (λ bad. absurd (other (sym (at_ping outcome job ping) ∙ bad)), spares_later outcome n (suc n) others.lacks jobs (omega arith) pings others.spares);
     }
 
 -- ---- the run of jobs over servants
 
 -- a servant answers the outcome, or for want of memory
 answer_came : (outcome : List ℕ → JobRecord → Outcome) (lacks : List ℕ) (job : JobRecord) → IsPingJob job
-    → (answer_of built_in outcome lacks job ≡ outcome ping_interface job) ⊎ (answer_of built_in outcome lacks job ≡ no_memory)
-answer_came outcome lacks job ping =
+    → (outcome (interface_of built_in job.target) job ≡ bad_operation → list_any (λ serial. serial == job.serial) lacks ≡ false)
+    → IsAnswered (answer_of built_in outcome lacks job) (outcome ping_interface job)
+answer_came outcome lacks job ping spares =
     elim (cases_Bool (list_any (λ serial. serial == job.serial) lacks)) [
-      | inl wanting ↦ inr (ap (λ (x : Bool). if x then no_memory else outcome (interface_of built_in job.target) job) wanting)
+      | inl wanting ↦ inr (
+        ap (λ (x : Bool). if x then no_memory else outcome (interface_of built_in job.target) job) wanting,
+        λ bad. let never : true ≡ false = sym wanting ∙ spares (at_ping outcome job ping ∙ bad) in absurd cc,
+      )
       | inr none ↦ inl (served outcome lacks job ping none)
     ]
 
-answer_short : (outcome : List ℕ → JobRecord → Outcome) (job : JobRecord) (answer : Outcome) → body_len (outcome ping_interface job) ≤ MAX_BODY
-    → (answer ≡ outcome ping_interface job) ⊎ (answer ≡ no_memory) → body_len answer ≤ MAX_BODY
-answer_short outcome job answer short (inl is) = subst (λ (o : Outcome). body_len o ≤ MAX_BODY) (sym is) short
-answer_short outcome job answer short (inr is) = subst (λ (o : Outcome). body_len o ≤ MAX_BODY) (sym is) (lit≤ tt)
+pub answer_short : (outcome answer : Outcome) → body_len outcome ≤ MAX_BODY → IsAnswered answer outcome → body_len answer ≤ MAX_BODY
+answer_short outcome answer short (inl is) = subst (λ (o : Outcome). body_len o ≤ MAX_BODY) (sym is) short
+answer_short outcome answer short (inr (is, other)) = subst (λ (o : Outcome). body_len o ≤ MAX_BODY) (sym is) (lit≤ tt)
 
 -- a run whose answers are those of the servant
 pub record RunOver (servant : JobRecord → Outcome) (outcome : List ℕ → JobRecord → Outcome) (jobs : List JobRecord) (c b : ℕ) : Type 0 where
@@ -319,7 +431,7 @@ shut_over servant outcome job jobs c b ping over = record {
 }
 
 more_over : (servant : JobRecord → Outcome) (outcome : List ℕ → JobRecord → Outcome) (job : JobRecord) (jobs : List JobRecord) (c b : ℕ) → IsPingJob job
-    → is_over (idle c b) job.size ≡ false → (servant job ≡ outcome ping_interface job) ⊎ (servant job ≡ no_memory) → body_len (servant job) ≤ MAX_BODY
+    → is_over (idle c b) job.size ≡ false → IsAnswered (servant job) (outcome ping_interface job) → body_len (servant job) ≤ MAX_BODY
     → RunOver servant outcome jobs (c + 1) (b + job.size + body_len (servant job)) → RunOver servant outcome (job ∷ jobs) c b
 unfolding more_grouped
 more_over servant outcome job jobs c b ping not_over came short others =
@@ -335,13 +447,13 @@ more_over servant outcome job jobs c b ping not_over came short others =
     }
 
 pub run_over : (outcome : List ℕ → JobRecord → Outcome) (lacks : List ℕ) (n : ℕ) (jobs : List JobRecord) (c b : ℕ) → ((job : JobRecord) → body_len (outcome ping_interface job) ≤ MAX_BODY)
-    → ArePingJobs n jobs → RunOver (answer_of built_in outcome lacks) outcome jobs c b
-run_over outcome lacks n [] c b short pings = none_over (answer_of built_in outcome lacks) outcome c b
-run_over outcome lacks n (job ∷ jobs) c b short (ping, numbered, pings) =
+    → ArePingJobs n jobs → Spares built_in outcome lacks (offers jobs) → RunOver (answer_of built_in outcome lacks) outcome jobs c b
+run_over outcome lacks n [] c b short pings spares = none_over (answer_of built_in outcome lacks) outcome c b
+run_over outcome lacks n (job ∷ jobs) c b short (ping, numbered, pings) (spare, spares) =
     let servant = answer_of built_in outcome lacks in
-    let came = answer_came outcome lacks job ping in
-    let others = run_over outcome lacks (suc n) jobs (c + 1) (b + job.size + body_len (servant job)) short pings in
+    let came = answer_came outcome lacks job ping spare in
+    let others = run_over outcome lacks (suc n) jobs (c + 1) (b + job.size + body_len (servant job)) short pings spares in
     elim (cases_Bool (is_over (idle c b) job.size)) [
       | inl over ↦ shut_over servant outcome job jobs c b ping over
-      | inr not_over ↦ more_over servant outcome job jobs c b ping not_over came (answer_short outcome job (servant job) (short job) came) others
+      | inr not_over ↦ more_over servant outcome job jobs c b ping not_over came (answer_short (outcome ping_interface job) (servant job) (short job) came) others
     ]

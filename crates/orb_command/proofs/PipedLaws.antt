@@ -1,13 +1,15 @@
 -- What was written is what the pipe answers.
 use Rattle.std.proofs.Common.{◌≡◌, ℕ, ◌+◌, ◌≤◌, ◌<◌, Bool, true, false, List, [], ◌∷◌, ◌++◌, length, drop, get_or, refl, sym, ap, ◌∙◌, subst, inl, inr, arith, lit≤, append-nil, append_assoc}
-use Rattle.std.specs.Prelude.{◌⊎◌, option_map, IfSome, Some, None, Result, Ok, Err}
+use Rattle.std.specs.Prelude.{◌⊎◌, ◌||◌, Some, None, Result, Ok, Err}
 use Rattle.std.proofs.lemmas.List.{drop_more}
+use Rattle.std.specs.List.{list_any}
 use Rattle.std.proofs.lemmas.Grind.{flat_map-append}
 use Rattle.orb_base.specs.JobRecord.{JobRecord}
-use Rattle.orb_base.specs.Outcomes.{no_memory, body_len}
-use Rattle.orb_base.specs.Outside.{Told, Rose}
-use Rattle.orb_base.specs.declared.limits.TheConstants.{MAX_MESSAGE}
+use Rattle.orb_base.specs.Outcomes.{no_memory, bad_operation, body_len}
+use Rattle.orb_base.specs.Outside.{SourceState, SinkState, Rose}
+use Rattle.orb_base.specs.declared.limits.TheConstants.{MAX_MESSAGE, MAX_BODY}
 use Rattle.orb_base.specs.declared.outcome.Outcome.{Outcome}
+use Rattle.orb_base.specs.declared.outcome.Outcome.TheVariants.{Returned, User, System}
 use Rattle.orb_base.specs.declared.answer.Answer.{Answer}
 use Rattle.orb_base.specs.declared.item.Item.TheVariants.{Answered}
 use Rattle.orb_base.specs.declared.order.Order.TheVariants.{Big}
@@ -41,12 +43,13 @@ use Rattle.orb_command.specs.Said.{item_bytes, call_bytes, said}
 use Rattle.orb_command.specs.Piped.{Run, closed_by, answer_of, piped}
 use Rattle.orb_command.specs.Built.{IsBuilt, IsPiped}
 use Rattle.orb_command.specs.Hearing.{MeanJobs}
-use Rattle.orb_command.specs.PingRun.{ArePingJobs, offers, opened, with_thread, Does, IsSettled, Carries, ping_interface, Ran, Refused, Runs, farewell, IsRun, AnswersOne, Underway, RanAll, RanFront, AnswersAll, SaysFarewell}
-use Rattle.text_streams.specs.Streams.{WroteSome}
-use Rattle.orb_command.specs.Pipe.{Outputs, WroteWhole, WroteFront, WroteAtWant, Wrote, Serves, Replies, Pipes, PipesTo}
-use Rattle.text_streams.proofs.CallerLemmas.{wrote_start, wrote_nothing, wrote_behind, wrote_more, wrote_all}
+use Rattle.orb_command.specs.Stops.{has_closing, is_closing, has_end, is_end, StopsAt}
+use Rattle.orb_command.specs.PingRun.{ArePingJobs, offers, opened, with_thread, Does, IsSettled, IsAnswered, Carries, ping_interface, Ran, Refused, Runs, RunsOn, farewell, IsRun, AnswersOne, Underway, RanAll, RanFront, CutReply, CutFarewell, CutRun, AnswersAll, SaysFarewell}
+use Rattle.text_streams.specs.Streams.{Gave, GaveFew, WroteText, WroteSome}
+use Rattle.orb_command.specs.Pipe.{Outputs, WroteWhole, WroteFront, Stopped as StoppedSo, WroteAtWant, StopsIn, Wrote, Serves, Replies, ReadsWhole, PipesTo, PipesBytes, Pipes}
+use Rattle.text_streams.proofs.CallerLemmas.{wrote_start, wrote_nothing, wrote_behind}
 use Rattle.orb_command.proofs.HearingLaws.{jobs_of}
-use Rattle.orb_command.proofs.PipeRuns.{at, idle, runs_grouped, lacking}
+use Rattle.orb_command.proofs.PipeRuns.{at, idle, Grouped, CutAt, GroupedTo, runs_grouped, cut_grouped, lacking}
 
 -- ---- the end of the connection
 
@@ -91,32 +94,133 @@ legal_both s (e ∷ h) k (ready, sound, answered, p) q = (ready, sound, answered
 
 -- ---- a run of the jobs is a run of the pipe
 
+-- a run of the pipe with this history
+record PipedBy (outcome : List ℕ → JobRecord → Outcome) (input : List ℕ) (closing : Bool) (output : List ℕ) (history : History) : Type 0 where
+  pub run : IsPiped outcome input closing output
+  pub done : (piped built_in outcome 1 run.calls Quiet run.lacks).history ≡ history
+
+or-assoc : (a b c : Bool) → ((a || b) || c) ≡ (a || (b || c))
+or-assoc true b c = refl
+or-assoc false b c = refl
+
+or-false : (a : Bool) → (a || false) ≡ a
+or-false true = refl
+or-false false = refl
+
+any_both : (test : Entry LaneCall LaneReply → Bool) (h k : History) → list_any test (h ++ k) ≡ (list_any test h || list_any test k)
+any_both test [] k = refl
+any_both test (e ∷ h) k = ap (λ (x : Bool). test e || x) (any_both test h k) ∙ sym (or-assoc (test e) (list_any test h) (list_any test k))
+
+last_told : (closing : Bool) → has_closing (last closing) ≡ false
+last_told true = refl
+last_told false = refl
+
+grouped_is_piped : (outcome : List ℕ → JobRecord → Outcome) (input : List ℕ) (jobs : List JobRecord) (s : State) (replies : List ℕ) → IsBuilt input
+    → MeanJobs 0 (stream MAX_MESSAGE input).messages jobs → (grouped : Grouped outcome jobs 0 0 s replies)
+    → PipedBy outcome input s.closing (replies ++ farewell s.closing) (grouped.history ++ last s.closing)
+grouped_is_piped outcome input jobs s replies built mean grouped =
+    let lack = lacking outcome 0 jobs grouped.answers mean.jobs_so grouped.came in
+    let servant = answer_of built_in outcome lack.lacks in
+    let c = s.calls in
+    let b = s.bytes in
+    let closing = s.closing in
+    let whole : piped built_in outcome 1 (offers jobs) Quiet lack.lacks ≡ at (gone c b closing) (grouped.history ++ last closing) =
+    ap (closed_by servant Quiet) (grouped.run servant lack.agrees [] ∙ ap (λ (z : State). at z grouped.history) grouped.settled_so) ∙ closes_so servant c b closing grouped.history in
+    let last_so : IsLegal (replay opened grouped.history) (last closing) =
+    subst (λ (z : State). IsLegal z (last closing)) (sym (grouped.stands ∙ grouped.settled_so)) (last_legal c b closing) in
+    let legal = legal_both opened grouped.history (last closing) grouped.legal last_so in
+    let says : said pipe_conn (grouped.history ++ last closing) ≡ replies ++ farewell closing =
+    flat_map-append (λ e. call_bytes pipe_conn e.call e.reply) grouped.history (last closing)
+    ∙ ap (λ (x : List ℕ). x ++ said pipe_conn (last closing)) grouped.says ∙ ap (λ (x : List ℕ). replies ++ x) (last_says closing) in
+    let told : has_closing (grouped.history ++ last closing) ≡ closing =
+    any_both (λ e. is_closing e.reply) grouped.history (last closing)
+    ∙ ap (λ (x : Bool). has_closing grouped.history || x) (last_told closing) ∙ or-false (has_closing grouped.history) ∙ grouped.told in
+    record {
+      run = record {
+        built = built;
+        calls = offers jobs;
+        lacks = lack.lacks;
+        heard = record { sound = built.sound; whole = built.whole; each = mean.heard; quiet = refl };
+        legal = subst (λ (r : Run). IsLegal opened r.history) (sym whole) legal;
+        spares = lack.spares;
+        closes = ap (λ (r : Run). r.state.closing) whole;
+        told = ap (λ (r : Run). has_closing r.history) whole ∙ told;
+        answered = sym says ∙ sym (ap (λ (r : Run). said pipe_conn r.history) whole);
+      };
+      done = ap (λ (r : Run). r.history) whole;
+    }
+
 pub run_is_piped : (outcome : List ℕ → JobRecord → Outcome) (input : List ℕ) (jobs : List JobRecord) (closing : Bool) (output : List ℕ) → IsBuilt input
     → MeanJobs 0 (stream MAX_MESSAGE input).messages jobs → IsRun outcome jobs closing output → IsPiped outcome input closing output
 run_is_piped outcome input jobs closing output built mean run =
     let grouped = runs_grouped outcome 0 jobs 0 0 run.behind run.replies mean.jobs_so run.runs in
-    let lack = lacking outcome 0 jobs grouped.answers mean.jobs_so grouped.came in
-    let servant = answer_of built_in outcome lack.lacks in
-    let c = run.behind.calls in
-    let b = run.behind.bytes in
-    let behind : run.behind ≡ settled c b closing = grouped.settled_so ∙ ap (settled c b) run.closes in
-    let whole : piped built_in outcome 1 (offers jobs) Quiet lack.lacks ≡ at (gone c b closing) (grouped.history ++ last closing) =
-    ap (closed_by servant Quiet) (grouped.run servant lack.agrees [] ∙ ap (λ (s : State). at s grouped.history) behind) ∙ closes_so servant c b closing grouped.history in
-    let last_so : IsLegal (replay opened grouped.history) (last closing) =
-    subst (λ (s : State). IsLegal s (last closing)) (sym (grouped.stands ∙ behind)) (last_legal c b closing) in
-    let legal = legal_both opened grouped.history (last closing) grouped.legal last_so in
-    let says : said pipe_conn (grouped.history ++ last closing) ≡ run.replies ++ farewell closing =
-    flat_map-append (λ e. call_bytes pipe_conn e.call e.reply) grouped.history (last closing)
-    ∙ ap (λ (x : List ℕ). x ++ said pipe_conn (last closing)) grouped.says ∙ ap (λ (x : List ℕ). run.replies ++ x) (last_says closing) in
+    let whole = (grouped_is_piped outcome input jobs run.behind run.replies built mean grouped).run in
+    subst (λ (x : List ℕ). IsPiped outcome input closing x) (sym run.ends)
+    (subst (λ (x : Bool). IsPiped outcome input x (run.replies ++ farewell x)) run.closes whole)
+
+-- ---- a failed write stops such a run
+
+-- the write of a reply
+cut_reply : (outcome : List ℕ → JobRecord → Outcome) (input : List ℕ) (jobs : List JobRecord) (out out' : SinkState) → IsBuilt input
+    → MeanJobs 0 (stream MAX_MESSAGE input).messages jobs → CutReply outcome jobs out out' → StopsIn outcome input out out' false
+cut_reply outcome input jobs out out' built mean cut =
+    let pings : ArePingJobs 0 (cut.done ++ cut.job ∷ cut.left) = subst (λ (js : List JobRecord). ArePingJobs 0 js) cut.parts mean.jobs_so in
+    let to = subst (λ (js : List JobRecord). GroupedTo outcome js 0 0 cut.so_far (cut.front ++ cut.rest)) (sym cut.parts)
+    (cut_grouped outcome 0 cut.done cut.job cut.left 0 0 cut.mid cut.mid' cut.behind cut.so_far (cut.front ++ cut.rest) cut.others pings cut.before cut.ran cut.later) in
+    let by = grouped_is_piped outcome input jobs to.behind to.bytes built mean to.grouped in
+    let closing = to.behind.closing in
     record {
-      built = built;
-      calls = offers jobs;
-      lacks = lack.lacks;
-      heard = record { sound = built.sound; whole = built.whole; each = mean.heard; quiet = refl };
-      legal = subst (λ (r : Run). IsLegal opened r.history) (sym whole) legal;
-      closes = ap (λ (r : Run). r.state.closing) whole;
-      answered = run.ends ∙ sym says ∙ sym (ap (λ (r : Run). said pipe_conn r.history) whole);
+      limited = closing;
+      output = to.bytes ++ farewell closing;
+      run = by.run;
+      stops = record {
+        before = to.cut.before;
+        last = to.cut.last;
+        later = to.cut.later ++ last closing;
+        front = cut.front;
+        rest = cut.rest;
+        parts = by.done ∙ ap (λ (h : History). h ++ last closing) to.cut.parts ∙ append_assoc to.cut.before (to.cut.last ∷ to.cut.later) (last closing);
+        hands = to.cut.hands;
+        wrote = subst (λ (x : List ℕ). WroteText (x ++ cut.front) out out') (sym to.cut.says) cut.wrote;
+        closes = to.cut.told;
+        ends = λ _. to.cut.no_end;
+      };
     }
+
+-- the write of the CloseConnection
+cut_farewell : (outcome : List ℕ → JobRecord → Outcome) (input : List ℕ) (jobs : List JobRecord) (out out' : SinkState) → IsBuilt input
+    → MeanJobs 0 (stream MAX_MESSAGE input).messages jobs → CutFarewell outcome jobs out out' → StopsIn outcome input out out' true
+cut_farewell outcome input jobs out out' built mean cut =
+    let grouped = runs_grouped outcome 0 jobs 0 0 cut.behind cut.replies mean.jobs_so cut.runs in
+    let by = grouped_is_piped outcome input jobs cut.behind cut.replies built mean grouped in
+    let shut = entry (End pipe_conn Shut) reply.Noted in
+    let close = entry (Collect pipe_conn) reply.Close in
+    let says : said pipe_conn (grouped.history ++ shut ∷ []) ≡ cut.replies =
+    flat_map-append (λ e. call_bytes pipe_conn e.call e.reply) grouped.history (shut ∷ []) ∙ append-nil (said pipe_conn grouped.history) ∙ grouped.says in
+    let told : has_closing (grouped.history ++ shut ∷ []) ≡ true =
+    any_both (λ e. is_closing e.reply) grouped.history (shut ∷ []) ∙ or-false (has_closing grouped.history) ∙ grouped.told ∙ cut.closes in
+    record {
+      limited = cut.behind.closing;
+      output = cut.replies ++ farewell cut.behind.closing;
+      run = by.run;
+      stops = record {
+        before = grouped.history ++ shut ∷ [];
+        last = close;
+        later = [];
+        front = cut.front;
+        rest = cut.rest;
+        parts = by.done ∙ ap (λ (x : Bool). grouped.history ++ last x) cut.closes ∙ sym (append_assoc grouped.history (shut ∷ []) (close ∷ []));
+        hands = cut.parts;
+        wrote = subst (λ (x : List ℕ). WroteText (x ++ cut.front) out out') (sym says) cut.wrote;
+        closes = told;
+        ends = λ never. absurd cc;
+      };
+    }
+
+cut_run : (outcome : List ℕ → JobRecord → Outcome) (input : List ℕ) (jobs : List JobRecord) (out out' : SinkState) (closing : Bool) → IsBuilt input
+    → MeanJobs 0 (stream MAX_MESSAGE input).messages jobs → CutRun outcome jobs closing out out' → StopsIn outcome input out out' closing
+cut_run outcome input jobs out out' true built mean cut = cut_farewell outcome input jobs out out' built mean cut
+cut_run outcome input jobs out out' false built mean cut = cut_reply outcome input jobs out out' built mean cut
 
 -- ---- there is such a run of all jobs
 
@@ -129,21 +233,33 @@ pub record SomeRun (outcome : List ℕ → JobRecord → Outcome) (jobs : List J
   pub replies : List ℕ
   pub runs : Runs outcome jobs s behind replies
 
+-- an answer that takes no memory for its body
+pub record SomeAnswer (outcome : Outcome) : Type 0 where
+  pub answer : Outcome
+  pub came : IsAnswered answer outcome
+  pub short : body_len answer ≤ MAX_BODY
+
+some_answer : (outcome : Outcome) → SomeAnswer outcome
+some_answer (Returned body) = record { answer = no_memory; came = inr (refl, λ bad. cc); short = lit≤ tt }
+some_answer (User body) = record { answer = no_memory; came = inr (refl, λ bad. cc); short = lit≤ tt }
+some_answer (System system) = record { answer = System system; came = inl refl; short = lit≤ tt }
+
 some_run : (outcome : List ℕ → JobRecord → Outcome) (jobs : List JobRecord) (c b : ℕ) → SomeRun outcome jobs (idle c b)
 some_run outcome [] c b = record { behind = idle c b; replies = []; runs = (refl, refl) }
 some_run outcome (job ∷ jobs) c b =
-    let reply_bytes = item_bytes (Answered (record { job = job; outcome = no_memory })) in
-    let others = some_run outcome jobs (c + 1) (b + job.size + body_len no_memory) in
+    let some = some_answer (outcome ping_interface job) in
+    let reply_bytes = item_bytes (Answered (record { job = job; outcome = some.answer })) in
+    let others = some_run outcome jobs (c + 1) (b + job.size + body_len some.answer) in
     elim (either (is_over (idle c b) job.size)) [
       | inl over ↦ record { behind = record (idle c b) { closing = true }; replies = []; runs = inl (record { over = over; moved = refl; silent = refl }) }
       | inr not_over ↦ record {
         behind = others.behind;
         replies = reply_bytes ++ others.replies;
         runs = inr (
-          idle (c + 1) (b + job.size + body_len no_memory),
+          idle (c + 1) (b + job.size + body_len some.answer),
           reply_bytes,
           others.replies,
-          record { answer = no_memory; came = inr refl; short = lit≤ tt; admitted = not_over; moved = refl; reply = refl },
+          record { answer = some.answer; came = some.came; short = some.short; admitted = not_over; moved = refl; reply = refl },
           others.runs,
           refl,
         );
@@ -156,15 +272,15 @@ pub ran_of : (outcome : List ℕ → JobRecord → Outcome) (interface : List �
     → Carries (Some answer) job (outcome interface job) s s' → items ≡ item_bytes (Answered answer) → Ran outcome job s s' items
 ran_of outcome interface job s s' answer items at_ping (admitted, is, (free, calls, bytes)) items_are = record {
   answer = answer.outcome;
-  came = elim is.answered [ inl e ↦ inl (e ∙ ap (λ (i : List ℕ). outcome i job) at_ping) | inr e ↦ inr e ];
+  came = subst (λ (i : List ℕ). IsAnswered answer.outcome (outcome i job)) at_ping is.answered;
   short = is.short;
   admitted = admitted;
   moved = free ∙ ap (λ (n : ℕ). with_thread Free n s'.bytes) calls ∙ ap (λ (n : ℕ). with_thread Free (s.calls + 1) n) bytes;
   reply = items_are ∙ ap (λ (j : JobRecord). item_bytes (Answered (record { job = j; outcome = answer.outcome }))) is.same_job;
 }
 
-pub underway_start : (outcome : List ℕ → JobRecord → Outcome) (jobs : List JobRecord) (held : Told) → Underway outcome jobs jobs opened held held
-underway_start outcome jobs held = record { so_far = []; wrote = wrote_nothing held; completes = λ s' bytes runs. runs }
+pub underway_start : (outcome : List ℕ → JobRecord → Outcome) (jobs : List JobRecord) (out : SinkState) → Underway outcome jobs jobs opened out out
+underway_start outcome jobs out = record { done = []; so_far = []; parts = refl; ran = (refl, refl); wrote = wrote_nothing out; completes = λ s' bytes runs. runs }
 
 pub first_left : (jobs : List JobRecord) (i : ℕ) (job : JobRecord) → i < length jobs → job ≡ get_or jobs i job → drop i jobs ≡ job ∷ drop (i + 1) jobs
 first_left jobs i job lt is = drop_more jobs i job lt ∙ ap (λ (x : JobRecord). x ∷ drop (i + 1) jobs) (sym is)
@@ -175,26 +291,42 @@ pings_left jobs i job is pings =
     let all : ArePingJobs i (job ∷ drop (i + 1) jobs) = subst (λ (l : List JobRecord). ArePingJobs i l) is pings in
     subst (λ (n : ℕ). ArePingJobs n (drop (i + 1) jobs)) (omega arith) all.2
 
+-- one job more behind others
+runs_on_more : (outcome : List ℕ → JobRecord → Outcome) (done : List JobRecord) (job : JobRecord) (s mid s' : State) (so_far bytes : List ℕ) → RunsOn outcome done s mid so_far
+    → Ran outcome job mid s' bytes → RunsOn outcome (done ++ job ∷ []) s s' (so_far ++ bytes)
+runs_on_more outcome [] job s mid s' so_far bytes (is, none) ran =
+    let here : Ran outcome job s s' bytes = subst (λ (x : State). Ran outcome job x s' bytes) is ran in
+    (s', bytes, [], here, (refl, refl), ap (λ (x : List ℕ). x ++ bytes) none ∙ sym (append-nil bytes))
+runs_on_more outcome (d ∷ done) job s mid s' so_far bytes (next, first, rest, ran_d, runs, joined) ran =
+    (next, first, rest ++ bytes, ran_d, runs_on_more outcome done job next mid s' rest bytes runs ran, ap (λ (x : List ℕ). x ++ bytes) joined ∙ append_assoc first rest bytes)
+
 -- one more job was answered
-pub underway_step : (outcome : List ℕ → JobRecord → Outcome) (jobs : List JobRecord) (i : ℕ) (job : JobRecord) (s s' : State) (bytes : List ℕ) (held held' held'' : Told)
-    → drop i jobs ≡ job ∷ drop (i + 1) jobs → Underway outcome jobs (drop i jobs) s held held' → Ran outcome job s s' bytes → held'' ≡ option_map (λ h. h ++ bytes) held'
-    → Underway outcome jobs (drop (i + 1) jobs) s' held held''
-underway_step outcome jobs i job s s' bytes held held' held'' is under ran wrote = record {
+pub underway_step : (outcome : List ℕ → JobRecord → Outcome) (jobs : List JobRecord) (i : ℕ) (job : JobRecord) (s s' : State) (bytes : List ℕ) (out out' out'' : SinkState)
+    → drop i jobs ≡ job ∷ drop (i + 1) jobs → Underway outcome jobs (drop i jobs) s out out' → Ran outcome job s s' bytes → WroteText bytes out' out''
+    → Underway outcome jobs (drop (i + 1) jobs) s' out out''
+underway_step outcome jobs i job s s' bytes out out' out'' is under ran wrote = record {
+  done = under.done ++ job ∷ [];
   so_far = under.so_far ++ bytes;
-  wrote = wrote_behind under.so_far bytes held held' held'' under.wrote wrote;
+  parts = under.parts ∙ ap (λ (l : List JobRecord). under.done ++ l) is ∙ sym (append_assoc under.done (job ∷ []) (drop (i + 1) jobs));
+  ran = runs_on_more outcome under.done job opened s s' under.so_far bytes under.ran ran;
+  wrote = wrote_behind under.so_far bytes out out' out'' under.wrote wrote;
   completes = λ last rest runs.
       let all : Runs outcome (drop i jobs) s last (bytes ++ rest) =
       subst (λ (l : List JobRecord). Runs outcome l s last (bytes ++ rest)) (sym is) (inr (s', bytes, rest, ran, runs, refl)) in
       subst (λ (x : List ℕ). Runs outcome jobs opened last x) (sym (append_assoc under.so_far bytes rest)) (under.completes last (bytes ++ rest) all);
 }
 
+-- nothing more was written
+wrote_no_more : (bytes : List ℕ) (out out' : SinkState) → WroteText bytes out out' → WroteText (bytes ++ []) out out'
+wrote_no_more bytes out out' wrote = subst (λ (x : List ℕ). WroteText x out out') (sym (append-nil bytes)) wrote
+
 -- a limit of the run was met
-pub underway_shut : (outcome : List ℕ → JobRecord → Outcome) (jobs : List JobRecord) (i : ℕ) (job : JobRecord) (s s' : State) (held held' : Told)
-    → drop i jobs ≡ job ∷ drop (i + 1) jobs → Underway outcome jobs (drop i jobs) s held held' → Refused job s s' [] → RanAll outcome jobs s' held held'
-underway_shut outcome jobs i job s s' held held' is under refused = record {
+pub underway_shut : (outcome : List ℕ → JobRecord → Outcome) (jobs : List JobRecord) (i : ℕ) (job : JobRecord) (s s' : State) (out out' : SinkState)
+    → drop i jobs ≡ job ∷ drop (i + 1) jobs → Underway outcome jobs (drop i jobs) s out out' → Refused job s s' [] → RanAll outcome jobs s' out out'
+underway_shut outcome jobs i job s s' out out' is under refused = record {
   replies = under.so_far ++ [];
   runs = under.completes s' [] (subst (λ (l : List JobRecord). Runs outcome l s s' []) (sym is) (inl refused));
-  wrote = under.wrote ∙ ap (λ (x : List ℕ). option_map (λ h. h ++ x) held) (sym (append-nil under.so_far));
+  wrote = wrote_no_more under.so_far out out' under.wrote;
 }
 
 pub shut_settled : (job : JobRecord) (s s' : State) → Does Free s → Refused job s s' [] → IsSettled s' × (s'.closing ≡ true)
@@ -202,24 +334,31 @@ shut_settled job s s' free refused =
     subst (λ (z : State). IsSettled z × (z.closing ≡ true)) (sym (refused.moved ∙ ap (λ (z : State). record z { closing = true }) free)) (refl, refl)
 
 -- a write failed
-pub underway_stopped : (outcome : List ℕ → JobRecord → Outcome) (jobs : List JobRecord) (i : ℕ) (job : JobRecord) (s s' : State) (bytes rest : List ℕ) (held held' held'' : Told)
-    → drop i jobs ≡ job ∷ drop (i + 1) jobs → Underway outcome jobs (drop i jobs) s held held' → Ran outcome job s s' bytes → WroteSome bytes rest held' held'' → RanFront outcome jobs held held''
-underway_stopped outcome jobs i job s s' bytes rest held held' held'' is under ran wrote =
+pub underway_stopped : (outcome : List ℕ → JobRecord → Outcome) (jobs : List JobRecord) (i : ℕ) (job : JobRecord) (s s' : State) (bytes rest : List ℕ) (out out' out'' : SinkState)
+    → drop i jobs ≡ job ∷ drop (i + 1) jobs → Underway outcome jobs (drop i jobs) s out out' → Ran outcome job s s' bytes → WroteSome bytes rest out' out'' → CutReply outcome jobs out out''
+underway_stopped outcome jobs i job s s' bytes rest out out' out'' is under ran wrote =
     let others = some_run outcome (drop (i + 1) jobs) (s.calls + 1) (s.bytes + job.size + body_len ran.answer) in
-    let runs : Runs outcome (drop (i + 1) jobs) s' others.behind others.replies =
-    subst (λ (z : State). Runs outcome (drop (i + 1) jobs) z others.behind others.replies) (sym ran.moved) others.runs in
     record {
+      done = under.done;
+      job = job;
+      left = drop (i + 1) jobs;
+      mid = s;
+      mid' = s';
       behind = others.behind;
-      replies = under.so_far ++ (bytes ++ others.replies);
-      rest = rest ++ others.replies;
-      runs = under.completes others.behind (bytes ++ others.replies)
-          (subst (λ (l : List JobRecord). Runs outcome l s others.behind (bytes ++ others.replies)) (sym is) (inr (s', bytes, others.replies, ran, runs, refl)));
-      wrote = wrote_more under.so_far bytes rest others.replies held held' held'' under.wrote wrote;
+      so_far = under.so_far;
+      front = wrote.front;
+      rest = rest;
+      others = others.replies;
+      parts = under.parts ∙ ap (λ (l : List JobRecord). under.done ++ l) is;
+      before = under.ran;
+      ran = subst (λ (x : List ℕ). Ran outcome job s s' x) wrote.parts ran;
+      later = subst (λ (z : State). Runs outcome (drop (i + 1) jobs) z others.behind others.replies) (sym ran.moved) others.runs;
+      wrote = wrote_behind under.so_far wrote.front out out' out'' under.wrote wrote.wrote;
     }
 
 -- memory was wanting
-pub underway_want : (outcome : List ℕ → JobRecord → Outcome) (jobs left : List JobRecord) (s : State) (held held' : Told) → Does Free s → Underway outcome jobs left s held held' → RanFront outcome jobs held held'
-underway_want outcome jobs left s held held' free under =
+pub underway_want : (outcome : List ℕ → JobRecord → Outcome) (jobs left : List JobRecord) (s : State) (out out' : SinkState) → Does Free s → Underway outcome jobs left s out out' → RanFront outcome jobs out out'
+underway_want outcome jobs left s out out' free under =
     let others = some_run outcome left s.calls s.bytes in
     let runs : Runs outcome left s others.behind others.replies = subst (λ (z : State). Runs outcome left z others.behind others.replies) (sym free) others.runs in
     record {
@@ -231,42 +370,42 @@ underway_want outcome jobs left s held held' free under =
     }
 
 -- all were answered
-pub underway_done : (outcome : List ℕ → JobRecord → Outcome) (jobs left : List JobRecord) (s : State) (held held' : Told) → left ≡ [] → Underway outcome jobs left s held held' → RanAll outcome jobs s held held'
-underway_done outcome jobs left s held held' none under = record {
+pub underway_done : (outcome : List ℕ → JobRecord → Outcome) (jobs left : List JobRecord) (s : State) (out out' : SinkState) → left ≡ [] → Underway outcome jobs left s out out' → RanAll outcome jobs s out out'
+underway_done outcome jobs left s out out' none under = record {
   replies = under.so_far ++ [];
   runs = under.completes s [] (subst (λ (l : List JobRecord). Runs outcome l s s []) (sym none) (refl, refl));
-  wrote = under.wrote ∙ ap (λ (x : List ℕ). option_map (λ h. h ++ x) held) (sym (append-nil under.so_far));
+  wrote = wrote_no_more under.so_far out out' under.wrote;
 }
 
 -- a fault that came later
-pub rose_later : (before mid after : ℕ) → before ≤ mid → Rose mid after → Rose before after
-rose_later before mid after le rose = omega (arith, le, rose)
+pub rose_later : (before mid after : ℕ) → mid ≡ before → Rose mid after → Rose before after
+rose_later before mid after same rose = subst (λ (n : ℕ). Rose n after) same rose
 
 -- ---- by how far the answering of one came
 
-pub course_shut : (E : Type 0) (outcome : List ℕ → JobRecord → Outcome) (jobs : List JobRecord) (i : ℕ) (job : JobRecord) (course : Course) (s s' : State) (held held' held'' : Told) (before mid after : ℕ)
-    → course ≡ Closing → drop i jobs ≡ job ∷ drop (i + 1) jobs → Underway outcome jobs (drop i jobs) s held held' → Does Free s → before ≤ mid
-    → AnswersOne {E = E} (Ok course) outcome job s s' held' held'' (mid, after) → RanAll outcome jobs s' held held'' × IsSettled s' × (s'.closing ≡ true) × (before ≤ after)
-course_shut E outcome jobs i job course s s' held held' held'' before mid after came is under free le answered =
-    let a : AnswersOne {E = E} (Ok Closing) outcome job s s' held' held'' (mid, after) = subst (λ (x : Course). AnswersOne {E = E} (Ok x) outcome job s s' held' held'' (mid, after)) came answered in
+pub course_shut : (E : Type 0) (outcome : List ℕ → JobRecord → Outcome) (jobs : List JobRecord) (i : ℕ) (job : JobRecord) (course : Course) (s s' : State) (out out' out'' : SinkState)
+    → course ≡ Closing → drop i jobs ≡ job ∷ drop (i + 1) jobs → Underway outcome jobs (drop i jobs) s out out' → Does Free s → out'.faults ≡ out.faults
+    → AnswersOne {E = E} (Ok course) outcome job s s' out' out'' → AnswersAll {E = E} (Ok Closing) outcome jobs s' out out''
+course_shut E outcome jobs i job course s s' out out' out'' came is under free same answered =
+    let a : AnswersOne {E = E} (Ok Closing) outcome job s s' out' out'' = subst (λ (x : Course). AnswersOne {E = E} (Ok x) outcome job s s' out' out'') came answered in
     let shut = shut_settled job s s' free a.0 in
-    (subst (λ (h : Told). RanAll outcome jobs s' held h) (sym a.1) (underway_shut outcome jobs i job s s' held held' is under a.0), shut.0, shut.1, omega (arith, le, a.2))
+    subst (λ (o : SinkState). AnswersAll {E = E} (Ok Closing) outcome jobs s' out o) (sym a.1) (underway_shut outcome jobs i job s s' out out' is under a.0, shut.0, shut.1, same)
 
-pub course_stopped : (E : Type 0) (outcome : List ℕ → JobRecord → Outcome) (jobs : List JobRecord) (i : ℕ) (job : JobRecord) (course : Course) (s s' : State) (held held' held'' : Told) (before mid after : ℕ)
-    → course ≡ Stopped → drop i jobs ≡ job ∷ drop (i + 1) jobs → Underway outcome jobs (drop i jobs) s held held' → before ≤ mid → AnswersOne {E = E} (Ok course) outcome job s s' held' held'' (mid, after)
-    → RanFront outcome jobs held held'' × Rose before after
-course_stopped E outcome jobs i job course s s' held held' held'' before mid after came is under le answered =
-    let a : AnswersOne {E = E} (Ok Stopped) outcome job s s' held' held'' (mid, after) = subst (λ (x : Course). AnswersOne {E = E} (Ok x) outcome job s s' held' held'' (mid, after)) came answered in
-    (underway_stopped outcome jobs i job s s' a.0.0 a.0.1 held held' held'' is under a.0.2 a.0.3, rose_later before mid after le a.1)
+pub course_stopped : (E : Type 0) (outcome : List ℕ → JobRecord → Outcome) (jobs : List JobRecord) (i : ℕ) (job : JobRecord) (course : Course) (s s' : State) (out out' out'' : SinkState)
+    → course ≡ Stopped → drop i jobs ≡ job ∷ drop (i + 1) jobs → Underway outcome jobs (drop i jobs) s out out' → out'.faults ≡ out.faults → AnswersOne {E = E} (Ok course) outcome job s s' out' out''
+    → CutReply outcome jobs out out'' × Rose out.faults out''.faults
+course_stopped E outcome jobs i job course s s' out out' out'' came is under same answered =
+    let a : AnswersOne {E = E} (Ok Stopped) outcome job s s' out' out'' = subst (λ (x : Course). AnswersOne {E = E} (Ok x) outcome job s s' out' out'') came answered in
+    (underway_stopped outcome jobs i job s s' a.0.0 a.0.1 out out' out'' is under a.0.2 a.0.3, rose_later out.faults out'.faults out''.faults same a.1)
 
-pub course_whole : (E : Type 0) (outcome : List ℕ → JobRecord → Outcome) (jobs : List JobRecord) (i : ℕ) (job : JobRecord) (course : Course) (s s' : State) (held held' held'' : Told) (before mid after : ℕ)
-    → course ≡ Whole → drop i jobs ≡ job ∷ drop (i + 1) jobs → Underway outcome jobs (drop i jobs) s held held' → before ≤ mid → AnswersOne {E = E} (Ok course) outcome job s s' held' held'' (mid, after)
-    → Underway outcome jobs (drop (i + 1) jobs) s' held held'' × Does Free s' × (before ≤ after)
-course_whole E outcome jobs i job course s s' held held' held'' before mid after came is under le answered =
-    let a : AnswersOne {E = E} (Ok Whole) outcome job s s' held' held'' (mid, after) = subst (λ (x : Course). AnswersOne {E = E} (Ok x) outcome job s s' held' held'' (mid, after)) came answered in (
-      underway_step outcome jobs i job s s' a.0.0 held held' held'' is under a.0.1 a.0.2,
+pub course_whole : (E : Type 0) (outcome : List ℕ → JobRecord → Outcome) (jobs : List JobRecord) (i : ℕ) (job : JobRecord) (course : Course) (s s' : State) (out out' out'' : SinkState)
+    → course ≡ Whole → drop i jobs ≡ job ∷ drop (i + 1) jobs → Underway outcome jobs (drop i jobs) s out out' → out'.faults ≡ out.faults → AnswersOne {E = E} (Ok course) outcome job s s' out' out''
+    → Underway outcome jobs (drop (i + 1) jobs) s' out out'' × Does Free s' × (out''.faults ≡ out.faults)
+course_whole E outcome jobs i job course s s' out out' out'' came is under same answered =
+    let a : AnswersOne {E = E} (Ok Whole) outcome job s s' out' out'' = subst (λ (x : Course). AnswersOne {E = E} (Ok x) outcome job s s' out' out'') came answered in (
+      underway_step outcome jobs i job s s' a.0.0 out out' out'' is under a.0.1 a.0.2,
       subst (λ (z : State). Does Free z) (sym a.0.1.moved) refl,
-      omega (arith, le, a.1),
+      a.1 ∙ same,
     )
 
 -- ---- the whole connection
@@ -274,8 +413,8 @@ course_whole E outcome jobs i job course s s' held held' held'' before mid after
 pub free_settled : (s : State) → Does Free s → IsSettled s × (s.closing ≡ false)
 free_settled s free = subst (λ (z : State). IsSettled z × (z.closing ≡ false)) (sym free) (refl, refl)
 
-pub none_run : (outcome : List ℕ → JobRecord → Outcome) (jobs : List JobRecord) (held : Told) → WroteFront (IsRun outcome jobs) held held
-none_run outcome jobs held =
+pub none_run : (outcome : List ℕ → JobRecord → Outcome) (jobs : List JobRecord) (out : SinkState) → WroteFront (IsRun outcome jobs) out out
+none_run outcome jobs out =
     let run = some_run outcome jobs 0 0 in
     let output = run.replies ++ farewell run.behind.closing in
     record {
@@ -283,11 +422,11 @@ none_run outcome jobs held =
       output = output;
       rest = output;
       is = record { behind = run.behind; replies = run.replies; runs = run.runs; closes = refl; ends = refl };
-      wrote = wrote_start output held;
+      wrote = wrote_start output out;
     }
 
-pub front_run : (outcome : List ℕ → JobRecord → Outcome) (jobs : List JobRecord) (held held' : Told) → RanFront outcome jobs held held' → WroteFront (IsRun outcome jobs) held held'
-front_run outcome jobs held held' front = record {
+pub front_run : (outcome : List ℕ → JobRecord → Outcome) (jobs : List JobRecord) (out out' : SinkState) → RanFront outcome jobs out out' → WroteFront (IsRun outcome jobs) out out'
+front_run outcome jobs out out' front = record {
   closing = front.behind.closing;
   output = front.replies ++ farewell front.behind.closing;
   rest = front.rest ++ farewell front.behind.closing;
@@ -299,9 +438,9 @@ front_run outcome jobs held held' front = record {
   };
 }
 
-pub all_run : (outcome : List ℕ → JobRecord → Outcome) (jobs : List JobRecord) (s : State) (held held' : Told) → RanAll outcome jobs s held held' → WroteFront (IsRun outcome jobs) held held'
-all_run outcome jobs s held held' all =
-    front_run outcome jobs held held' (record {
+pub all_run : (outcome : List ℕ → JobRecord → Outcome) (jobs : List JobRecord) (s : State) (out out' : SinkState) → RanAll outcome jobs s out out' → WroteFront (IsRun outcome jobs) out out'
+all_run outcome jobs s out out' all =
+    front_run outcome jobs out out' (record {
       behind = s;
       replies = all.replies;
       rest = [];
@@ -309,145 +448,163 @@ all_run outcome jobs s held held' all =
       wrote = record { front = all.replies; parts = sym (append-nil all.replies); wrote = all.wrote };
     })
 
-pub whole_run : (outcome : List ℕ → JobRecord → Outcome) (jobs : List JobRecord) (s : State) (held held' : Told) → RanAll outcome jobs s held held' → Does Free s → WroteWhole (IsRun outcome jobs) false held held'
-whole_run outcome jobs s held held' all free = record {
+pub whole_run : (outcome : List ℕ → JobRecord → Outcome) (jobs : List JobRecord) (s : State) (out out' : SinkState) → RanAll outcome jobs s out out' → Does Free s → WroteWhole (IsRun outcome jobs) false out out'
+whole_run outcome jobs s out out' all free = record {
   output = all.replies;
   is = record { behind = s; replies = all.replies; runs = all.runs; closes = (free_settled s free).1; ends = sym (append-nil all.replies) };
   wrote = all.wrote;
 }
 
-farewell_to : (outcome : List ℕ → JobRecord → Outcome) (jobs : List JobRecord) (s : State) (read_end : ReadEnd) (write_end : WriteEnd) (held held' held'' : Told) (writes : ℕ × ℕ)
-    → RanAll outcome jobs s held held' → s.closing ≡ true → SaysFarewell {E = ⊥} (Ok (record { read = read_end; write = write_end })) held' held'' writes
-    → Wrote read_end write_end (IsRun outcome jobs) held held'' writes
-farewell_to outcome jobs s read_end write_end held held' held'' writes all closing (is, inl (closed, wrote)) =
-    subst (λ (r : ReadEnd). Wrote r write_end (IsRun outcome jobs) held held'' writes) (sym is)
-    (subst (λ (w : WriteEnd). Wrote read.RunClosed w (IsRun outcome jobs) held held'' writes) (sym closed)
-    (record {
-      output = all.replies ++ farewell true;
-      is = record { behind = s; replies = all.replies; runs = all.runs; closes = closing; ends = refl };
-      wrote = wrote_behind all.replies (farewell true) held held' held'' all.wrote wrote;
-    }))
-farewell_to outcome jobs s read_end write_end held held' held'' writes all closing (is, inr (failed, (rest, wrote), rose)) =
-    subst (λ (r : ReadEnd). Wrote r write_end (IsRun outcome jobs) held held'' writes) (sym is)
-    (subst (λ (w : WriteEnd). Wrote read.RunClosed w (IsRun outcome jobs) held held'' writes) (sym failed) (
+-- a run of the jobs that stops at a failed write
+abbrev pub cut_in : (List ℕ → JobRecord → Outcome) → List JobRecord → SinkState → SinkState → Bool → Type 0
+cut_in outcome jobs out out' closing = CutRun outcome jobs closing out out'
+
+farewell_to : (outcome : List ℕ → JobRecord → Outcome) (jobs : List JobRecord) (s : State) (read_end : ReadEnd) (write_end : WriteEnd) (out out' out'' : SinkState)
+    → RanAll outcome jobs s out out' → s.closing ≡ true → out'.faults ≡ out.faults → SaysFarewell {E = ⊥} (Ok (record { read = read_end; write = write_end })) out' out''
+    → Wrote read_end write_end (IsRun outcome jobs) (cut_in outcome jobs out out'') out out''
+farewell_to outcome jobs s read_end write_end out out' out'' all closing same (is, inl (closed, wrote, none)) =
+    subst (λ (r : ReadEnd). Wrote r write_end (IsRun outcome jobs) (cut_in outcome jobs out out'') out out'') (sym is)
+    (subst (λ (w : WriteEnd). Wrote read.RunClosed w (IsRun outcome jobs) (cut_in outcome jobs out out'') out out'') (sym closed) (
       record {
-        closing = true;
         output = all.replies ++ farewell true;
-        rest = rest;
         is = record { behind = s; replies = all.replies; runs = all.runs; closes = closing; ends = refl };
-        wrote = wrote_all all.replies (farewell true) rest held held' held'' all.wrote wrote;
+        wrote = wrote_behind all.replies (farewell true) out out' out'' all.wrote wrote;
       },
-      rose,
+      none ∙ same,
+    ))
+farewell_to outcome jobs s read_end write_end out out' out'' all closing same (is, inr (failed, (rest, wrote), rose)) =
+    subst (λ (r : ReadEnd). Wrote r write_end (IsRun outcome jobs) (cut_in outcome jobs out out'') out out'') (sym is)
+    (subst (λ (w : WriteEnd). Wrote read.RunClosed w (IsRun outcome jobs) (cut_in outcome jobs out out'') out out'') (sym failed) (
+      record {
+        behind = s;
+        replies = all.replies;
+        front = wrote.front;
+        rest = rest;
+        runs = all.runs;
+        closes = closing;
+        parts = wrote.parts;
+        wrote = wrote_behind all.replies wrote.front out out' out'' all.wrote wrote.wrote;
+      },
+      rose_later out.faults out'.faults out''.faults same rose,
     ))
 
-rose_behind : {E : Type 0} (result : Result Piped E) (held held' : Told) (before mid after : ℕ) → before ≤ mid → SaysFarewell result held held' (mid, after) → SaysFarewell result held held' (before, after)
-rose_behind (Ok piped) held held' before mid after le (is, inl closed) = (is, inl closed)
-rose_behind (Ok piped) held held' before mid after le (is, inr (failed, wrote, rose)) = (is, inr (failed, wrote, rose_later before mid after le rose))
-rose_behind (Err e) held held' before mid after le same = same
-
-farewell_said : {E : Type 0} (outcome : List ℕ → JobRecord → Outcome) (jobs : List JobRecord) (s : State) (result : Result Piped E) (held held' held'' : Told) (writes : ℕ × ℕ)
-    → RanAll outcome jobs s held held' → s.closing ≡ true → SaysFarewell result held' held'' writes → Serves result (IsRun outcome jobs) held held'' writes
-farewell_said outcome jobs s (Ok piped) held held' held'' writes all closing says = farewell_to outcome jobs s piped.read piped.write held held' held'' writes all closing says
-farewell_said outcome jobs s (Err e) held held' held'' writes all closing same =
-    subst (λ (h : Told). WroteFront (IsRun outcome jobs) held h) (sym same) (all_run outcome jobs s held held' all)
+farewell_said : {E : Type 0} (outcome : List ℕ → JobRecord → Outcome) (jobs : List JobRecord) (s : State) (result : Result Piped E) (out out' out'' : SinkState)
+    → RanAll outcome jobs s out out' → s.closing ≡ true → out'.faults ≡ out.faults → SaysFarewell result out' out''
+    → Serves result (IsRun outcome jobs) (cut_in outcome jobs out out'') out out''
+farewell_said outcome jobs s (Ok piped) out out' out'' all closing same says = farewell_to outcome jobs s piped.read piped.write out out' out'' all closing same says
+farewell_said outcome jobs s (Err e) out out' out'' all closing same says =
+    subst (λ (o : SinkState). WroteFront (IsRun outcome jobs) out o) (sym says) (all_run outcome jobs s out out' all)
 
 -- the CloseConnection behind the replies before a limit of the run
-pub closed_so : (E : Type 0) {F : Type 0} (outcome : List ℕ → JobRecord → Outcome) (jobs : List JobRecord) (course : Course) (s : State) (result : Result Piped F) (held held' held'' : Told) (before mid after : ℕ)
-    → course ≡ Closing → AnswersAll {E = E} (Ok course) outcome jobs s held held' (before, mid) → SaysFarewell result held' held'' (mid, after) → Serves result (IsRun outcome jobs) held held'' (before, after)
-closed_so E outcome jobs course s result held held' held'' before mid after came answered says =
-    let a : AnswersAll {E = E} (Ok Closing) outcome jobs s held held' (before, mid) = subst (λ (x : Course). AnswersAll {E = E} (Ok x) outcome jobs s held held' (before, mid)) came answered in
-    farewell_said outcome jobs s result held held' held'' (before, after) a.0 a.2 (rose_behind result held' held'' before mid after a.3 says)
+pub closed_so : (E : Type 0) {F : Type 0} (outcome : List ℕ → JobRecord → Outcome) (jobs : List JobRecord) (course : Course) (s : State) (result : Result Piped F) (out out' out'' : SinkState)
+    → course ≡ Closing → AnswersAll {E = E} (Ok course) outcome jobs s out out' → SaysFarewell result out' out'' → Serves result (IsRun outcome jobs) (cut_in outcome jobs out out'') out out''
+closed_so E outcome jobs course s result out out' out'' came answered says =
+    let a : AnswersAll {E = E} (Ok Closing) outcome jobs s out out' = subst (λ (x : Course). AnswersAll {E = E} (Ok x) outcome jobs s out out') came answered in
+    farewell_said outcome jobs s result out out' out'' a.0 a.2 a.3 says
 
 -- or memory was wanting for it
-pub want_so : (E : Type 0) (outcome : List ℕ → JobRecord → Outcome) (jobs : List JobRecord) (course : Course) (s : State) (held held' : Told) (writes : ℕ × ℕ)
-    → course ≡ Closing → AnswersAll {E = E} (Ok course) outcome jobs s held held' writes → WroteFront (IsRun outcome jobs) held held'
-want_so E outcome jobs course s held held' writes came answered =
-    let a : AnswersAll {E = E} (Ok Closing) outcome jobs s held held' writes = subst (λ (x : Course). AnswersAll {E = E} (Ok x) outcome jobs s held held' writes) came answered in
-    all_run outcome jobs s held held' a.0
+pub want_so : (E : Type 0) (outcome : List ℕ → JobRecord → Outcome) (jobs : List JobRecord) (course : Course) (s : State) (out out' : SinkState)
+    → course ≡ Closing → AnswersAll {E = E} (Ok course) outcome jobs s out out' → WroteFront (IsRun outcome jobs) out out'
+want_so E outcome jobs course s out out' came answered =
+    let a : AnswersAll {E = E} (Ok Closing) outcome jobs s out out' = subst (λ (x : Course). AnswersAll {E = E} (Ok x) outcome jobs s out out') came answered in
+    all_run outcome jobs s out out' a.0
 
 -- ---- the whole input
 
-whole_as : (P Q : Outputs) (closing : Bool) (held held' : Told) → ((c : Bool) (o : List ℕ) → P c o → Q c o) → WroteWhole P closing held held' → WroteWhole Q closing held held'
-whole_as P Q closing held held' f w = record { output = w.output; is = f closing w.output w.is; wrote = w.wrote }
+whole_as : (P Q : Outputs) (closing : Bool) (out out' : SinkState) → ((c : Bool) (o : List ℕ) → P c o → Q c o) → WroteWhole P closing out out' → WroteWhole Q closing out out'
+whole_as P Q closing out out' f w = record { output = w.output; is = f closing w.output w.is; wrote = w.wrote }
 
-front_as : (P Q : Outputs) (held held' : Told) → ((c : Bool) (o : List ℕ) → P c o → Q c o) → WroteFront P held held' → WroteFront Q held held'
-front_as P Q held held' f w = record { closing = w.closing; output = w.output; rest = w.rest; is = f w.closing w.output w.is; wrote = w.wrote }
+front_as : (P Q : Outputs) (out out' : SinkState) → ((c : Bool) (o : List ℕ) → P c o → Q c o) → WroteFront P out out' → WroteFront Q out out'
+front_as P Q out out' f w = record { closing = w.closing; output = w.output; rest = w.rest; is = f w.closing w.output w.is; wrote = w.wrote }
 
-wrote_as : (read_end : ReadEnd) (write_end : WriteEnd) (P Q : Outputs) (held held' : Told) (writes : ℕ × ℕ) → ((c : Bool) (o : List ℕ) → P c o → Q c o)
-    → Wrote read_end write_end P held held' writes → Wrote read_end write_end Q held held' writes
-wrote_as read.Ended write.Done P Q held held' writes f w = whole_as P Q false held held' f w
-wrote_as read.RunClosed write.Closed P Q held held' writes f w = whole_as P Q true held held' f w
-wrote_as read.RunClosed write.WriteFault P Q held held' writes f w = (front_as P Q held held' f w.0, w.1)
-wrote_as read.Stopped write.WriteFault P Q held held' writes f w = (front_as P Q held held' f w.0, w.1)
-wrote_as read.Ended write.Closed P Q held held' writes f w = w
-wrote_as read.Ended write.WriteFault P Q held held' writes f w = w
-wrote_as read.RunClosed write.Done P Q held held' writes f w = w
-wrote_as read.Stopped write.Done P Q held held' writes f w = w
-wrote_as read.Stopped write.Closed P Q held held' writes f w = w
-wrote_as read.ReadFault write.Done P Q held held' writes f w = w
-wrote_as read.ReadFault write.Closed P Q held held' writes f w = w
-wrote_as read.ReadFault write.WriteFault P Q held held' writes f w = w
+wrote_as : (read_end : ReadEnd) (write_end : WriteEnd) (P Q : Outputs) (R S : StoppedSo) (out out' : SinkState) → ((c : Bool) (o : List ℕ) → P c o → Q c o) → ((c : Bool) → R c → S c)
+    → Wrote read_end write_end P R out out' → Wrote read_end write_end Q S out out'
+wrote_as read.Ended write.Done P Q R S out out' f g w = (whole_as P Q false out out' f w.0, w.1)
+wrote_as read.RunClosed write.Closed P Q R S out out' f g w = (whole_as P Q true out out' f w.0, w.1)
+wrote_as read.RunClosed write.WriteFault P Q R S out out' f g w = (g true w.0, w.1)
+wrote_as read.Stopped write.WriteFault P Q R S out out' f g w = (g false w.0, w.1)
+wrote_as read.Ended write.Closed P Q R S out out' f g w = w
+wrote_as read.Ended write.WriteFault P Q R S out out' f g w = w
+wrote_as read.RunClosed write.Done P Q R S out out' f g w = w
+wrote_as read.Stopped write.Done P Q R S out out' f g w = w
+wrote_as read.Stopped write.Closed P Q R S out out' f g w = w
+wrote_as read.ReadFault write.Done P Q R S out out' f g w = w
+wrote_as read.ReadFault write.Closed P Q R S out out' f g w = w
+wrote_as read.ReadFault write.WriteFault P Q R S out out' f g w = w
 
 -- a built input was answered
-pub replies_of : (piped : Piped) (outcome : List ℕ → JobRecord → Outcome) (input : List ℕ) (jobs : List JobRecord) (held held' : Told) (writes : ℕ × ℕ)
-    → IsBuilt input → MeanJobs 0 (stream MAX_MESSAGE input).messages jobs → Wrote piped.read piped.write (IsRun outcome jobs) held held' writes
-    → Wrote piped.read piped.write (IsPiped outcome input) held held' writes
-replies_of piped outcome input jobs held held' writes built mean wrote =
-    wrote_as piped.read piped.write (IsRun outcome jobs) (IsPiped outcome input) held held' writes (λ closing output run. run_is_piped outcome input jobs closing output built mean run) wrote
+pub replies_of : (answer : Piped) (outcome : List ℕ → JobRecord → Outcome) (input : List ℕ) (jobs : List JobRecord) (out out' : SinkState)
+    → IsBuilt input → MeanJobs 0 (stream MAX_MESSAGE input).messages jobs → Wrote answer.read answer.write (IsRun outcome jobs) (cut_in outcome jobs out out') out out'
+    → Wrote answer.read answer.write (IsPiped outcome input) (StopsIn outcome input out out') out out'
+replies_of answer outcome input jobs out out' built mean wrote =
+    wrote_as answer.read answer.write (IsRun outcome jobs) (IsPiped outcome input) (cut_in outcome jobs out out') (StopsIn outcome input out out') out out'
+    (λ closing output run. run_is_piped outcome input jobs closing output built mean run) (λ closing cut. cut_run outcome input jobs out out' closing built mean cut) wrote
 
 -- and one at which memory was wanting
-pub front_at_want : (outcome : List ℕ → JobRecord → Outcome) (input : List ℕ) (jobs : List JobRecord) (held held' : Told)
-    → IsBuilt input → MeanJobs 0 (stream MAX_MESSAGE input).messages jobs → WroteFront (IsRun outcome jobs) held held' → WroteAtWant outcome input held held'
-front_at_want outcome input jobs held held' built mean front = record {
-  built = λ _. front_as (IsRun outcome jobs) (IsPiped outcome input) held held' (λ closing output run. run_is_piped outcome input jobs closing output built mean run) front;
+pub front_at_want : (outcome : List ℕ → JobRecord → Outcome) (input : List ℕ) (jobs : List JobRecord) (out out' : SinkState)
+    → IsBuilt input → MeanJobs 0 (stream MAX_MESSAGE input).messages jobs → WroteFront (IsRun outcome jobs) out out' → WroteAtWant outcome input out out'
+front_at_want outcome input jobs out out' built mean front = record {
+  built = λ _. front_as (IsRun outcome jobs) (IsPiped outcome input) out out' (λ closing output run. run_is_piped outcome input jobs closing output built mean run) front;
   unbuilt = λ other. absurd (other built);
 }
 
 -- each built input has an answer, of which nothing may have been written yet
-pub none_at_want : (outcome : List ℕ → JobRecord → Outcome) (input : List ℕ) (held : Told) → WroteAtWant outcome input held held
-none_at_want outcome input held = record {
+pub none_at_want : (outcome : List ℕ → JobRecord → Outcome) (input : List ℕ) (out : SinkState) → WroteAtWant outcome input out out
+none_at_want outcome input out = record {
   built = λ built.
       let jobs = jobs_of 0 (stream MAX_MESSAGE input).messages built.pings in
-      front_as (IsRun outcome jobs.0) (IsPiped outcome input) held held (λ closing output run. run_is_piped outcome input jobs.0 closing output built jobs.1 run) (none_run outcome jobs.0 held);
+      front_as (IsRun outcome jobs.0) (IsPiped outcome input) out out (λ closing output run. run_is_piped outcome input jobs.0 closing output built jobs.1 run) (none_run outcome jobs.0 out);
   unbuilt = λ _. refl;
 }
 
--- what was told to be left is the input that was read
-told_some : (left : Told) (bytes : List ℕ) (P : List ℕ → Type 0) → IfSome left (λ input. input ≡ bytes) → P bytes → IfSome left P
-told_some (Some input) bytes P is holds = subst P (sym is) holds
-told_some None bytes P is holds = tt
+-- ---- what was taken
 
-told_any : (left : Told) (P : List ℕ → Type 0) → ((input : List ℕ) → P input) → IfSome left P
-told_any (Some input) P holds = holds input
-told_any None P holds = tt
+whole_pipes_to : (read_end : ReadEnd) (write_end : WriteEnd) (outcome : List ℕ → JobRecord → Outcome) (bytes : List ℕ) (s s' : SourceState) (out out' : SinkState)
+    → ReadsWhole s s' → Wrote read_end write_end (IsPiped outcome bytes) (StopsIn outcome bytes out out') out out' → PipesTo read_end write_end outcome bytes s s' out out'
+whole_pipes_to read.Ended write.Done outcome bytes s s' out out' reads w = (reads, w)
+whole_pipes_to read.RunClosed write.Closed outcome bytes s s' out out' reads w = (reads, w)
+whole_pipes_to read.RunClosed write.WriteFault outcome bytes s s' out out' reads w = (reads, w)
+whole_pipes_to read.Stopped write.WriteFault outcome bytes s s' out out' reads w = (reads, w)
+whole_pipes_to read.Ended write.Closed outcome bytes s s' out out' reads w = absurd w
+whole_pipes_to read.Ended write.WriteFault outcome bytes s s' out out' reads w = absurd w
+whole_pipes_to read.RunClosed write.Done outcome bytes s s' out out' reads w = absurd w
+whole_pipes_to read.Stopped write.Done outcome bytes s s' out out' reads w = absurd w
+whole_pipes_to read.Stopped write.Closed outcome bytes s s' out out' reads w = absurd w
+whole_pipes_to read.ReadFault write.Done outcome bytes s s' out out' reads w = absurd w
+whole_pipes_to read.ReadFault write.Closed outcome bytes s s' out out' reads w = absurd w
+whole_pipes_to read.ReadFault write.WriteFault outcome bytes s s' out out' reads w = absurd w
 
-pub told_long : (left : Told) → IfSome left (λ input. MAX_PIPED < length input) → IfSome left (λ input. ¬ IsBuilt input)
-told_long (Some input) long = λ built. omega (arith, built.few)
-told_long None long = tt
-
-whole_pipes_to : (read_end : ReadEnd) (write_end : WriteEnd) (outcome : List ℕ → JobRecord → Outcome) (left : Told) (bytes : List ℕ) (held held' : Told) (reads ends writes : ℕ × ℕ)
-    → IfSome left (λ input. input ≡ bytes) → Rose ends.0 ends.1 → Wrote read_end write_end (IsPiped outcome bytes) held held' writes
-    → PipesTo read_end write_end outcome left held held' reads ends writes
-whole_pipes_to read.Ended write.Done outcome left bytes held held' reads ends writes is ended w = (ended, told_some left bytes (λ input. WroteWhole (IsPiped outcome input) false held held') is w)
-whole_pipes_to read.RunClosed write.Closed outcome left bytes held held' reads ends writes is ended w = (ended, told_some left bytes (λ input. WroteWhole (IsPiped outcome input) true held held') is w)
-whole_pipes_to read.RunClosed write.WriteFault outcome left bytes held held' reads ends writes is ended w = (w.1, told_some left bytes (λ input. WroteFront (IsPiped outcome input) held held') is w.0)
-whole_pipes_to read.Stopped write.WriteFault outcome left bytes held held' reads ends writes is ended w = (w.1, told_some left bytes (λ input. WroteFront (IsPiped outcome input) held held') is w.0)
-whole_pipes_to read.Ended write.Closed outcome left bytes held held' reads ends writes is ended w = w
-whole_pipes_to read.Ended write.WriteFault outcome left bytes held held' reads ends writes is ended w = w
-whole_pipes_to read.RunClosed write.Done outcome left bytes held held' reads ends writes is ended w = w
-whole_pipes_to read.Stopped write.Done outcome left bytes held held' reads ends writes is ended w = w
-whole_pipes_to read.Stopped write.Closed outcome left bytes held held' reads ends writes is ended w = w
-whole_pipes_to read.ReadFault write.Done outcome left bytes held held' reads ends writes is ended w = absurd w
-whole_pipes_to read.ReadFault write.Closed outcome left bytes held held' reads ends writes is ended w = w
-whole_pipes_to read.ReadFault write.WriteFault outcome left bytes held held' reads ends writes is ended w = w
+whole_bytes : (answer : Result Piped PipeFault) (outcome : List ℕ → JobRecord → Outcome) (bytes : List ℕ) (s s' : SourceState) (out out' : SinkState)
+    → ReadsWhole s s' → Replies answer outcome bytes out out' → PipesBytes answer outcome bytes s s' out out'
+whole_bytes (Ok answer) outcome bytes s s' out out' reads replies = whole_pipes_to answer.read answer.write outcome bytes s s' out out' reads replies
+whole_bytes (Err fault.NotBuilt) outcome bytes s s' out out' reads replies = (replies.0, inl reads, replies.1)
+whole_bytes (Err fault.NoMemory) outcome bytes s s' out out' reads replies = replies
 
 -- a whole input was read and answered
-pub whole_pipes : (result : Result Piped PipeFault) (outcome : List ℕ → JobRecord → Outcome) (left : Told) (bytes : List ℕ) (held held' : Told) (reads ends writes : ℕ × ℕ)
-    → IfSome left (λ input. input ≡ bytes) → Rose ends.0 ends.1 → Replies result outcome bytes held held' writes → Pipes result outcome left held held' reads ends writes
-whole_pipes (Ok piped) outcome left bytes held held' reads ends writes is ended replies = whole_pipes_to piped.read piped.write outcome left bytes held held' reads ends writes is ended replies
-whole_pipes (Err fault.NotBuilt) outcome left bytes held held' reads ends writes is ended replies = (told_some left bytes (λ input. ¬ IsBuilt input) is replies.0, replies.1)
-whole_pipes (Err fault.NoMemory) outcome left bytes held held' reads ends writes is ended replies = told_some left bytes (λ input. WroteAtWant outcome input held held') is replies
+pub whole_pipes : (answer : Result Piped PipeFault) (outcome : List ℕ → JobRecord → Outcome) (bytes : List ℕ) (s s' : SourceState) (out out' : SinkState)
+    → length bytes ≤ MAX_PIPED → Gave bytes s s' → ReadsWhole s s' → Replies answer outcome bytes out out' → Pipes answer outcome s s' out out'
+whole_pipes answer outcome bytes s s' out out' few gave reads replies = record {
+  bytes = bytes;
+  gave = gave;
+  few = omega arith;
+  came = whole_bytes answer outcome bytes s s' out out' reads replies;
+}
 
--- no input at all was needed
-pub want_pipes : (outcome : List ℕ → JobRecord → Outcome) (left held : Told) → IfSome left (λ input. WroteAtWant outcome input held held)
-want_pipes outcome left held = told_any left (λ input. WroteAtWant outcome input held held) (λ input. none_at_want outcome input held)
+-- an input is too long
+pub long_pipes : (outcome : List ℕ → JobRecord → Outcome) (bytes : List ℕ) (s s' : SourceState) (out : SinkState)
+    → length bytes ≡ MAX_PIPED + 1 → Gave bytes s s' → s'.faults ≡ s.faults → Pipes (Err fault.NotBuilt) outcome s s' out out
+long_pipes outcome bytes s s' out many gave same = record {
+  bytes = bytes;
+  gave = gave;
+  few = omega arith;
+  came = (λ built. omega (arith, built.few), inr (omega arith, same), refl);
+}
+
+-- a read failed
+pub failed_pipes : (outcome : List ℕ → JobRecord → Outcome) (bytes : List ℕ) (s s' : SourceState) (out : SinkState)
+    → length bytes ≤ MAX_PIPED → Gave bytes s s' → s'.ends ≡ s.ends → Rose s.faults s'.faults → Pipes (Ok (record { read = read.ReadFault; write = write.Done })) outcome s s' out out
+failed_pipes outcome bytes s s' out few gave no_end rose = record { bytes = bytes; gave = gave; few = omega arith; came = (no_end, rose, refl) }
+
+-- memory was wanting for the input
+pub want_pipes : (outcome : List ℕ → JobRecord → Outcome) (s s' : SourceState) (out : SinkState) → GaveFew (MAX_PIPED + 1) s s' → Pipes (Err fault.NoMemory) outcome s s' out out
+want_pipes outcome s s' out few = record { bytes = few.bytes; gave = few.gave; few = few.few; came = none_at_want outcome few.bytes out }

@@ -31,8 +31,8 @@ use Rattle.orb_command.specs.Setup.{built_in, pipe_conn}
 use Rattle.orb_command.specs.Ping.{ping_outcome}
 use Rattle.orb_command.specs.Said.{reply_status, reply_body, bare, call_bytes, said}
 use Rattle.orb_command.specs.Piped.{Run, closed_by, answer_of, piped}
-use Rattle.orb_command.specs.Built.{IsPing, IsPiped}
-use Rattle.orb_command.specs.PingRun.{ping_job, offers, ping_interface, Ran, Runs, farewell, IsRun}
+use Rattle.orb_command.specs.Built.{IsPing, Spares, IsPiped}
+use Rattle.orb_command.specs.PingRun.{ping_job, offers, ping_interface, IsAnswered, Ran, Runs, farewell, IsRun}
 use Rattle.orb_command.specs.Replied.{IsReplyTo, AreRepliesTo, PingsReplied, MeetsNoLimit}
 use Rattle.orb_command.proofs.HearingLaws.{jobs_of, no_jobs, more_jobs_of}
 use Rattle.orb_command.proofs.HeardLaws.{hears_one_way, built_in_is_distinct}
@@ -51,7 +51,8 @@ piped_is_run outcome input closing output short p =
     let calls : p.calls ≡ offers jobs.0 =
     (hears_one_way built_in pipe_conn input p.calls (offers jobs.0) Quiet Quiet built_in_is_distinct p.heard
     (record { sound = p.built.sound; whole = p.built.whole; each = jobs.1.heard; quiet = refl })).0 in
-    let run = run_over outcome p.lacks 0 jobs.0 0 0 short jobs.1.jobs_so in
+    let spares : Spares built_in outcome p.lacks (offers jobs.0) = subst (λ (x : List LaneCall). Spares built_in outcome p.lacks x) calls p.spares in
+    let run = run_over outcome p.lacks 0 jobs.0 0 0 short jobs.1.jobs_so spares in
     let servant = answer_of built_in outcome p.lacks in
     let c = run.behind.calls in
     let b = run.behind.bytes in
@@ -88,10 +89,10 @@ no_memory_short : (order : Order) → length (reply_body order no_memory) ≤ MA
 no_memory_short order = omega (arith, fields_end-is order 24 (exception_fields (record { name = NoMemory; minor = 1; completed = Maybe })))
 
 body_short : (interface : List ℕ) (serial size id : ℕ) (order : Order) (answer : Outcome)
-    → (answer ≡ ping_outcome interface (ping_job serial order size id)) ⊎ (answer ≡ no_memory) → length (reply_body order answer) ≤ MAX_BODY
+    → IsAnswered answer (ping_outcome interface (ping_job serial order size id)) → length (reply_body order answer) ≤ MAX_BODY
 body_short interface serial size id order answer (inl is) =
     subst (λ (o : Outcome). length (reply_body order o) ≤ MAX_BODY) (sym is) (omega (arith, length-number_bytes order w16 100))
-body_short interface serial size id order answer (inr is) = subst (λ (o : Outcome). length (reply_body order o) ≤ MAX_BODY) (sym is) (no_memory_short order)
+body_short interface serial size id order answer (inr (is, other)) = subst (λ (o : Outcome). length (reply_body order o) ≤ MAX_BODY) (sym is) (no_memory_short order)
 
 -- a message and the bytes of the reply to it
 record Replied (m : Frames.Message) (bytes : List ℕ) : Type 0 where
@@ -107,7 +108,7 @@ one_replied n m ping s s' bytes ran = record {
     id = ping.id;
     reads = ping.reads;
     same_order = refl;
-    says = elim ran.came [ inl is ↦ inl (ap (reply_with m.order ping.id) is) | inr is ↦ inr (ap (reply_with m.order ping.id) is) ];
+    says = elim ran.came [ inl is ↦ inl (ap (reply_with m.order ping.id) is) | inr is ↦ inr (ap (reply_with m.order ping.id) is.0) ];
   };
   fits = (
     record { id = ping.reads.fits.id; status = status_fits ran.answer; contexts = record { few = lit< tt; each = tt } },

@@ -3,12 +3,15 @@ pub mod Ping
 pub mod Heard
 pub mod Said
 pub mod Piped
+pub mod Stops
 pub mod Built
 pub mod PingRun
 pub mod Hearing
 pub mod Replied
 pub mod Words
+pub mod Moment
 pub mod Pipe
+pub mod PipeAnswer
 pub mod DumpAnswer
 pub mod RefsAnswer
 pub mod Command

@@ -1,7 +1,7 @@
 -- The states of the lane machine in which the pipe's requests run, one after another.
-use Rattle.std.specs.Prelude.{◌≡◌, ◌≤◌, ◌⊎◌, ℕ, suc, ◌+◌, Bool, true, false, List, [], ◌∷◌, ◌++◌, Option, Some, None, Result, Ok, Err, option_map, codes}
-use Rattle.orb_base.specs.Outcomes.{no_memory, body_len}
-use Rattle.orb_base.specs.Outside.{Told, Rose}
+use Rattle.std.specs.Prelude.{◌≡◌, ◌≤◌, ◌⊎◌, ℕ, suc, ◌+◌, Bool, true, false, List, [], ◌∷◌, ◌++◌, Option, Some, None, Result, Ok, Err, codes}
+use Rattle.orb_base.specs.Outcomes.{no_memory, bad_operation, body_len}
+use Rattle.orb_base.specs.Outside.{SinkState, Rose}
 use Rattle.orb_base.specs.declared.limits.TheConstants.{MAX_BODY}
 use Rattle.orb_base.specs.declared.answer.Answer.{Answer}
 use Rattle.orb_base.specs.JobRecord.{JobRecord}
@@ -26,7 +26,7 @@ use Rattle.orb_command.specs.Setup.{built_in_pool, pipe_conn}
 use Rattle.orb_command.specs.Ping.{ping_request}
 use Rattle.orb_command.specs.Heard.{job_of}
 use Rattle.orb_command.specs.Said.{item_bytes}
-use Rattle.text_streams.specs.Streams.{WroteSome}
+use Rattle.text_streams.specs.Streams.{WroteText, WroteSome}
 
 -- the request of so many bytes for `current` of `ping`, as the call of this number of the pipe's connection
 abbrev pub ping_job : ℕ → Order → ℕ → ℕ → JobRecord
@@ -79,10 +79,14 @@ abbrev pub Offers : Bool → State → JobRecord → State → Type 0
 Offers true s job s' = (is_over s job.size ≡ false) × Becomes s' (Given job) (s.calls + 1) (s.bytes + job.size)
 Offers false s job s' = (is_over s job.size ≡ true) × (s' ≡ record s { closing = true })
 
+-- an answer is the outcome, or NO_MEMORY for want of memory; never so where the outcome is BAD_OPERATION, which takes none
+abbrev pub IsAnswered : Outcome → Outcome → Type 0
+IsAnswered answer outcome = (answer ≡ outcome) ⊎ ((answer ≡ no_memory) × ¬ (outcome ≡ bad_operation))
+
 -- the answer is to this job, by this outcome, or by want of memory
 pub record IsAnswerTo (job : JobRecord) (outcome : Outcome) (answer : Answer) : Type 0 where
   pub same_job : answer.job ≡ job
-  pub answered : (answer.outcome ≡ outcome) ⊎ (answer.outcome ≡ no_memory)
+  pub answered : IsAnswered answer.outcome outcome
   pub short : body_len answer.outcome ≤ MAX_BODY
 
 -- a job is carried out, or a limit of the run is met
@@ -98,7 +102,7 @@ ping_interface = codes "IDL:Orb/Ping:1.0"
 -- a job was carried out, and these bytes are its reply
 pub record Ran (outcome : List ℕ → JobRecord → Outcome) (job : JobRecord) (s s' : State) (bytes : List ℕ) : Type 0 where
   pub answer : Outcome
-  pub came : (answer ≡ outcome ping_interface job) ⊎ (answer ≡ no_memory)
+  pub came : IsAnswered answer (outcome ping_interface job)
   pub short : body_len answer ≤ MAX_BODY
   pub admitted : is_over s job.size ≡ false
   pub moved : s' ≡ with_thread Free (s.calls + 1) (s.bytes + job.size + body_len answer)
@@ -130,46 +134,90 @@ pub record IsRun (outcome : List ℕ → JobRecord → Outcome) (jobs : List Job
   pub closes : behind.closing ≡ closing
   pub ends : output ≡ replies ++ farewell closing
 
+-- jobs were carried out one after another, and no limit of the run was met
+abbrev pub RunsOn : (List ℕ → JobRecord → Outcome) → List JobRecord → State → State → List ℕ → Type 0
+RunsOn outcome [] s s' bytes = (s' ≡ s) × (bytes ≡ [])
+RunsOn outcome (job ∷ jobs) s s' bytes =
+    (mid : State) × (first : List ℕ) × (rest : List ℕ) × Ran outcome job s mid first × RunsOn outcome jobs mid s' rest × (bytes ≡ first ++ rest)
+
 -- one job was answered: its reply was written, or a front of it, or a limit was met
-abbrev pub AnswersOne : {E : Type 0} → Result Course E → (List ℕ → JobRecord → Outcome) → JobRecord → State → State → Told → Told → ℕ × ℕ → Type 0
-AnswersOne (Ok Whole) outcome job s s' held held' writes =
-    ((bytes : List ℕ) × Ran outcome job s s' bytes × (held' ≡ option_map (λ h. h ++ bytes) held)) × (writes.0 ≤ writes.1)
-AnswersOne (Ok Closing) outcome job s s' held held' writes = Refused job s s' [] × (held' ≡ held) × (writes.0 ≤ writes.1)
-AnswersOne (Ok Stopped) outcome job s s' held held' writes =
-    ((bytes : List ℕ) × (rest : List ℕ) × Ran outcome job s s' bytes × WroteSome bytes rest held held') × Rose writes.0 writes.1
-AnswersOne (Err _) outcome job s s' held held' writes = held' ≡ held
+abbrev pub AnswersOne : {E : Type 0} → Result Course E → (List ℕ → JobRecord → Outcome) → JobRecord → State → State → SinkState → SinkState → Type 0
+AnswersOne (Ok Whole) outcome job s s' out out' =
+    ((bytes : List ℕ) × Ran outcome job s s' bytes × WroteText bytes out out') × (out'.faults ≡ out.faults)
+AnswersOne (Ok Closing) outcome job s s' out out' = Refused job s s' [] × (out' ≡ out)
+AnswersOne (Ok Stopped) outcome job s s' out out' =
+    ((bytes : List ℕ) × (rest : List ℕ) × Ran outcome job s s' bytes × WroteSome bytes rest out out') × Rose out.faults out'.faults
+AnswersOne (Err _) outcome job s s' out out' = out' ≡ out
 
 -- the jobs before these were answered, and what is written so far, with what a run of these writes, is what a run of all does
-pub record Underway (outcome : List ℕ → JobRecord → Outcome) (jobs left : List JobRecord) (s : State) (held held' : Told) : Type 0 where
+pub record Underway (outcome : List ℕ → JobRecord → Outcome) (jobs left : List JobRecord) (s : State) (out out' : SinkState) : Type 0 where
+  pub done : List JobRecord
   pub so_far : List ℕ
-  pub wrote : held' ≡ option_map (λ h. h ++ so_far) held
+  pub parts : jobs ≡ done ++ left
+  pub ran : RunsOn outcome done opened s so_far
+  pub wrote : WroteText so_far out out'
   pub completes : (s' : State) (bytes : List ℕ) → Runs outcome left s s' bytes → Runs outcome jobs opened s' (so_far ++ bytes)
 
 -- all jobs were answered, or those before a limit of the run
-pub record RanAll (outcome : List ℕ → JobRecord → Outcome) (jobs : List JobRecord) (s : State) (held held' : Told) : Type 0 where
+pub record RanAll (outcome : List ℕ → JobRecord → Outcome) (jobs : List JobRecord) (s : State) (out out' : SinkState) : Type 0 where
   pub replies : List ℕ
   pub runs : Runs outcome jobs opened s replies
-  pub wrote : held' ≡ option_map (λ h. h ++ replies) held
+  pub wrote : WroteText replies out out'
 
 -- a front of the replies of such a run was written
-pub record RanFront (outcome : List ℕ → JobRecord → Outcome) (jobs : List JobRecord) (held held' : Told) : Type 0 where
+pub record RanFront (outcome : List ℕ → JobRecord → Outcome) (jobs : List JobRecord) (out out' : SinkState) : Type 0 where
   pub behind : State
   pub replies : List ℕ
   pub rest : List ℕ
   pub runs : Runs outcome jobs opened behind replies
-  pub wrote : WroteSome replies rest held held'
+  pub wrote : WroteSome replies rest out out'
+
+-- the write of a reply failed, behind the whole replies before it; the other jobs may be answered so
+pub record CutReply (outcome : List ℕ → JobRecord → Outcome) (jobs : List JobRecord) (out out' : SinkState) : Type 0 where
+  pub done : List JobRecord
+  pub job : JobRecord
+  pub left : List JobRecord
+  pub mid : State
+  pub mid' : State
+  pub behind : State
+  pub so_far : List ℕ
+  pub front : List ℕ
+  pub rest : List ℕ
+  pub others : List ℕ
+  pub parts : jobs ≡ done ++ job ∷ left
+  pub before : RunsOn outcome done opened mid so_far
+  pub ran : Ran outcome job mid mid' (front ++ rest)
+  pub later : Runs outcome left mid' behind others
+  pub wrote : WroteText (so_far ++ front) out out'
+
+-- the write of the CloseConnection failed, behind all replies
+pub record CutFarewell (outcome : List ℕ → JobRecord → Outcome) (jobs : List JobRecord) (out out' : SinkState) : Type 0 where
+  pub behind : State
+  pub replies : List ℕ
+  pub front : List ℕ
+  pub rest : List ℕ
+  pub runs : Runs outcome jobs opened behind replies
+  pub closes : behind.closing ≡ true
+  pub parts : farewell true ≡ front ++ rest
+  pub wrote : WroteText (replies ++ front) out out'
+
+-- a write failed behind a limit of the run, or before one
+abbrev pub CutRun : (List ℕ → JobRecord → Outcome) → List JobRecord → Bool → SinkState → SinkState → Type 0
+CutRun outcome jobs true out out' = CutFarewell outcome jobs out out'
+CutRun outcome jobs false out out' = CutReply outcome jobs out out'
 
 -- what answering all jobs came to
-abbrev pub AnswersAll : {E : Type 0} → Result Course E → (List ℕ → JobRecord → Outcome) → List JobRecord → State → Told → Told → ℕ × ℕ → Type 0
-AnswersAll (Ok Whole) outcome jobs s' held held' writes = RanAll outcome jobs s' held held' × Does Free s'
-AnswersAll (Ok Closing) outcome jobs s' held held' writes = RanAll outcome jobs s' held held' × IsSettled s' × (s'.closing ≡ true) × (writes.0 ≤ writes.1)
-AnswersAll (Ok Stopped) outcome jobs s' held held' writes = RanFront outcome jobs held held' × Rose writes.0 writes.1
-AnswersAll (Err _) outcome jobs s' held held' writes = RanFront outcome jobs held held'
+abbrev pub AnswersAll : {E : Type 0} → Result Course E → (List ℕ → JobRecord → Outcome) → List JobRecord → State → SinkState → SinkState → Type 0
+AnswersAll (Ok Whole) outcome jobs s' out out' = RanAll outcome jobs s' out out' × Does Free s' × (out'.faults ≡ out.faults)
+AnswersAll (Ok Closing) outcome jobs s' out out' =
+    RanAll outcome jobs s' out out' × IsSettled s' × (s'.closing ≡ true) × (out'.faults ≡ out.faults)
+AnswersAll (Ok Stopped) outcome jobs s' out out' = CutReply outcome jobs out out' × Rose out.faults out'.faults
+AnswersAll (Err _) outcome jobs s' out out' = RanFront outcome jobs out out'
 
 -- the CloseConnection was written, or a front of it
-abbrev pub SaysFarewell : {E : Type 0} → Result Piped E → Told → Told → ℕ × ℕ → Type 0
-SaysFarewell (Ok piped) held held' writes =
+abbrev pub SaysFarewell : {E : Type 0} → Result Piped E → SinkState → SinkState → Type 0
+SaysFarewell (Ok piped) out out' =
     (piped.read ≡ read.RunClosed)
-    × (((piped.write ≡ write.Closed) × (held' ≡ option_map (λ h. h ++ farewell true) held))
-    ⊎ ((piped.write ≡ write.WriteFault) × ((rest : List ℕ) × WroteSome (farewell true) rest held held') × Rose writes.0 writes.1))
-SaysFarewell (Err _) held held' writes = held' ≡ held
+    × (((piped.write ≡ write.Closed) × WroteText (farewell true) out out' × (out'.faults ≡ out.faults))
+    ⊎ ((piped.write ≡ write.WriteFault) × ((rest : List ℕ) × WroteSome (farewell true) rest out out') × Rose out.faults out'.faults))
+SaysFarewell (Err _) out out' = out' ≡ out

@@ -1,8 +1,9 @@
 -- What a run of the pipe reads and writes.
-use Rattle.std.specs.Prelude.{◌≡◌, ℕ, Bool, true, false, List, ◌++◌, option_map, IfSome, Result, Ok, Err}
-use Rattle.orb_base.specs.Outside.{Told, Rose}
+use Rattle.std.specs.Prelude.{◌≡◌, ◌⊎◌, ◌<◌, ◌≤◌, ◌+◌, ℕ, Bool, true, false, List, [], length, IfSome, Result, Ok, Err}
+use Rattle.orb_base.specs.Outside.{SourceState, SinkState, Rose}
 use Rattle.orb_base.specs.JobRecord.{JobRecord}
 use Rattle.orb_base.specs.declared.outcome.Outcome.{Outcome}
+use Rattle.lane_machine.specs.declared.call.How.TheVariants.{Quiet}
 use Rattle.orb_command.specs.declared.ends.ReadEnd.{ReadEnd}
 use Rattle.orb_command.specs.declared.ends.ReadEnd.TheVariants as read
 use Rattle.orb_command.specs.declared.ends.WriteEnd.{WriteEnd}
@@ -10,81 +11,92 @@ use Rattle.orb_command.specs.declared.ends.WriteEnd.TheVariants as write
 use Rattle.orb_command.specs.declared.ends.Piped.{Piped}
 use Rattle.orb_command.specs.declared.ends.PipeFault.{PipeFault}
 use Rattle.orb_command.specs.declared.ends.PipeFault.TheVariants.{NotBuilt, NoMemory}
+use Rattle.orb_command.specs.declared.request.TheConstants.{MAX_PIPED}
+use Rattle.orb_command.specs.Setup.{built_in}
+use Rattle.orb_command.specs.Piped.{piped}
+use Rattle.orb_command.specs.Stops.{StopsAt}
 use Rattle.orb_command.specs.Built.{IsBuilt, IsPiped}
-use Rattle.text_streams.specs.Streams.{WroteSome}
+use Rattle.text_streams.specs.Streams.{Gave, WroteText, WroteSome}
 
--- outputs, each of a run that met a limit, or of one that met none
+-- outputs, each of a run in which a call was answered Closing, or of one in which none was
 abbrev pub Outputs : Type 1
 Outputs = Bool → List ℕ → Type 0
 
 -- one of the outputs was written whole
-pub record WroteWhole (outputs : Outputs) (closing : Bool) (held held' : Told) : Type 0 where
+pub record WroteWhole (outputs : Outputs) (closing : Bool) (out out' : SinkState) : Type 0 where
   pub output : List ℕ
   pub is : outputs closing output
-  pub wrote : held' ≡ option_map (λ h. h ++ output) held
+  pub wrote : WroteText output out out'
 
 -- a front of one of the outputs was written
-pub record WroteFront (outputs : Outputs) (held held' : Told) : Type 0 where
+pub record WroteFront (outputs : Outputs) (out out' : SinkState) : Type 0 where
   pub closing : Bool
   pub output : List ℕ
   pub rest : List ℕ
   pub is : outputs closing output
-  pub wrote : WroteSome output rest held held'
+  pub wrote : WroteSome output rest out out'
 
--- what was written, by how a run came out that read its input to the end; `writes` is the count of the sink's faults
--- before and after
-abbrev pub Wrote : ReadEnd → WriteEnd → Outputs → Told → Told → ℕ × ℕ → Type 0
-Wrote read.Ended write.Done outputs held held' writes = WroteWhole outputs false held held'
-Wrote read.RunClosed write.Closed outputs held held' writes = WroteWhole outputs true held held'
-Wrote read.RunClosed write.WriteFault outputs held held' writes = WroteFront outputs held held' × Rose writes.0 writes.1
-Wrote read.Stopped write.WriteFault outputs held held' writes = WroteFront outputs held held' × Rose writes.0 writes.1
-Wrote read.Ended write.Closed outputs held held' writes = ⊥
-Wrote read.Ended write.WriteFault outputs held held' writes = ⊥
-Wrote read.RunClosed write.Done outputs held held' writes = ⊥
-Wrote read.Stopped write.Done outputs held held' writes = ⊥
-Wrote read.Stopped write.Closed outputs held held' writes = ⊥
-Wrote read.ReadFault write.Done outputs held held' writes = ⊥
-Wrote read.ReadFault write.Closed outputs held held' writes = ⊥
-Wrote read.ReadFault write.WriteFault outputs held held' writes = ⊥
+-- what stands written where a write failed behind a call that was answered Closing, or where no call was
+abbrev pub Stopped : Type 1
+Stopped = Bool → Type 0
+
+-- what was written, by how a run came out that read its input to the end: RunClosed exactly where a call was answered Closing
+abbrev pub Wrote : ReadEnd → WriteEnd → Outputs → Stopped → SinkState → SinkState → Type 0
+Wrote read.Ended write.Done outputs stopped out out' = WroteWhole outputs false out out' × (out'.faults ≡ out.faults)
+Wrote read.RunClosed write.Closed outputs stopped out out' = WroteWhole outputs true out out' × (out'.faults ≡ out.faults)
+Wrote read.RunClosed write.WriteFault outputs stopped out out' = stopped true × Rose out.faults out'.faults
+Wrote read.Stopped write.WriteFault outputs stopped out out' = stopped false × Rose out.faults out'.faults
+Wrote read.Ended write.Closed outputs stopped out out' = ⊥
+Wrote read.Ended write.WriteFault outputs stopped out out' = ⊥
+Wrote read.RunClosed write.Done outputs stopped out out' = ⊥
+Wrote read.Stopped write.Done outputs stopped out out' = ⊥
+Wrote read.Stopped write.Closed outputs stopped out out' = ⊥
+Wrote read.ReadFault _ outputs stopped out out' = ⊥
 
 -- the same at want of memory
-abbrev pub Serves : {E : Type 0} → Result Piped E → Outputs → Told → Told → ℕ × ℕ → Type 0
-Serves (Ok piped) outputs held held' writes = Wrote piped.read piped.write outputs held held' writes
-Serves (Err _) outputs held held' writes = WroteFront outputs held held'
+abbrev pub Serves : {E : Type 0} → Result Piped E → Outputs → Stopped → SinkState → SinkState → Type 0
+Serves (Ok piped) outputs stopped out out' = Wrote piped.read piped.write outputs stopped out out'
+Serves (Err _) outputs stopped out out' = WroteFront outputs out out'
 
 -- where memory was wanting: a front of the answer to a built input, and nothing to another one
-pub record WroteAtWant (outcome : List ℕ → JobRecord → Outcome) (input : List ℕ) (held held' : Told) : Type 0 where
-  pub built : IsBuilt input → WroteFront (IsPiped outcome input) held held'
-  pub unbuilt : ¬ IsBuilt input → held' ≡ held
+pub record WroteAtWant (outcome : List ℕ → JobRecord → Outcome) (input : List ℕ) (out out' : SinkState) : Type 0 where
+  pub built : IsBuilt input → WroteFront (IsPiped outcome input) out out'
+  pub unbuilt : ¬ IsBuilt input → out' ≡ out
+
+-- a write failed in the pipe's answer to this input
+pub record StopsIn (outcome : List ℕ → JobRecord → Outcome) (input : List ℕ) (out out' : SinkState) (closing : Bool) : Type 0 where
+  pub limited : Bool
+  pub output : List ℕ
+  pub run : IsPiped outcome input limited output
+  pub stops : StopsAt (piped built_in outcome 1 run.calls Quiet run.lacks).history closing out out'
 
 -- what answering this whole input came to
-abbrev pub Replies : Result Piped PipeFault → (List ℕ → JobRecord → Outcome) → List ℕ → Told → Told → ℕ × ℕ → Type 0
-Replies (Ok piped) outcome input held held' writes = Wrote piped.read piped.write (IsPiped outcome input) held held' writes
-Replies (Err NotBuilt) outcome input held held' writes = (¬ IsBuilt input) × (held' ≡ held)
-Replies (Err NoMemory) outcome input held held' writes = WroteAtWant outcome input held held'
+abbrev pub Replies : Result Piped PipeFault → (List ℕ → JobRecord → Outcome) → List ℕ → SinkState → SinkState → Type 0
+Replies (Ok piped) outcome input out out' =
+    Wrote piped.read piped.write (IsPiped outcome input) (StopsIn outcome input out out') out out'
+Replies (Err NotBuilt) outcome input out out' = (¬ IsBuilt input) × (out' ≡ out)
+Replies (Err NoMemory) outcome input out out' = WroteAtWant outcome input out out'
 
--- what the pipe did, by how it came out: what the source told to be left before, what the sink told to be held before and
--- after, and the counts of the source's faults and ends and of the sink's faults
-abbrev pub PipesTo : ReadEnd → WriteEnd → (List ℕ → JobRecord → Outcome) → Told → Told → Told → ℕ × ℕ → ℕ × ℕ → ℕ × ℕ → Type 0
-PipesTo read.Ended write.Done outcome left held held' reads ends writes =
-    Rose ends.0 ends.1 × IfSome left (λ input. WroteWhole (IsPiped outcome input) false held held')
-PipesTo read.RunClosed write.Closed outcome left held held' reads ends writes =
-    Rose ends.0 ends.1 × IfSome left (λ input. WroteWhole (IsPiped outcome input) true held held')
-PipesTo read.RunClosed write.WriteFault outcome left held held' reads ends writes =
-    Rose writes.0 writes.1 × IfSome left (λ input. WroteFront (IsPiped outcome input) held held')
-PipesTo read.Stopped write.WriteFault outcome left held held' reads ends writes =
-    Rose writes.0 writes.1 × IfSome left (λ input. WroteFront (IsPiped outcome input) held held')
-PipesTo read.ReadFault write.Done outcome left held held' reads ends writes = Rose reads.0 reads.1 × (held' ≡ held)
-PipesTo read.Ended write.Closed outcome left held held' reads ends writes = ⊥
-PipesTo read.Ended write.WriteFault outcome left held held' reads ends writes = ⊥
-PipesTo read.RunClosed write.Done outcome left held held' reads ends writes = ⊥
-PipesTo read.Stopped write.Done outcome left held held' reads ends writes = ⊥
-PipesTo read.Stopped write.Closed outcome left held held' reads ends writes = ⊥
-PipesTo read.ReadFault write.Closed outcome left held held' reads ends writes = ⊥
-PipesTo read.ReadFault write.WriteFault outcome left held held' reads ends writes = ⊥
+-- the input was read to its end, behind which nothing is left, and no read failed
+abbrev pub ReadsWhole : SourceState → SourceState → Type 0
+ReadsWhole old new = Rose old.ends new.ends × IfSome new.left (λ rest. rest ≡ []) × (new.faults ≡ old.faults)
 
--- the same for every answer of the pipe, with its cause
-abbrev pub Pipes : Result Piped PipeFault → (List ℕ → JobRecord → Outcome) → Told → Told → Told → ℕ × ℕ → ℕ × ℕ → ℕ × ℕ → Type 0
-Pipes (Ok piped) outcome left held held' reads ends writes = PipesTo piped.read piped.write outcome left held held' reads ends writes
-Pipes (Err NotBuilt) outcome left held held' reads ends writes = IfSome left (λ input. ¬ IsBuilt input) × (held' ≡ held)
-Pipes (Err NoMemory) outcome left held held' reads ends writes = IfSome left (λ input. WroteAtWant outcome input held held')
+-- what the pipe did to the bytes that it took, by how it came out
+abbrev pub PipesTo : ReadEnd → WriteEnd → (List ℕ → JobRecord → Outcome) → List ℕ → SourceState → SourceState → SinkState → SinkState → Type 0
+PipesTo read.ReadFault write.Done outcome bytes old new out out' = (new.ends ≡ old.ends) × Rose old.faults new.faults × (out' ≡ out)
+PipesTo read_end write_end outcome bytes old new out out' =
+    ReadsWhole old new × Wrote read_end write_end (IsPiped outcome bytes) (StopsIn outcome bytes out out') out out'
+
+-- the same for every answer of the pipe. Not built are a whole input that isn't of the built form, and one that is too long
+abbrev pub PipesBytes : Result Piped PipeFault → (List ℕ → JobRecord → Outcome) → List ℕ → SourceState → SourceState → SinkState → SinkState → Type 0
+PipesBytes (Ok piped) outcome bytes old new out out' = PipesTo piped.read piped.write outcome bytes old new out out'
+PipesBytes (Err NotBuilt) outcome bytes old new out out' =
+    (¬ IsBuilt bytes) × (ReadsWhole old new ⊎ ((MAX_PIPED < length bytes) × (new.faults ≡ old.faults))) × (out' ≡ out)
+PipesBytes (Err NoMemory) outcome bytes old new out out' = WroteAtWant outcome bytes out out'
+
+-- some bytes were taken, and what is answered and written is what those bytes say
+pub record Pipes (answer : Result Piped PipeFault) (outcome : List ℕ → JobRecord → Outcome) (old new : SourceState) (out out' : SinkState) : Type 0 where
+  pub bytes : List ℕ
+  pub gave : Gave bytes old new
+  pub few : length bytes ≤ MAX_PIPED + 1
+  pub came : PipesBytes answer outcome bytes old new out out'

@@ -1,9 +1,9 @@
 //! The top call.
-ghost use Rattle.std.specs.Prelude.{◌≡◌, ◌+◌, string_bytes};
+ghost use Rattle.std.specs.Prelude.{◌≡◌, string_bytes};
 ghost use Rattle.orb_command.specs.Words.{command_of};
-ghost use Rattle.orb_command.specs.Ping.{ping_outcome};
-ghost use Rattle.text_streams.specs.Streams.{GaveFew};
-ghost use Rattle.orb_command.specs.Command.{Answers, most_taken, status_of, note_of};
+ghost use Rattle.orb_command.specs.Moment.{moment};
+ghost use Rattle.orb_command.specs.PipeAnswer.{note_of, note_of_read as note_of_read_lem};
+ghost use Rattle.orb_command.specs.Command.{Answers, status_of};
 
 use crate::answered::Answered;
 use crate::dump_note::dump_note;
@@ -37,19 +37,26 @@ fn answered(note: Note) -> Answered
     Answered { status, note }
 }
 
-/// The note of a run of the pipe.
+/// The note of how the reading of the pipe ended.
+fn note_of_read(read: ReadEnd) -> Note
+    ensures { result ≡ note_of_read_lem read }
+{
+    match read {
+        ReadEnd::Ended => Note::Nothing,
+        ReadEnd::RunClosed => Note::Limit,
+        ReadEnd::ReadFault => Note::ReadFault,
+        ReadEnd::Stopped => Note::WriteFault,
+    }
+}
+
+/// The note of a run of the pipe: a write fault goes before the read's end.
 fn note_for(ran: Result<Piped, PipeFault>) -> Note
     ensures { result ≡ note_of ran }
 {
     match ran {
-        Ok(piped) => match piped.read {
-            ReadEnd::Ended => Note::Nothing,
-            ReadEnd::RunClosed => match piped.write {
-                WriteEnd::WriteFault => Note::WriteFault,
-                WriteEnd::Done | WriteEnd::Closed => Note::Limit,
-            },
-            ReadEnd::ReadFault => Note::ReadFault,
-            ReadEnd::Stopped => Note::WriteFault,
+        Ok(piped) => match piped.write {
+            WriteEnd::WriteFault => Note::WriteFault,
+            WriteEnd::Done | WriteEnd::Closed => note_of_read(piped.read),
         },
         Err(PipeFault::NotBuilt) => Note::NotBuilt,
         Err(PipeFault::NoMemory) => Note::Memory,
@@ -60,7 +67,7 @@ fn note_for(ran: Result<Piped, PipeFault>) -> Note
 /// status with its note. `pipe` answers each request of its input, `dump` writes a line for each message of it, and
 /// `refs` writes the parts of the reference that it is; the other commands aren't built yet. It returns where each read
 /// and write returns.
-#[tactic(auto, using(crate::proofs::CommandLaws::pipes_answers, crate::proofs::CommandLaws::dumps_answers, crate::proofs::CommandLaws::dumps_few, crate::proofs::CommandLaws::refs_answers, crate::proofs::CommandLaws::refs_few, text_streams::proofs::CallerLemmas::gave_none))]
+#[tactic(auto, using(crate::proofs::CommandLaws::pipe_answers, crate::proofs::CommandLaws::dump_answers, crate::proofs::CommandLaws::refs_answers, crate::proofs::CommandLaws::unbuilt_answers, crate::proofs::CommandLaws::unread_answers))]
 pub fn orb_main<I: Source, O: Sink>(
     alloc: Global,
     words: &[String],
@@ -69,14 +76,10 @@ pub fn orb_main<I: Source, O: Sink>(
 ) -> Answered
     // The status is that of the note, and each note has its cause, by what the words mean: 1 exactly where they mean no
     // command, 14 exactly where they mean one that isn't built, or an input of `pipe` isn't of the built form; 3 and 4 only
-    // where a count of faults rose; 8 and 13 of `dump`, and 8 of `refs`, exactly where the bytes that it took say so.
-    ensures status { result.status ≡ status_of result.note }
-    ensures answers { Answers (command_of string_bytes words.now) result.note (I.left input.old) (I.left input.new)
-        (I.taken input.old) (I.taken input.new) (O.held out.old) (O.held out.new)
-        (I.faults input.old, I.faults input.new) (I.ends input.old, I.ends input.new) (O.faults out.old, O.faults out.new) }
-    // An input is taken no further than its command takes it.
-    ensures few { GaveFew (most_taken (command_of string_bytes words.now)) (I.left input.old) (I.left input.new)
-        (I.taken input.old) (I.taken input.new) }
+    // where the input's or the output's count of faults rose, and the other's did not; 8 and 13 of `dump`, and 8 of `refs`,
+    // exactly where the bytes that it took say so.
+    ensures { Answers (command_of string_bytes words.now) result
+        (moment (I.state input.old) (O.state out.old)) (moment (I.state input.new) (O.state out.new)) }
 {
     match read_words(words) {
         Meaning::Pipe => answered(note_for(pipe_run(alloc, input, out, &Ping::new(alloc)))),

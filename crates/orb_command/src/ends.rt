@@ -7,11 +7,11 @@ use thiserror::Error;
 pub enum ReadEnd {
     /// At the end of its input.
     Ended,
-    /// A limit of the run was met: the requests behind it were not answered.
+    /// A limit of the run was met: a call was answered Closing, and the requests behind it were not answered.
     RunClosed,
     /// The source failed. Nothing was written.
     ReadFault,
-    /// A write failed before the end of the input was worked off.
+    /// A write failed before the end of the input was worked off, and no call was answered Closing.
     Stopped,
 }
 

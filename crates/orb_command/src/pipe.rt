@@ -1,8 +1,7 @@
 //! The pipe: one connection, read from a source and answered to a sink.
-ghost use Rattle.std.specs.Prelude.{◌≡◌, ◌≤◌, ◌+◌, length};
+ghost use Rattle.std.specs.Prelude.{◌≡◌, ◌≤◌, length};
 ghost use Rattle.lane_machine.specs.declared.doing.Doing.TheVariants.{Free};
-ghost use Rattle.orb_command.specs.PingRun.{opened, ping_interface, Does, IsPingJob, ArePingJobs, IsRun, AnswersOne, AnswersAll, SaysFarewell};
-ghost use Rattle.text_streams.specs.Streams.{GaveFew};
+ghost use Rattle.orb_command.specs.PingRun.{opened, ping_interface, Does, IsPingJob, ArePingJobs, IsRun, AnswersOne, AnswersAll, CutRun, SaysFarewell};
 ghost use Rattle.orb_command.specs.Pipe.{Serves, Replies, Pipes};
 
 use crate::course::Course;
@@ -29,8 +28,7 @@ fn answer_one<O: Sink, S: Serving>(
     requires free { Does Free lanes.old }
     requires job { IsPingJob job.now }
     requires interface { interface.now ≡ ping_interface }
-    ensures { AnswersOne result (S.outcome servants.now) job.now lanes.old lanes.new
-        (O.held sink.old) (O.held sink.new) (O.faults sink.old, O.faults sink.new) }
+    ensures { AnswersOne result (S.outcome servants.now) job.now lanes.old lanes.new (O.state sink.old) (O.state sink.new) }
 {
     let Some(answer) = carry_out(lanes, servants, interface, job)? else {
         return Ok(Course::Closing);
@@ -55,8 +53,7 @@ fn answer_all<O: Sink, S: Serving>(
     requires opened { lanes.old ≡ opened }
     requires jobs { ArePingJobs 0 jobs.now }
     requires interface { interface.now ≡ ping_interface }
-    ensures { AnswersAll result (S.outcome servants.now) jobs.now lanes.new
-        (O.held sink.old) (O.held sink.new) (O.faults sink.old, O.faults sink.new) }
+    ensures { AnswersAll result (S.outcome servants.now) jobs.now lanes.new (O.state sink.old) (O.state sink.new) }
 {
     for job in jobs {
         match answer_one(alloc, lanes, sink, servants, interface, job)? {
@@ -70,7 +67,7 @@ fn answer_all<O: Sink, S: Serving>(
 
 /// Writes the CloseConnection behind the requests before a limit of the run.
 fn say_farewell<O: Sink>(alloc: Global, sink: &mut O) -> Result<Piped, NoMemory>
-    ensures { SaysFarewell result (O.held sink.old) (O.held sink.new) (O.faults sink.old, O.faults sink.new) }
+    ensures { SaysFarewell result (O.state sink.old) (O.state sink.new) }
 {
     let bytes = close_connection(alloc)?;
     let write = match write_all(sink, bytes.as_slice()) {
@@ -92,7 +89,8 @@ fn answer_jobs<O: Sink, S: Serving>(
     jobs: &[Arc<Job>],
 ) -> Result<Piped, NoMemory>
     requires { ArePingJobs 0 jobs.now }
-    ensures { Serves result (IsRun (S.outcome servants.now) jobs.now) (O.held sink.old) (O.held sink.new) (O.faults sink.old, O.faults sink.new) }
+    ensures { Serves result (IsRun (S.outcome servants.now) jobs.now)
+        (λ closing. CutRun (S.outcome servants.now) jobs.now closing (O.state sink.old) (O.state sink.new)) (O.state sink.old) (O.state sink.new) }
 {
     let mut lanes = open(alloc)?;
     let interface = interface(alloc)?;
@@ -124,7 +122,7 @@ fn answer<O: Sink, S: Serving>(
     input: &[u8],
 ) -> Result<Piped, PipeFault>
     requires { length input.now ≤ MAX_PIPED }
-    ensures { Replies result (S.outcome servants.now) input.now (O.held sink.old) (O.held sink.new) (O.faults sink.old, O.faults sink.new) }
+    ensures { Replies result (S.outcome servants.now) input.now (O.state sink.old) (O.state sink.new) }
 {
     match hear(alloc, input) {
         Ok(Some(jobs)) => match answer_jobs(alloc, sink, servants, jobs.as_slice()) {
@@ -140,21 +138,19 @@ fn answer<O: Sink, S: Serving>(
 /// one whose stream has a fault, leaves something unfinished, or has another message than a request for `current` of
 /// `ping`, with response flags 3 and without contexts and body, is refused as not built, and nothing is written. It
 /// returns where each read and write returns. Work per byte is constant.
-#[tactic(auto, using(crate::proofs::PipedLaws::whole_pipes, crate::proofs::PipedLaws::told_long, crate::proofs::PipedLaws::want_pipes))]
+#[tactic(auto, using(crate::proofs::PipedLaws::whole_pipes, crate::proofs::PipedLaws::failed_pipes, crate::proofs::PipedLaws::want_pipes))]
 pub fn pipe_run<I: Source, O: Sink, S: Serving>(
     alloc: Global,
     source: &mut I,
     sink: &mut O,
     servants: &S,
 ) -> Result<Piped, PipeFault>
-    ensures pipes { Pipes result (S.outcome servants.now) (I.left source.old) (O.held sink.old) (O.held sink.new)
-        (I.faults source.old, I.faults source.new) (I.ends source.old, I.ends source.new) (O.faults sink.old, O.faults sink.new) }
-    ensures few { GaveFew (MAX_PIPED + 1) (I.left source.old) (I.left source.new) (I.taken source.old) (I.taken source.new) }
+    ensures { Pipes result (S.outcome servants.now) (I.state source.old) (I.state source.new) (O.state sink.old) (O.state sink.new) }
 {
     match read_all(alloc, MAX_PIPED, source) {
         ReadAll::Whole(input) => answer(alloc, sink, servants, input.as_slice()),
         ReadAll::TooLong => Err(PipeFault::NotBuilt),
-        ReadAll::Failed => Ok(Piped {
+        ReadAll::Failed(_) => Ok(Piped {
             read: ReadEnd::ReadFault,
             write: WriteEnd::Done,
         }),

@@ -548,9 +548,28 @@ fn the_pipe_runs_over_any_servant(rt: HostRuntime) -> Result<(), Fail> {
     assert_eq!(rt; pipe_run(alloc, &mut input, &mut out, &Deaf), Ok(done));
     assert_eq!(rt; out.held(), BAD_OPERATION_REPLY);
     let mut again = SteadySource::new(list(alloc, PING_REQUEST)?, List::new(alloc));
-    let mut counting = CountingSink { bytes: 0 };
+    let mut counting = CountingSink::new();
     assert_eq!(rt; pipe_run(alloc, &mut again, &mut counting, &Deaf), Ok(done));
-    assert_eq!(rt; counting.bytes, 72);
+    assert_eq!(rt; counting.bytes(), 72);
+    Ok(())
+}
+
+/// A reply that fails stops the run, and a front of the replies stands written; no call was answered Closing.
+#[test]
+fn a_failed_reply_stops_the_run(rt: HostRuntime) -> Result<(), Fail> {
+    let alloc = rt.alloc();
+    let mut requests = list(alloc, PING_REQUEST)?;
+    assert!(rt; requests.append(PING_REQUEST).is_ok());
+    let mut input = SteadySource::new(requests, List::new(alloc));
+    let mut out = MemSink::new(alloc, list(alloc, &[72, 5])?, list(alloc, &[2])?);
+    let stopped = Piped {
+        read: ReadEnd::Stopped,
+        write: WriteEnd::WriteFault,
+    };
+    assert_eq!(rt; pipe_run(alloc, &mut input, &mut out, &Deaf), Ok(stopped));
+    let mut front = list(alloc, BAD_OPERATION_REPLY)?;
+    assert!(rt; front.append(&BAD_OPERATION_REPLY[..5]).is_ok());
+    assert_eq!(rt; out.held(), front.as_slice());
     Ok(())
 }
 
