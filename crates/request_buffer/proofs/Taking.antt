@@ -1,5 +1,5 @@
 -- The bounds of a buffer as a request is taken out.
-use Rattle.std.proofs.Common.{◌≡◌, ℕ, ◌+◌, ◌-◌, ◌≤◌, List, length, sum_by, Option, Some, ap, ◌∙◌, arith}
+use Rattle.std.proofs.Common.{◌≡◌, ℕ, ◌+◌, ◌-◌, ◌≤◌, List, length, Some, ap, ◌∙◌, arith}
 use Rattle.std.specs.Prelude.{slice_get, remove}
 use Rattle.std.proofs.lemmas.List.Edits.{length-remove}
 use Rattle.std.proofs.lemmas.Option.{slice_get_within}

@@ -1,10 +1,10 @@
 -- The choice of a thread goes down the lanes.
-use Rattle.std.proofs.Common.{◌≡◌, ℕ, zero, suc, ◌+◌, ◌*◌, ◌<◌, ◌≤◌, Bool, true, false, if◌then◌else◌, ◌&&◌, ◌||◌, ◌==◌, eqb, List, Option, Some, None, inl, inr, ◌⊎◌, refl, sym, ap, ◌∙◌, subst, arith}
+use Rattle.std.proofs.Common.{◌≡◌, ℕ, zero, suc, ◌+◌, ◌*◌, ◌<◌, ◌≤◌, Bool, true, false, if◌then◌else◌, ◌&&◌, ◌||◌, ◌==◌, List, Option, Some, None, inl, inr, refl, sym, ap, ◌∙◌, subst, arith}
 use Rattle.std.specs.Prelude.{slice_get, position, nat_lt}
 use Rattle.std.proofs.lemmas.Option.{same_Some}
-use Rattle.std.proofs.lemmas.Bool.{and_parts, and_from, or_cases, or_left, or_right, or_from, both_ways, cases_Bool, cases_lt, cases_order, eqb-true, eq-eqb, ltb-true, lt-ltb}
+use Rattle.std.proofs.lemmas.Bool.{and_parts, and_from, or_cases, or_left, or_right, or_from, both_ways, cases_lt, cases_order, eqb-true, eq-eqb, ltb-true, lt-ltb}
 use Rattle.thread_borrowing.specs.ThreadList.{Thread, is_free}
-use Rattle.thread_borrowing.specs.Choice.{greatest, first_greatest, may_run, standing, rank, can_start, chosen_thread}
+use Rattle.thread_borrowing.specs.Choice.{first_greatest, may_run, standing, rank, can_start, chosen_thread}
 use Rattle.thread_borrowing.specs.Chain.{or_else, first_standing, in_lane, down_from, StandsBefore}
 use Rattle.thread_borrowing.proofs.Places.{at_place, before_place, no_place, none_passes, at_first, first_is}
 use Rattle.thread_borrowing.proofs.Chosen.{chosen_is, chosen_first}

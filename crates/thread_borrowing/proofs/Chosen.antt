@@ -1,5 +1,5 @@
 -- What a chosen thread and a next request are.
-use Rattle.std.proofs.Common.{◌≡◌, ℕ, ◌<◌, ◌≤◌, Bool, true, false, List, Option, Some, None}
+use Rattle.std.proofs.Common.{◌≡◌, ℕ, ◌≤◌, Bool, true, false, List, Some, None}
 use Rattle.std.specs.Prelude.{slice_get}
 use Rattle.thread_borrowing.specs.ThreadList.{Thread}
 use Rattle.thread_borrowing.specs.Choice.{greatest, can_start, rank, chosen_thread}
