@@ -1,4 +1,2 @@
-pub mod FirstPolicies
-pub mod ApartLaws
 pub mod RefsLaws
 pub mod TextForms

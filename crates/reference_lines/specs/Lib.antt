@@ -1,5 +1,3 @@
-pub mod Apart
-pub mod Policies
 pub mod ReferenceText
 pub mod RefsText
 pub mod Refs

@@ -8,7 +8,7 @@ use Rattle.orb_base.specs.declared.priority_model.PriorityModel.TheVariants.{Cli
 use Rattle.service_contexts.specs.Layout.{ModelValue}
 use Rattle.object_refs.specs.Reference.{Profile, Location}
 use Rattle.text_streams.specs.Shown.{shown}
-use Rattle.reference_lines.specs.Policies.{published_model, published_bands}
+use Rattle.service_contexts.specs.Publishing.{published_model, published_bands}
 
 -- where an object is: its host, its port and its key
 abbrev pub address_text : List ℕ → ℕ → List ℕ → List ℕ

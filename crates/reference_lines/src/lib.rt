@@ -1,9 +1,7 @@
 //! The parts of an object reference, line by line: of a stringified reference, or of an object URL.
 #![tactic(auto)]
 
-mod apart;
 mod laws;
-mod policies;
 mod ref_lines;
 mod refs;
 mod refs_end;

@@ -4,7 +4,6 @@ ghost use Rattle.std.specs.List.{flat_map};
 ghost use Rattle.service_contexts.specs.Moves.{items_of};
 ghost use Rattle.reference_lines.specs.ReferenceText as Lines;
 
-use crate::apart::level;
 use orb_base::{Band, List, NoMemory, Octets, Priority, PriorityModel, Text};
 use std::fmt;
 use std::fmt::Write;
@@ -67,7 +66,7 @@ pub fn put_model(
 {
     if let Some((model, priority)) = model {
         let name = model_name(model);
-        let priority = level(priority);
+        let priority = priority.level();
         write!(text, "model {name} {priority}\n")?;
     }
     Ok(())
@@ -77,8 +76,8 @@ pub fn put_model(
 fn put_band(text: &mut String, band: Band) -> Result<(), NoMemory>
     ensures { OnOk result (string_bytes text.new ≡ string_bytes text.old ++ Lines.band_text band) }
 {
-    let low = level(band.low());
-    let high = level(band.high());
+    let low = band.low().level();
+    let high = band.high().level();
     write!(text, "band {low} {high}\n")?;
     Ok(())
 }

@@ -5,11 +5,11 @@ ghost use Rattle.reference_lines.specs.ReferenceText.{profile_text, location_tex
 ghost use Rattle.reference_lines.specs.RefsText as Meaning;
 ghost use Rattle.reference_lines.specs.Refs.{WritesLines, CutsOff, Refs};
 
-use crate::policies::{published_bands, published_model};
 use crate::ref_lines::{Address, put_address, put_bands, put_model, put_type};
 use crate::refs_end::{MAX_REFERENCE, RefsEnd};
 use object_refs::{Corbaloc, IiopProfile, Ior, RefError, first_iiop, parse_corbaloc, parse_ior};
 use orb_base::{NoMemory, Sink, Source};
+use service_contexts::{published_bands, published_model};
 use std::alloc::Global;
 use text_streams::{ReadAll, WriteAll, read_all, write_all};
 
