@@ -17,6 +17,7 @@ use crate::part::{put_body, put_contexts, put_target};
 use crate::reply::Reply;
 use crate::request::Request;
 use cdr_core::Writer;
+use giop_frames::Kind;
 use orb_base::limits::MAX_MESSAGE;
 use orb_base::{Context, NoMemory, Order};
 
@@ -35,13 +36,13 @@ fn kind(message: &Message) -> u8
     ensures { result ≡ Spec.kind_of (message_of message.now) }
 {
     match message {
-        Message::Request(_) => 0,
-        Message::Reply(_) => 1,
-        Message::Cancel(_) => 2,
-        Message::Locate(_) => 3,
-        Message::Located(_) => 4,
-        Message::Close => 5,
-        Message::Error => 6,
+        Message::Request(_) => Kind::Request.number(),
+        Message::Reply(_) => Kind::Reply.number(),
+        Message::Cancel(_) => Kind::CancelRequest.number(),
+        Message::Locate(_) => Kind::LocateRequest.number(),
+        Message::Located(_) => Kind::LocateReply.number(),
+        Message::Close => Kind::CloseConnection.number(),
+        Message::Error => Kind::MessageError.number(),
     }
 }
 
@@ -176,6 +177,6 @@ pub fn write_reply(
     let len = reply_len(contexts, body.len());
     into.reserve(len)?;
     let size = len - 12;
-    put_header(into, order, 1, size as u32)?;
+    put_header(into, order, Kind::Reply.number(), size as u32)?;
     put_reply_parts(into, id, status, contexts, body)
 }
