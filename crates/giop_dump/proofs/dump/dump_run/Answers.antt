@@ -34,7 +34,7 @@ loop-taken-preserved g c =
 
 pub returns-in-End : goal.returns-in-End
 returns-in-End g c =
-    dump_done c.at_end.result c.rest.result c.loop-taken.framer c.loop-taken.taken _ _ _ _ _ _ _ _ _ _ _ _ _ _ c.loop-taken.invariant c.loop-taken-test.true c.in-End.ensures.bytes.1 c.in-End.ensures.bytes.2 c.in-End.ensures.bytes.0 c.in-End.ensures.end c.rest.ensures c.at_end.ensures
+    dump_done c.at_end.result c.rest.result c.loop-taken.framer c.loop-taken.taken _ _ _ _ _ _ _ _ _ _ _ _ _ _ c.loop-taken.invariant c.loop-taken-test.true c.in-End.ensures.bytes.1 c.in-End.ensures.bytes.2 c.in-End.ensures.bytes.0 c.in-End.ensures.end c.rest.ensures.rest c.at_end.ensures
 
 pub returns-in-Failed : goal.returns-in-Failed
 returns-in-Failed g c =

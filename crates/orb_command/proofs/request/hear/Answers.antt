@@ -24,6 +24,6 @@ jobs_of-requires-clause-few c =
 pub returns : goal.returns
 returns c =
     let all = fed_all c.in_ok-framer.framer c.feed.new.self c.new-messages.result.items c.feed.new.whole.items c.args.input.now c.in_ok-framer.ensures c.feed.ensures.fed.0 c.feed.ensures.fed.1 c.new-messages.ensures c.in-Ok.ensures.tells in
-    let whole = no_rest c.args.input.now c.feed.new.self c.feed.new.whole.items c.rest.result all (c.rest.ensures all.enough) (sym c.is_some.ensures ∙ c.if-is_some.false) in
+    let whole = no_rest c.args.input.now c.feed.new.self c.feed.new.whole.items c.rest.result all (c.rest.ensures.rest all.enough) (sym c.is_some.ensures ∙ c.if-is_some.false) in
     heard_as c.args.input.now c.feed.new.self c.feed.new.whole.items c.jobs_of.result all c.requires whole
     (subst (λ (ms : List Message). IfOk c.jobs_of.result (MeansJobs ms)) c.as_slice.ensures c.jobs_of.ensures)
