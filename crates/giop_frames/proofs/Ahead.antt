@@ -1,14 +1,19 @@
 -- What bytes say ahead: a whole piece at their front, less than a piece, or a header that breaks a rule.
-use Rattle.std.proofs.Common.{◌≡◌, ℕ, zero, suc, ◌+◌, ◌-◌, ◌<◌, ◌≤◌, Bool, true, false, cond, List, [], ◌++◌, length, take, drop, get_or, Option, Some, None, refl, ap, sym, ◌∙◌, arith, nat_le, length-append, length-drop}
+use Rattle.std.proofs.Common.{◌≡◌, ℕ, zero, suc, ◌+◌, ◌-◌, ◌<◌, ◌≤◌, Bool, true, false, cond, not, List, [], ◌∷◌, ◌++◌, length, take, drop, get_or, Option, Some, None, Result, Ok, Err, refl, ap, sym, ◌∙◌, arith, nat_le, length-append, length-drop}
 use Rattle.std.specs.Int.{w32}
 use Rattle.std.proofs.lemmas.List.{take-append-le, drop-append-le, get_or_append_left, length-take-le, take-append-drop}
 use Rattle.std.proofs.Math.Seq.{take-append_seam, drop-append_seam}
 use Rattle.orb_base.specs.declared.order.Order.{Order}
 use Rattle.cdr_core.specs.Reading.{number_of}
 use Rattle.giop_frames.specs.declared.fault.FrameCause.{FrameCause}
-use Rattle.giop_frames.specs.Pieces.{Piece, Cut, order_of, kind_of, piece_len, is_whole, cut, with_piece}
+use Rattle.giop_frames.specs.declared.fault.FrameCause.TheVariants.{BadMagic, BadVersion}
+use Rattle.giop_frames.specs.declared.kind.Kind.{Kind}
+use Rattle.giop_frames.specs.declared.header.Header.{Header}
+use Rattle.giop_frames.specs.Pieces.{Piece, Cut, order_of, has_more, kind_of, size_of, piece_len, is_whole, cut, with_piece}
+use Rattle.giop_frames.specs.Headers.{has_magic, has_version, with_kind, header_at}
+use Rattle.giop_frames.specs.Kinds.{kind_by}
 use Rattle.giop_frames.specs.Messages.{Partial}
-use Rattle.giop_frames.specs.Stream.{Said, has_magic, has_version, header_cause, piece_cause, or_else, cause_of, tail_cause, at_end, or_stopped, stopped}
+use Rattle.giop_frames.specs.Stream.{Said, header_rule, header_cause, piece_cause, or_else, cause_of, tail_cause, at_end, or_stopped, stopped}
 use Rattle.giop_frames.specs.Running.{stepped, run, run_cut, ahead}
 
 at_front : (a b : List ℕ) (n : ℕ) → n < 12 → 12 ≤ length a → get_or (a ++ b) n 0 ≡ get_or a n 0
@@ -25,24 +30,55 @@ kind_front a b h = at_front a b 7 (omega arith) h
 size_front : (a b : List ℕ) → 12 ≤ length a → take 4 (drop 8 (a ++ b)) ≡ take 4 (drop 8 a)
 size_front a b h = ap (λ (x : List ℕ). take 4 x) (drop-append-le 8 a b (omega arith)) ∙ take-append-le 4 (drop 8 a) b (omega (arith, length-drop 8 a))
 
+head_size_front : (a b : List ℕ) → 12 ≤ length a → size_of (a ++ b) ≡ size_of a
+head_size_front a b h =
+    ap (λ (o : Order). number_of o w32 (take 4 (drop 8 (a ++ b)))) (order_front a b h)
+    ∙ ap (λ (x : List ℕ). number_of (order_of a) w32 x) (size_front a b h)
+
 pub piece_len_front : (a b : List ℕ) → 12 ≤ length a → piece_len (a ++ b) ≡ piece_len a
 unfolding piece_len
-piece_len_front a b h =
-    ap (λ (o : Order). 12 + number_of o w32 (take 4 (drop 8 (a ++ b)))) (order_front a b h)
-    ∙ ap (λ (x : List ℕ). 12 + number_of (order_of a) w32 x) (size_front a b h)
+piece_len_front a b h = ap (λ (n : ℕ). 12 + n) (head_size_front a b h)
 
 magic_front : (a b : List ℕ) → 12 ≤ length a → has_magic (a ++ b) ≡ has_magic a
 unfolding has_magic
-magic_front a b h =
-    rw (at_front a b 0 (omega arith) h, at_front a b 1 (omega arith) h, at_front a b 2 (omega arith) h, at_front a b 3 (omega arith) h) refl
+magic_front [] b h = absurd (omega arith)
+magic_front (w ∷ []) b h = absurd (omega arith)
+magic_front (w ∷ x ∷ []) b h = absurd (omega arith)
+magic_front (w ∷ x ∷ y ∷ []) b h = absurd (omega arith)
+magic_front (w ∷ x ∷ y ∷ z ∷ a) b h = refl
 
 version_front : (a b : List ℕ) → 12 ≤ length a → has_version (a ++ b) ≡ has_version a
 unfolding has_version
 version_front a b h = rw (at_front a b 4 (omega arith) h, at_front a b 5 (omega arith) h) refl
 
+more_front : (a b : List ℕ) → 12 ≤ length a → has_more (a ++ b) ≡ has_more a
+unfolding has_more
+more_front a b h = rw (at_front a b 6 (omega arith) h) refl
+
+abbrev head_of : Order → Bool → Kind → ℕ → Result Header FrameCause
+head_of o m k n = Ok (record { order = o; more = m; kind = k; size = n })
+
+kind_with : (a b : List ℕ) (o : Option Kind) → 12 ≤ length a → with_kind (a ++ b) o ≡ with_kind a o
+kind_with a b None h = refl
+kind_with a b (Some k) h =
+    ap (λ (o : Order). head_of o (has_more (a ++ b)) k (size_of (a ++ b))) (order_front a b h)
+    ∙ ap (λ (m : Bool). head_of (order_of a) m k (size_of (a ++ b))) (more_front a b h)
+    ∙ ap (λ (n : ℕ). head_of (order_of a) (has_more a) k n) (head_size_front a b h)
+
+abbrev judged_by : Bool → Bool → Result Header FrameCause → Result Header FrameCause
+judged_by m v r = cond (not m) (Err BadMagic) (cond (not v) (Err BadVersion) r)
+
+head_front : (a b : List ℕ) → 12 ≤ length a → header_at (a ++ b) ≡ header_at a
+unfolding header_at
+head_front a b h =
+    ap (λ (m : Bool). judged_by m (has_version (a ++ b)) (with_kind (a ++ b) (kind_by (kind_of (a ++ b))))) (magic_front a b h)
+    ∙ ap (λ (v : Bool). judged_by (has_magic a) v (with_kind (a ++ b) (kind_by (kind_of (a ++ b))))) (version_front a b h)
+    ∙ ap (λ (n : ℕ). judged_by (has_magic a) (has_version a) (with_kind (a ++ b) (kind_by n))) (kind_front a b h)
+    ∙ ap (judged_by (has_magic a) (has_version a)) (kind_with a b (kind_by (kind_of a)) h)
+
 pub header_front : (limit : ℕ) (a b : List ℕ) → 12 ≤ length a → header_cause limit (a ++ b) ≡ header_cause limit a
 unfolding header_cause
-header_front limit a b h = rw (magic_front a b h, version_front a b h, kind_front a b h, piece_len_front a b h) refl
+header_front limit a b h = ap (header_rule limit) (head_front a b h)
 
 pub long_piece : (bytes : List ℕ) → 12 ≤ piece_len bytes
 unfolding piece_len

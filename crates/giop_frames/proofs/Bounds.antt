@@ -4,13 +4,13 @@ use Rattle.std.specs.Prelude.{sum_by}
 use Rattle.std.proofs.Math.Nat.{mul-le-mul_right}
 use Rattle.std.proofs.lemmas.List.{append-nil}
 use Rattle.std.proofs.lemmas.List.Sums.{sum_by-cons}
-use Rattle.giop_frames.specs.declared.fault.FrameCause.TheVariants.{BadMagic, BadVersion, BadType, TooLong}
-use Rattle.giop_frames.specs.Pieces.{Piece, kind_of, piece_len, is_whole, id_of}
+use Rattle.giop_frames.specs.Pieces.{Piece, order_of, piece_len, is_whole, id_of}
 use Rattle.giop_frames.specs.Messages.{Partial, is_fragment, opens, continues, ends, added, begun, open_at}
-use Rattle.giop_frames.specs.Stream.{has_magic, has_version, piece_cause, header_cause, fragment_cause, tail_cause}
+use Rattle.giop_frames.specs.Stream.{piece_cause, header_cause, fragment_cause, tail_cause}
 use Rattle.giop_frames.specs.Running.{State, grown, stepped}
 use Rattle.giop_frames.specs.Steps.{IsDistinct}
 use Rattle.giop_frames.specs.Bounds.{AreWithin, IsBounded, kept_bytes}
+use Rattle.giop_frames.proofs.Heads.{header_within}
 use Rattle.giop_frames.proofs.Places.{same}
 use Rattle.giop_frames.proofs.Effects.{quiet}
 use Rattle.giop_frames.proofs.Soundness.{opens_new, joins_within, fragment_fits}
@@ -86,8 +86,8 @@ joins_all : (limit : ℕ) (p : Piece) (us : List Partial) → piece_cause limit 
 joins_all limit p us h =
     λ u o c.
     let f : is_fragment p.bytes ≡ true = of_fragment u.id p.bytes (is_fragment p.bytes) refl c in
-    let e = ap (fragment_cause limit p.bytes) (sym o) ∙ joins_within limit us p.bytes h f in
-    omega (arith, length-append u.bytes (added p), length-drop 16 p.bytes, fragment_fits limit p.bytes u e)
+    let e = ap (fragment_cause limit (order_of p.bytes) p.bytes) (sym o) ∙ joins_within limit us p.bytes h f in
+    omega (arith, length-append u.bytes (added p), length-drop 16 p.bytes, fragment_fits limit (order_of p.bytes) p.bytes u e)
 
 pub step_bounded : (limit : ℕ) (p : Piece) (us : List Partial) → IsBounded limit us → IsDistinct us → length p.bytes ≤ limit → piece_cause limit us p.bytes ≡ None → IsBounded limit (stepped p us)
 unfolding stepped
@@ -96,25 +96,9 @@ step_bounded limit p us b d fits h =
     bounded_by limit p (map (grown p) vs) us (opens p.bytes) refl (within_step limit p us d b.within (joins_all limit p us h))
     (omega (arith, map_few p vs, filter_few (λ u. not (ends u.id p.bytes)) us)) b.few (λ o. (opens_new limit us p.bytes h o).1) b.least fits
 
-last_none : (a b c d : Bool) → cond a (Some BadMagic) (cond b (Some BadVersion) (cond c (Some BadType) (cond d (Some TooLong) None))) ≡ None → d ≡ false
-last_none true b c d h = absurd (cc)
-last_none false true c d h = absurd (cc)
-last_none false false true d h = absurd (cc)
-last_none false false false true h = absurd (cc)
-last_none false false false false h = refl
-
 not_whole : (bytes : List ℕ) → is_whole bytes ≡ false → 12 ≤ length bytes → length bytes < piece_len bytes
 unfolding is_whole
 not_whole bytes h l = grind arith
-
-not_lt : (n m : ℕ) → nat_lt n m ≡ false → m ≤ n
-not_lt n m h = grind arith
-
--- a header without a cause counts no more than the limit
-pub header_within : (limit : ℕ) (bytes : List ℕ) → header_cause limit bytes ≡ None → piece_len bytes ≤ limit
-unfolding header_cause
-header_within limit bytes h =
-    not_lt limit (piece_len bytes) (last_none (not (has_magic bytes)) (not (has_version bytes)) (nat_lt 7 (kind_of bytes)) (nat_lt limit (piece_len bytes)) h)
 
 more_within : (a b n limit : ℕ) → a ≤ limit → b ≤ n * limit → a + b ≤ (suc n) * limit
 more_within a b n limit h k = omega (arith, h, k)

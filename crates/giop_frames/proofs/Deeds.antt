@@ -152,6 +152,17 @@ does_begun p us us' whole whole' h s is = record {
   gives = is ∙ sym (append-nil whole) ∙ ap (λ (o : Option Message). whole ++ option_to_list o) (sym (completes_none us p h));
 }
 
+-- a piece of a kind, by its header
+pub fragment_as : (bytes : List ℕ) (n : ℕ) (t : Bool) → n ≡ kind_of bytes → t ≡ (n == 7) → is_fragment bytes ≡ t
+unfolding is_fragment
+fragment_as bytes n t e h = ap (λ (k : ℕ). k == 7) (sym e) ∙ sym h
+
+pub cancel_as : (bytes : List ℕ) (n : ℕ) → n ≡ kind_of bytes → true ≡ (n == 2) → kind_of bytes ≡ 2
+cancel_as bytes n e h = grind arith
+
+pub no_cancel_as : (bytes : List ℕ) (n : ℕ) (b : Bool) → n ≡ kind_of bytes → false ≡ (n == 2) → ((kind_of bytes == 2) && b) ≡ false
+no_cancel_as bytes n b e h = ap (λ (x : Bool). x && b) (ap (λ (k : ℕ). k == 2) (sym e) ∙ sym h)
+
 pub short_no_cancel : (k : Bool) (n : ℕ) → n < 16 → (k && nat_le 16 n) ≡ false
 short_no_cancel true n h = grind arith
 short_no_cancel false n h = refl

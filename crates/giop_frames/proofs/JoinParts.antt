@@ -1,13 +1,15 @@
 -- The same steps, as the code has the parts of a state, and a read in parts.
-use Rattle.std.proofs.Common.{◌≡◌, ℕ, ◌+◌, ◌-◌, ◌≤◌, ◌<◌, Bool, true, false, List, [], ◌++◌, length, take, drop, Option, Some, None, Result, OnOk, OnErr, refl, ap, sym, ◌∙◌, subst, arith, nat_le, length-append, length-drop}
+use Rattle.std.proofs.Common.{◌≡◌, ℕ, ◌+◌, ◌-◌, ◌≤◌, ◌<◌, Bool, true, false, List, [], ◌++◌, length, take, drop, Option, Some, None, Result, Ok, OnOk, OnErr, refl, ap, sym, ◌∙◌, subst, arith, nat_le, length-append, length-drop}
 use Rattle.std.proofs.lemmas.List.{take-append-drop, length-take-le}
 use Rattle.std.proofs.Math.Seq.{take-length, take-append-add}
 use Rattle.orb_base.specs.declared.no_memory.NoMemory.{NoMemory as Lack}
 use Rattle.giop_frames.specs.declared.fault.FrameCause.{FrameCause}
 use Rattle.giop_frames.specs.declared.fault.FeedFault.{FeedFault}
 use Rattle.giop_frames.specs.Pieces.{piece_len, is_whole}
+use Rattle.giop_frames.specs.declared.header.Header.{Header}
+use Rattle.giop_frames.specs.Headers.{BeginsWith, header_at}
 use Rattle.giop_frames.specs.Messages.{Partial, Message}
-use Rattle.giop_frames.specs.Stream.{header_cause, piece_cause}
+use Rattle.giop_frames.specs.Stream.{header_cause, piece_rule, piece_cause}
 use Rattle.giop_frames.specs.Running.{State}
 use Rattle.giop_frames.specs.Steps.{IsSound, Does}
 use Rattle.giop_frames.specs.Joining.{IsResting, IsFilled, IsReady, Same, Stops, Fails, Reads, Took, lifted, with_tail, Needs, SoFar}
@@ -20,6 +22,12 @@ verdict_as : (x s : State) (us : List Partial) (tail : List ℕ) (o : Option Fra
 verdict_as x s us tail o e hu ht h =
     sym (h ∙ ap (λ (v : List Partial). piece_cause x.limit v tail) hu ∙ ap (λ (v : List ℕ). piece_cause x.limit x.partials v) ht
     ∙ ap (λ (y : State). piece_cause y.limit y.partials y.tail) e)
+
+pub cause_as : (x s : State) (us : List Partial) (tail : List ℕ) (h : Header) (o : Option FrameCause) → x ≡ s → tail ≡ x.tail → header_at s.tail ≡ Ok h
+    → o ≡ piece_rule x.limit us tail (Ok h) → o ≡ piece_cause x.limit us tail
+unfolding piece_cause
+cause_as x s us tail h o e ht hv is =
+    is ∙ ap (piece_rule x.limit us tail) (sym (ap header_at (ht ∙ ap (λ (y : State). y.tail) e) ∙ hv))
 
 pub finish_stops : (whole : List Message) (x s : State) (us : List Partial) (tail : List ℕ) (cause : FrameCause) → x ≡ s → us ≡ x.partials → tail ≡ x.tail
     → Some cause ≡ piece_cause x.limit us tail → IsReady s → Stops whole s [] whole s.partials (record { cause = cause; offset = x.at })
@@ -146,13 +154,23 @@ look_stops whole x s tail cause e ht h l =
     let P : State → Type 0 = λ y. Stops whole y [] whole y.partials (record { cause = cause; offset = x.at }) in
     subst P e (stops_header whole x cause l (sym (h ∙ ap (header_cause x.limit) ht)))
 
-pub look_part : (whole : List Message) (x s : State) (tail front : List ℕ) (has len : ℕ) → x ≡ s → tail ≡ x.tail → front ≡ x.tail → None ≡ header_cause x.limit tail
-    → len ≡ piece_len front → has ≡ length x.tail → has < len → IsFilled s → Same whole s [] whole s
-look_part whole x s tail front has len e ht hf h hl hh lt f =
+pub look_part : (whole : List Message) (x s : State) (tail : List ℕ) (h : Header) (has len : ℕ) → x ≡ s → tail ≡ x.tail → BeginsWith h tail → header_cause x.limit tail ≡ None
+    → len ≡ 12 + h.size → has ≡ length x.tail → has < len → IsFilled s → Same whole s [] whole s
+unfolding piece_len
+look_part whole x s tail h has len e ht b hc hl hh lt f =
     let P : State → Type 0 = λ y. Same whole y [] whole y in
     let Q : State → Type 0 = λ y. IsFilled y in
-    let p : len ≡ piece_len x.tail = hl ∙ ap piece_len hf in
-    subst P e (rests_part whole x (subst Q (sym e) f) (sym (h ∙ ap (header_cause x.limit) ht)) (omega (arith, hh, p)))
+    let p : len ≡ piece_len x.tail = hl ∙ ap (λ (n : ℕ). 12 + n) b.size ∙ ap piece_len ht in
+    subst P e (rests_part whole x (subst Q (sym e) f) (sym (ap (header_cause x.limit) ht) ∙ hc) (omega (arith, hh, p)))
+
+pub look_ready : (x s : State) (tail : List ℕ) (h : Header) (has len : ℕ) → x ≡ s → tail ≡ x.tail → BeginsWith h tail → header_cause x.limit tail ≡ None
+    → len ≡ 12 + h.size → has ≡ length x.tail → len ≤ has → IsFilled s → IsReady s
+unfolding piece_len
+look_ready x s tail h has len e ht b hc hl hh le f =
+    let Q : State → Type 0 = λ y. IsFilled y in
+    let p : len ≡ piece_len x.tail = hl ∙ ap (λ (n : ℕ). 12 + n) b.size ∙ ap piece_len ht in
+    let R : State → Type 0 = λ y. IsReady y in
+    subst R e (ready_of x (subst Q (sym e) f) (omega (arith, hl, hh)) (omega (arith, hh, p)) (sym (ap (header_cause x.limit) ht) ∙ hc))
 
 pub put_as : (r : Result (Unit {0}) FeedFault) (whole whole' : List Message) (s s' t : State) (bytes : List ℕ) → t ≡ with_tail s bytes
     → Reads r [] t s' whole whole' → Reads r bytes s s' whole whole'

@@ -15,7 +15,8 @@ use Rattle.giop_frames.specs.Steps.{IsDistinct, IsSound, Does}
 use Rattle.giop_frames.specs.Bounds.{IsBounded}
 use Rattle.giop_frames.specs.Joining.{IsResting, IsFilled, IsReady, Same, Stops, Lacks, Fails, Reads, lifted, with_tail}
 use Rattle.giop_frames.proofs.Ahead.{ahead_piece, ahead_bad, part_short, part_of}
-use Rattle.giop_frames.proofs.Bounds.{step_bounded, header_within}
+use Rattle.giop_frames.proofs.Heads.{header_within}
+use Rattle.giop_frames.proofs.Bounds.{step_bounded}
 use Rattle.giop_frames.proofs.Soundness.{sound, opens_new, step_distinct}
 
 -- nothing was read, and nothing given

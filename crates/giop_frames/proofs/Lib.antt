@@ -1,6 +1,7 @@
 pub mod Walks
 pub mod Growing
 pub mod Places
+pub mod Heads
 pub mod Ahead
 pub mod Effects
 pub mod Deeds
@@ -17,3 +18,4 @@ pub mod PieceHeads
 pub mod PieceStreams
 pub mod PieceSeals
 pub mod PieceLaws
+pub mod Uncut

@@ -11,7 +11,7 @@ use Rattle.cdr_core.specs.Reading.{number_of}
 use Rattle.cdr_core.proofs.Numbers.{number_again}
 use Rattle.cdr_core.proofs.CallerLemmas.{length-number_bytes}
 use Rattle.giop_frames.specs.Pieces.{order_of, has_more, kind_of, piece_len, id_of}
-use Rattle.giop_frames.specs.Stream.{has_magic, has_version}
+use Rattle.giop_frames.specs.Headers.{has_magic, has_version}
 use Rattle.giop_frames.specs.Splitting.{IsUncut, piece_of}
 use Rattle.giop_frames.proofs.Sealing.{front_is}
 

@@ -6,17 +6,19 @@ use Rattle.orb_base.specs.declared.order.Order.{Order}
 use Rattle.cdr_core.specs.Cursor.{AreBytes}
 use Rattle.giop_frames.specs.Pieces.{Piece, order_of, kind_of, piece_len, id_of}
 use Rattle.giop_frames.specs.Messages.{Partial, Message, is_fragment, opens, lone}
-use Rattle.giop_frames.specs.Stream.{is_short_kind, stream}
+use Rattle.giop_frames.specs.Kinds.{comes_whole}
+use Rattle.giop_frames.specs.Stream.{header_cause, stream}
 use Rattle.giop_frames.specs.Running.{ahead}
 use Rattle.giop_frames.specs.Feeds.{joined_feeds}
 use Rattle.giop_frames.specs.Splitting.{IsUncut, first_piece, fragment, AreFragments, ArePiecesOf, AreFull, last_at, only, ReadsAs}
 use Rattle.giop_frames.proofs.Ahead.{kind_front}
+use Rattle.giop_frames.proofs.Heads.{header_passes}
 use Rattle.giop_frames.proofs.Effects.{opens_first, last_opens_none, step_opens, step_idle, idle_ends}
 use Rattle.giop_frames.proofs.Deeds.{completes_none, completes_lone}
 use Rattle.giop_frames.proofs.Growing.{stream_is}
 use Rattle.giop_frames.proofs.PieceHeads.{IsPieceOf, piece_is}
 use Rattle.giop_frames.proofs.PieceSeals.{short_of, seals}
-use Rattle.giop_frames.proofs.PieceStreams.{IsBehind, last_says, middle_says, ends_with, header_passes, long_kind, lone_passes, first_passes, goes_by, other_by, empty_ahead}
+use Rattle.giop_frames.proofs.PieceStreams.{IsBehind, last_says, middle_says, ends_with, long_kind, lone_passes, first_passes, goes_by, other_by, empty_ahead}
 
 part_of : (message : List ℕ) (more : Bool) (bytes p : List ℕ) → IsUncut message → length bytes + 4 < 2 ^ 32 → p ≡ fragment message more bytes → IsPieceOf message more 7 bytes p
 part_of message more bytes p u lt e = let P : List ℕ → Type 0 = λ x. IsPieceOf message more 7 bytes x in subst P (sym e) (piece_is message more 7 bytes u (omega arith))
@@ -87,14 +89,15 @@ fragments_say cap limit at message (p ∷ q ∷ ps) u bytes kind all uncut f b e
 alone_says : (limit : ℕ) (message : List ℕ) → IsUncut message → length message ≤ limit → stream limit (message ++ []) ≡ only 0 message
 alone_says limit message u l =
     let q : Piece = record { at = 0; bytes = message } in
-    let k : (is_short_kind (kind_of message) ≡ false) × ((kind_of message == 7) ≡ false) × (nat_lt 7 (kind_of message) ≡ false) × ((kind_of message == 2) ≡ false) =
+    let k : (comes_whole (kind_of message) ≡ false) × ((kind_of message == 7) ≡ false) × (nat_lt 7 (kind_of message) ≡ false) × ((kind_of message == 2) ≡ false) =
     long_kind (kind_of message) u.kind in
     let f : is_fragment message ≡ false = other_by message k.1 in
     let size : piece_len message ≡ length message = sym u.size in
+    let header : header_cause limit message ≡ None = header_passes limit message u.magic u.version k.2 (grind arith) in
     stream_is limit (message ++ [])
     ∙ goes_by limit [] [] 0 message [] (Some (lone q)) (record { messages = []; rest = None; bad = None }) (omega (arith, u.id)) u.size
-    (header_passes limit message u.magic u.version k.2 (grind arith))
-    (lone_passes limit [] message u.alone f)
+    header
+    (lone_passes limit [] message header u.alone f)
     (step_idle q [] (last_opens_none message u.alone) f (λ v. idle_ends v message f (ap (λ (b : Bool). b && nat_le 16 (length message)) k.3)))
     (completes_lone [] q u.alone f)
     (empty_ahead limit (0 + length message))
@@ -107,11 +110,12 @@ first_says cap limit message ps u b eights least lt l f =
     let q : Piece = record { at = 0; bytes = p } in
     let i : IsPieceOf message true (kind_of message) (take (cap - 16) (drop 16 message)) p = first_is cap message u b least lt in
     let len : length p ≡ cap = first_long cap message u b least lt in
-    let k : (is_short_kind (kind_of message) ≡ false) × ((kind_of message == 7) ≡ false) × (nat_lt 7 (kind_of message) ≡ false) × ((kind_of message == 2) ≡ false) =
+    let k : (comes_whole (kind_of message) ≡ false) × ((kind_of message == 7) ≡ false) × (nat_lt 7 (kind_of message) ≡ false) × ((kind_of message == 2) ≡ false) =
     long_kind (kind_of message) u.kind in
     let kp : kind_of p ≡ kind_of message = i.kind_is in
     let fragment : is_fragment p ≡ false = other_by p (ap (λ (n : ℕ). n == 7) kp ∙ k.1) in
     let opens_it : opens p ≡ true = opens_first p i.bit fragment in
+    let header : header_cause limit p ≡ None = header_passes limit p i.magic i.version (ap (λ (n : ℕ). nat_lt 7 n) kp ∙ k.2) (let size : length p ≡ piece_len p = i.size in grind arith) in
     let begun : Partial = record { at = 0; id = id_of p; order = order_of p; bytes = p } in
     let behind : IsBehind message limit begun (drop cap message) = record {
       id_is = i.id;
@@ -121,8 +125,8 @@ first_says cap limit message ps u b eights least lt l f =
     } in
     stream_is limit (p ++ joined_feeds ps)
     ∙ goes_by limit [] (begun ∷ []) 0 p (joined_feeds ps) None (ends_with (0 + length p + last_at ps) (order_of message) (kind_of message) (p ++ drop cap message)) (omega (arith, len)) i.size
-    (header_passes limit p i.magic i.version (ap (λ (n : ℕ). nat_lt 7 n) kp ∙ k.2) (let size : length p ≡ piece_len p = i.size in grind arith))
-    (first_passes limit p i.bit fragment (ap is_short_kind kp ∙ k.0) (let e : length p % 8 ≡ 0 = ap (λ (n : ℕ). n % 8) len ∙ eights in grind arith))
+    header
+    (first_passes limit p header i.bit fragment (ap comes_whole kp ∙ k.0) (let e : length p % 8 ≡ 0 = ap (λ (n : ℕ). n % 8) len ∙ eights in grind arith))
     (step_opens q [] opens_it (ap (λ (n : ℕ). n == 2) kp ∙ k.3))
     (completes_none [] q i.bit)
     (fragments_say cap limit (0 + length p) message ps begun (drop cap message) (kind_of message) (p ++ drop cap message) u f behind eights least (omega arith)

@@ -3,11 +3,15 @@ use Rattle.std.proofs.Common.{◌≡◌, ℕ, ◌+◌, ◌-◌, ◌%◌, ◌^◌
 use Rattle.std.proofs.lemmas.List.{append-nil}
 use Rattle.giop_frames.specs.declared.fault.FrameCause.{FrameCause}
 use Rattle.giop_frames.specs.declared.fault.FrameCause.TheVariants.{BadPiece, TooLong, TooManyPartials}
+use Rattle.orb_base.specs.declared.order.Order.{Order}
+use Rattle.giop_frames.specs.declared.kind.Kind.TheVariants.{CancelRequest}
+use Rattle.giop_frames.specs.Kinds.{is_kind, comes_whole}
 use Rattle.giop_frames.specs.Pieces.{Piece, order_of, has_more, kind_of, id_of}
 use Rattle.giop_frames.specs.Messages.{Partial, is_fragment, opens, continues, ends, added, open_at, begun}
-use Rattle.giop_frames.specs.Stream.{is_short_kind, same_order, fragment_cause, first_cause, piece_cause}
+use Rattle.giop_frames.specs.Stream.{same_order, fragment_cause, first_cause, piece_cause}
 use Rattle.giop_frames.specs.Running.{grown, stepped}
 use Rattle.giop_frames.specs.Steps.{IsDistinct, IsSound, JoinFits}
+use Rattle.giop_frames.proofs.Heads.{none_rule}
 use Rattle.giop_frames.proofs.Places.{same, none_first}
 use Rattle.giop_frames.proofs.Effects.{opens_is}
 
@@ -30,10 +34,11 @@ passed false k e true false fc pc h = record { not_short = λ q. absurd (cc); ei
 passed false k e false l fc pc h = record { not_short = λ q. absurd (cc); eights = λ q. absurd (cc); long = λ q. absurd (cc); fragment = λ q. absurd (cc); first = λ q r. absurd (cc) }
 
 passes : (limit : ℕ) (us : List Partial) (b : List ℕ) → piece_cause limit us b ≡ None
-    → Passed (has_more b) (is_short_kind (kind_of b)) (length b % 8 == 0) (is_fragment b) (nat_lt (length b) 16) (fragment_cause limit b (open_at (id_of b) us)) (first_cause us b)
-unfolding piece_cause
+    → Passed (has_more b) (comes_whole (kind_of b)) (length b % 8 == 0) (is_fragment b) (nat_lt (length b) 16) (fragment_cause limit (order_of b) b (open_at (id_of b) us)) (first_cause us b)
+unfolding is_fragment
 passes limit us b h =
-    passed (has_more b) (is_short_kind (kind_of b)) (length b % 8 == 0) (is_fragment b) (nat_lt (length b) 16) (fragment_cause limit b (open_at (id_of b) us)) (first_cause us b) h
+    passed (has_more b) (comes_whole (kind_of b)) (length b % 8 == 0) (is_fragment b) (nat_lt (length b) 16) (fragment_cause limit (order_of b) b (open_at (id_of b) us)) (first_cause us b)
+    (none_rule limit us b h)
 
 in_eights : (n : ℕ) → (n % 8 == 0) ≡ true → 12 ≤ n → 16 ≤ n
 in_eights n h l = let e : n % 8 ≡ 0 = grind arith in omega arith
@@ -42,9 +47,9 @@ or_none : (a b : Bool) → (a || b) ≡ false → a ≡ false
 or_none true b h = absurd (cc)
 or_none false b h = refl
 
-not_cancel : (kind : ℕ) → is_short_kind kind ≡ false → (kind == 2) ≡ false
-unfolding is_short_kind
-not_cancel kind h = or_none (kind == 2) _ h
+not_cancel : (kind : ℕ) → comes_whole kind ≡ false → is_kind CancelRequest kind ≡ false
+unfolding comes_whole
+not_cancel kind h = or_none (is_kind CancelRequest kind) _ h
 
 not_lt : (n m : ℕ) → nat_lt n m ≡ false → m ≤ n
 not_lt n m h = grind arith
@@ -55,13 +60,13 @@ second_none true false h = refl
 second_none false b h = absurd (cc)
 
 -- what a Fragment joins is within the limit
-pub fragment_fits : (limit : ℕ) (b : List ℕ) (u : Partial) → fragment_cause limit b (Some u) ≡ None → length u.bytes + (length b - 16) ≤ limit
+pub fragment_fits : (limit : ℕ) (order : Order) (b : List ℕ) (u : Partial) → fragment_cause limit order b (Some u) ≡ None → length u.bytes + (length b - 16) ≤ limit
 unfolding fragment_cause
-fragment_fits limit b u h = not_lt limit (length u.bytes + (length b - 16)) (second_none (same_order u.order (order_of b)) (nat_lt limit (length u.bytes + (length b - 16))) h)
+fragment_fits limit order b u h = not_lt limit (length u.bytes + (length b - 16)) (second_none (same_order u.order order) (nat_lt limit (length u.bytes + (length b - 16))) h)
 
-joins : (limit : ℕ) (b : List ℕ) (o : Option Partial) → limit < 2 ^ 31 → fragment_cause limit b o ≡ None → JoinFits (length b) o
-joins limit b None s h = tt
-joins limit b (Some u) s h = omega (arith, fragment_fits limit b u h)
+joins : (limit : ℕ) (order : Order) (b : List ℕ) (o : Option Partial) → limit < 2 ^ 31 → fragment_cause limit order b o ≡ None → JoinFits (length b) o
+joins limit order b None s h = tt
+joins limit order b (Some u) s h = omega (arith, fragment_fits limit order b u h)
 
 two_none : (a b : Bool) → cond a (Some BadPiece) (cond b (Some TooManyPartials) None) ≡ None → (a ≡ false) × (b ≡ false)
 two_none true b h = absurd (cc)
@@ -90,14 +95,14 @@ sound limit us b h l s d =
       fragment_long = λ f. not_lt (length b) 16 (p.long f);
       first_long = λ o. in_eights (length b) (p.eights (opens_is b o).0) l;
       no_cancel = λ o. not_cancel (kind_of b) (p.not_short (opens_is b o).0);
-      fits = λ f. joins limit b (open_at (id_of b) us) s (p.fragment f);
+      fits = λ f. joins limit (order_of b) b (open_at (id_of b) us) s (p.fragment f);
       distinct = d;
     }
 
 pub opens_new : (limit : ℕ) (us : List Partial) (b : List ℕ) → piece_cause limit us b ≡ None → opens b ≡ true → (open_at (id_of b) us ≡ None) × (length us < 16)
 opens_new limit us b h o = let p = passes limit us b h in let k = opens_is b o in first_new us b (p.first k.0 k.1)
 
-pub joins_within : (limit : ℕ) (us : List Partial) (b : List ℕ) → piece_cause limit us b ≡ None → is_fragment b ≡ true → fragment_cause limit b (open_at (id_of b) us) ≡ None
+pub joins_within : (limit : ℕ) (us : List Partial) (b : List ℕ) → piece_cause limit us b ≡ None → is_fragment b ≡ true → fragment_cause limit (order_of b) b (open_at (id_of b) us) ≡ None
 joins_within limit us b h f = (passes limit us b h).fragment f
 
 -- ids stay apart

@@ -1,4 +1,6 @@
+pub mod Kinds
 pub mod Pieces
+pub mod Headers
 pub mod Messages
 pub mod Stream
 pub mod Feeds

@@ -5,11 +5,13 @@ use Rattle.std.specs.List.{list_any}
 use Rattle.std.specs.Int.{w32}
 use Rattle.orb_base.specs.declared.order.Order.{Order}
 use Rattle.cdr_core.specs.Field.{number_bytes}
+use Rattle.giop_frames.specs.declared.kind.Kind.TheVariants.{CancelRequest, Fragment}
+use Rattle.giop_frames.specs.Kinds.{is_kind}
 use Rattle.giop_frames.specs.Pieces.{Piece, order_of, has_more, kind_of, id_of}
 
 -- a piece that is a Fragment
 unfoldable pub is_fragment : List ℕ → Bool
-is_fragment bytes = kind_of bytes == 7
+is_fragment bytes = is_kind Fragment (kind_of bytes)
 
 -- a first piece of a message in fragments
 unfoldable pub opens : List ℕ → Bool
@@ -21,7 +23,7 @@ continues id bytes = is_fragment bytes && (id == id_of bytes)
 
 -- a CancelRequest of this id
 unfoldable pub cancels : ℕ → List ℕ → Bool
-cancels id bytes = (kind_of bytes == 2) && (nat_le 16 (length bytes) && (id == id_of bytes))
+cancels id bytes = is_kind CancelRequest (kind_of bytes) && (nat_le 16 (length bytes) && (id == id_of bytes))
 
 -- the last Fragment or a CancelRequest of this id
 unfoldable pub ends : ℕ → List ℕ → Bool

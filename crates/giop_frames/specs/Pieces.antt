@@ -19,13 +19,17 @@ order_of bytes = if slice_index bytes 6 % 2 == 1 then Little else Big
 unfoldable pub has_more : List ℕ → Bool
 has_more bytes = slice_index bytes 6 / 2 % 2 == 1
 
--- the kind of message, 7 for a Fragment
+-- the number of the kind of message
 unfoldable pub kind_of : List ℕ → ℕ
 kind_of bytes = slice_index bytes 7
 
+-- how many bytes stand behind the header
+abbrev pub size_of : List ℕ → ℕ
+size_of bytes = number_of (order_of bytes) w32 (take 4 (drop 8 bytes))
+
 -- how long a piece is by its header: the header, and the bytes that its size counts
 unfoldable pub piece_len : List ℕ → ℕ
-piece_len bytes = 12 + number_of (order_of bytes) w32 (take 4 (drop 8 bytes))
+piece_len bytes = 12 + size_of bytes
 
 -- the id of a Fragment, or of a message that fragments follow: the 4 bytes behind the header
 unfoldable pub id_of : List ℕ → ℕ

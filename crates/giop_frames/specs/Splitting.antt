@@ -1,17 +1,17 @@
 -- A whole message cut into pieces: CORBA 3.0.3, section 15.4.9. That each piece but the last is as long as the limit is
 -- own profile.
-use Rattle.std.specs.Prelude.{ℕ, ◌≡◌, ◌+◌, ◌-◌, ◌<◌, ◌≤◌, ◌==◌, ◌||◌, Bool, true, false, List, [], ◌∷◌, ◌++◌, None, length, take, drop, slice_index, if◌then◌else◌}
+use Rattle.std.specs.Prelude.{ℕ, ◌≡◌, ◌+◌, ◌-◌, ◌<◌, ◌≤◌, Bool, true, false, List, [], ◌∷◌, ◌++◌, None, length, take, drop, slice_index, if◌then◌else◌}
 use Rattle.std.specs.Int.{w32}
 use Rattle.orb_base.specs.Room.{Room}
 use Rattle.cdr_core.specs.Field.{number_bytes}
+use Rattle.giop_frames.specs.declared.kind.Kind.TheVariants.{Fragment}
+use Rattle.giop_frames.specs.declared.header.Header.{Header}
+use Rattle.giop_frames.specs.Kinds.{number, is_long_kind}
 use Rattle.giop_frames.specs.Pieces.{order_of, has_more, kind_of, piece_len}
 use Rattle.giop_frames.specs.Messages.{lone}
-use Rattle.giop_frames.specs.Stream.{Said, has_magic, has_version, stream}
+use Rattle.giop_frames.specs.Headers.{has_magic, has_version}
+use Rattle.giop_frames.specs.Stream.{Said, stream}
 use Rattle.giop_frames.specs.Feeds.{joined_feeds}
-
--- Request, Reply, LocateRequest and LocateReply may come in fragments
-unfoldable pub is_long_kind : ℕ → Bool
-is_long_kind kind = (kind == 0) || ((kind == 1) || ((kind == 3) || (kind == 4)))
 
 -- a whole message of one piece, of a kind that may come in fragments, with the 4 bytes of its id
 pub record IsUncut (message : List ℕ) : Type 0 where
@@ -21,6 +21,13 @@ pub record IsUncut (message : List ℕ) : Type 0 where
   pub kind : is_long_kind (kind_of message) ≡ true
   pub size : length message ≡ piece_len message
   pub id : 16 ≤ length message
+
+-- what the header of such a message says of its length
+pub record CountsUncut (h : Header) (len : ℕ) : Type 0 where
+  pub id : 16 ≤ len
+  pub alone : h.more ≡ false
+  pub kind : is_long_kind (number h.kind) ≡ true
+  pub size : len ≡ 12 + h.size
 
 -- a piece of a message: its magic, version and flags, the fragment bit set where more pieces follow; a kind; the size;
 -- the message's id; and some of its further bytes
@@ -35,7 +42,7 @@ first_piece limit message = piece_of message true (kind_of message) (take (limit
 
 -- a Fragment carries the next bytes
 abbrev pub fragment : List ℕ → Bool → List ℕ → List ℕ
-fragment message more bytes = piece_of message more 7 bytes
+fragment message more bytes = piece_of message more (number Fragment) bytes
 
 -- these Fragments of a message carry its further bytes, each but the last as many as the limit leaves room for
 abbrev pub AreFragments : ℕ → List ℕ → List ℕ → List (Room ℕ) → Type 0

@@ -1,5 +1,7 @@
 -- What a whole piece does to the unfinished messages.
 use Rattle.std.specs.Prelude.{ℕ, ◌≡◌, ◌+◌, ◌-◌, ◌^◌, ◌<◌, ◌≤◌, ◌==◌, true, false, List, [], ◌∷◌, ◌++◌, Option, Some, None, length, option_to_list, slice_get, slice_set, slice_index}
+use Rattle.giop_frames.specs.declared.kind.Kind.TheVariants.{CancelRequest}
+use Rattle.giop_frames.specs.Kinds.{is_kind}
 use Rattle.giop_frames.specs.Pieces.{Piece, kind_of, id_of}
 use Rattle.giop_frames.specs.Messages.{Partial, Message, is_fragment, opens, open_at, completed}
 use Rattle.giop_frames.specs.Running.{stepped}
@@ -34,7 +36,7 @@ pub record IsSound (us : List Partial) (bytes : List ℕ) : Type 0 where
   pub header : 12 ≤ length bytes
   pub fragment_long : is_fragment bytes ≡ true → 16 ≤ length bytes
   pub first_long : opens bytes ≡ true → 16 ≤ length bytes
-  pub no_cancel : opens bytes ≡ true → (kind_of bytes == 2) ≡ false
+  pub no_cancel : opens bytes ≡ true → is_kind CancelRequest (kind_of bytes) ≡ false
   pub fits : is_fragment bytes ≡ true → JoinFits (length bytes) (open_at (id_of bytes) us)
   pub distinct : IsDistinct us
 

@@ -1,34 +1,26 @@
 -- What a stream of bytes means, however it was cut: CORBA 3.0.3, section 15.4. The causes, their order and the limits are
 -- own profile, but for the rule on multiples of 8, which is that of GIOP 1.2.
-use Rattle.std.specs.Prelude.{ℕ, ◌+◌, ◌-◌, ◌%◌, ◌==◌, ◌&&◌, ◌||◌, not, Bool, true, false, List, [], ◌∷◌, ◌++◌, Option, Some, None, length, nat_le, nat_lt, slice_index, option_to_list, is_some, if◌then◌else◌}
+use Rattle.std.specs.Prelude.{ℕ, ◌+◌, ◌-◌, ◌%◌, ◌==◌, ◌&&◌, not, Bool, true, false, List, [], ◌∷◌, ◌++◌, Option, Some, None, Result, Ok, Err, length, nat_le, nat_lt, option_to_list, is_some, if◌then◌else◌}
 use Rattle.orb_base.specs.declared.order.Order.{Order}
 use Rattle.orb_base.specs.declared.order.Order.TheVariants.{Big, Little}
 use Rattle.giop_frames.specs.declared.fault.FrameCause.{FrameCause}
-use Rattle.giop_frames.specs.declared.fault.FrameCause.TheVariants.{BadMagic, BadVersion, BadType, TooLong, BadPiece, TooManyPartials}
+use Rattle.giop_frames.specs.declared.fault.FrameCause.TheVariants.{TooLong, BadPiece, TooManyPartials}
 use Rattle.giop_frames.specs.declared.fault.FrameFault.{FrameFault}
-use Rattle.giop_frames.specs.Pieces.{Piece, Cut, order_of, has_more, kind_of, piece_len, id_of, cut}
-use Rattle.giop_frames.specs.Messages.{Partial, Message, is_fragment, open_at, unfinished, completed}
+use Rattle.giop_frames.specs.declared.kind.Kind.TheVariants.{Fragment}
+use Rattle.giop_frames.specs.declared.header.Header.{Header}
+use Rattle.giop_frames.specs.Kinds.{number, is_kind, comes_whole}
+use Rattle.giop_frames.specs.Pieces.{Piece, Cut, id_of, cut}
+use Rattle.giop_frames.specs.Headers.{header_at}
+use Rattle.giop_frames.specs.Messages.{Partial, Message, open_at, unfinished, completed}
 
--- the bytes begin with "GIOP"
-unfoldable pub has_magic : List ℕ → Bool
-has_magic bytes = (slice_index bytes 0 == 71) && ((slice_index bytes 1 == 73) && ((slice_index bytes 2 == 79) && (slice_index bytes 3 == 80)))
+-- the rule that a header breaks under a limit on the length of a piece
+abbrev pub header_rule : ℕ → Result Header FrameCause → Option FrameCause
+header_rule limit (Err cause) = Some cause
+header_rule limit (Ok h) = if nat_lt limit (12 + h.size) then Some TooLong else None
 
--- the version is 1.2
-unfoldable pub has_version : List ℕ → Bool
-has_version bytes = (slice_index bytes 4 == 1) && (slice_index bytes 5 == 2)
-
--- the first rule that a header breaks
+-- the first rule that the header of these bytes breaks
 unfoldable pub header_cause : ℕ → List ℕ → Option FrameCause
-header_cause limit bytes =
-    if not (has_magic bytes) then Some BadMagic
-    else if not (has_version bytes) then Some BadVersion
-    else if nat_lt 7 (kind_of bytes) then Some BadType
-    else if nat_lt limit (piece_len bytes) then Some TooLong
-    else None
-
--- CancelRequest, CloseConnection and MessageError come in one piece
-unfoldable pub is_short_kind : ℕ → Bool
-is_short_kind kind = (kind == 2) || ((kind == 5) || (kind == 6))
+header_cause limit bytes = header_rule limit (header_at bytes)
 
 -- two byte orders are one
 unfoldable pub same_order : Order → Order → Bool
@@ -37,11 +29,11 @@ same_order Little Little = true
 same_order Big Little = false
 same_order Little Big = false
 
--- the rule that a Fragment breaks, by the unfinished message of its id
-unfoldable pub fragment_cause : ℕ → List ℕ → Option Partial → Option FrameCause
-fragment_cause limit bytes None = Some BadPiece
-fragment_cause limit bytes (Some u) =
-    if not (same_order u.order (order_of bytes)) then Some BadPiece
+-- the rule that a Fragment of an order breaks, by the unfinished message of its id
+unfoldable pub fragment_cause : ℕ → Order → List ℕ → Option Partial → Option FrameCause
+fragment_cause limit order bytes None = Some BadPiece
+fragment_cause limit order bytes (Some u) =
+    if not (same_order u.order order) then Some BadPiece
     else if nat_lt limit (length u.bytes + (length bytes - 16)) then Some TooLong
     else None
 
@@ -52,14 +44,20 @@ first_cause us bytes =
     else if nat_le 16 (length us) then Some TooManyPartials
     else None
 
--- the first rule that a whole piece breaks behind these unfinished messages
-unfoldable pub piece_cause : ℕ → List Partial → List ℕ → Option FrameCause
-piece_cause limit us bytes =
-    if has_more bytes && is_short_kind (kind_of bytes) then Some BadPiece
-    else if has_more bytes && not (length bytes % 8 == 0) then Some BadPiece
-    else if is_fragment bytes then (if nat_lt (length bytes) 16 then Some BadPiece else fragment_cause limit bytes (open_at (id_of bytes) us))
-    else if has_more bytes then first_cause us bytes
+-- the first rule that a whole piece with a header breaks behind these unfinished messages
+abbrev pub piece_rule : ℕ → List Partial → List ℕ → Result Header FrameCause → Option FrameCause
+piece_rule limit us bytes (Err cause) = Some cause
+piece_rule limit us bytes (Ok h) =
+    if h.more && comes_whole (number h.kind) then Some BadPiece
+    else if h.more && not (length bytes % 8 == 0) then Some BadPiece
+    else if is_kind Fragment (number h.kind) then
+    (if nat_lt (length bytes) 16 then Some BadPiece else fragment_cause limit h.order bytes (open_at (id_of bytes) us))
+    else if h.more then first_cause us bytes
     else None
+
+-- the first rule that these bytes, a whole piece, break behind these unfinished messages
+unfoldable pub piece_cause : ℕ → List Partial → List ℕ → Option FrameCause
+piece_cause limit us bytes = piece_rule limit us bytes (header_at bytes)
 
 -- the first, or else the second
 abbrev pub or_else : Option FrameCause → Option FrameCause → Option FrameCause

@@ -4,18 +4,16 @@ ghost use Rattle.std.specs.Int.{w32};
 ghost use Rattle.cdr_core.specs.Field.{number_bytes};
 ghost use Rattle.giop_frames.specs.Pieces.{order_of as order_in, has_more as has_more_in};
 ghost use Rattle.giop_frames.specs.Splitting as Spec;
-ghost use Rattle.giop_frames.specs.Splitting.{IsUncut, ArePiecesOf, AreFull, ReadsAs, piece_of};
+ghost use Rattle.giop_frames.specs.Splitting.{IsUncut, CountsUncut, ArePiecesOf, AreFull, ReadsAs, piece_of};
 
-use crate::header::{HEADER, has_magic, has_more, has_version, kind_of, order_of, piece_len};
+use crate::header::{HEADER, Header, kind_of, order_of};
+use crate::kind::Kind;
 use crate::partials::long_of;
 use orb_base::{List, NoMemory, Octets};
 use std::alloc::Global;
 
 /// The length of an id in bytes.
 const ID: usize = 4;
-
-/// The kind of a Fragment.
-const FRAGMENT: u8 = 7;
 
 /// The flags of a message of one piece, with the fragment bit set where more pieces follow.
 #[tactic(auto, unfolding(crate::specs::Pieces::has_more))]
@@ -53,6 +51,16 @@ fn piece(
     Ok(all)
 }
 
+/// A Fragment of a message with some of its further bytes.
+fn fragment(alloc: Global, message: &[u8], more: bool, bytes: &[u8]) -> Result<Octets, NoMemory>
+    requires header { 16 ≤ length message.now }
+    requires alone { has_more_in message.now ≡ false }
+    requires fits { 4 + length bytes.now < 2 ^ 32 }
+    ensures { IfOk result (λ p. p.items ≡ Spec.fragment message.now more bytes.now) }
+{
+    piece(alloc, message, more, Kind::Fragment.number(), bytes)
+}
+
 fn put(pieces: &mut List<Octets>, piece: Octets) -> Result<(), NoMemory>
     ensures { OnOk result (pieces.new.items ≡ pieces.old.items ++ piece ∷ []) }
 {
@@ -62,24 +70,26 @@ fn put(pieces: &mut List<Octets>, piece: Octets) -> Result<(), NoMemory>
     }
 }
 
-/// Whether a kind of message may come in fragments.
-#[tactic(auto, unfolding(crate::specs::Splitting::is_long_kind))]
-fn is_long_kind(kind: u8) -> bool
-    ensures { result ≡ Spec.is_long_kind kind }
+/// Whether a message of this header and this length is whole, of one piece and with its id, and of a kind that may come
+/// in fragments.
+fn is_uncut(header: Header, len: usize) -> bool
+    ensures { IsTrue result ↔ CountsUncut header len }
 {
-    kind == 0 || kind == 1 || kind == 3 || kind == 4
+    len >= HEADER + ID && !header.more && header.kind.is_long() && len == header.piece_len()
 }
 
 /// Whether `split` takes a message: a whole one of one piece, of a kind that may come in fragments, with its id.
+#[tactic(auto, using(crate::proofs::Uncut::uncut_by, crate::proofs::Uncut::uncut_not))]
 pub fn can_split(message: &[u8]) -> bool
     ensures { IsTrue result ↔ IsUncut message.now }
 {
-    message.len() >= HEADER + ID
-        && has_magic(message)
-        && has_version(message)
-        && !has_more(message)
-        && is_long_kind(kind_of(message))
-        && message.len() == piece_len(message)
+    if message.len() < HEADER {
+        return false;
+    }
+    match Header::read(message) {
+        Ok(header) => is_uncut(header, message.len()),
+        Err(_) => false,
+    }
 }
 
 /// Cuts a whole message of one piece into pieces of at most `limit` bytes, their headers included: a Request, Reply,
@@ -114,11 +124,11 @@ pub fn split(alloc: Global, message: &[u8], limit: usize) -> Result<List<Octets>
     )?;
     put(&mut pieces, first)?;
     while left.len() > room {
-        let middle = piece(alloc, message, true, FRAGMENT, &left[..room])?;
+        let middle = fragment(alloc, message, true, &left[..room])?;
         put(&mut pieces, middle)?;
         left = &left[room..];
     }
-    let last = piece(alloc, message, false, FRAGMENT, left)?;
+    let last = fragment(alloc, message, false, left)?;
     put(&mut pieces, last)?;
     Ok(pieces)
 }

@@ -6,6 +6,7 @@ use crate::fault::FeedFault;
 use crate::joiner::Joiner;
 use crate::told::Told;
 use crate::whole::Whole;
+use orb_base::limits::MAX_MESSAGE;
 use orb_base::{List, NoMemory};
 use std::alloc::Global;
 use std::marker::Model;
@@ -48,7 +49,7 @@ impl Framer {
     /// list of unfinished messages.
     pub fn new(alloc: Global, limit: usize) -> Result<Framer, NoMemory>
         requires least { 16 ≤ limit }
-        requires most { limit ≤ 262144 }
+        requires most { limit ≤ MAX_MESSAGE }
         ensures { IfOk result (λ f. f ≡ record { limit = limit; fed = []; lacked = false; kept = 0 }) }
     {
         Ok(Framer {

@@ -1,12 +1,13 @@
 //! The machine behind a framer: it fills a piece, judges its header, then the whole piece, and takes it.
-ghost use Rattle.std.specs.Prelude.{◌≡◌, ◌≤◌, ◌<◌, ◌+◌, ◌^◌, [], ◌++◌, length, OnOk, IfOk, None};
+ghost use Rattle.std.specs.Prelude.{◌≡◌, ◌≤◌, ◌<◌, ◌+◌, ◌^◌, [], ◌++◌, length, Ok, OnOk, IfOk, None};
+ghost use Rattle.giop_frames.specs.Headers.{BeginsWith, header_at};
 ghost use Rattle.giop_frames.specs.Stream.{rest_of, rest_with};
 ghost use Rattle.giop_frames.specs.Bounds.{kept_bytes};
 ghost use Rattle.giop_frames.specs.Feeding.{left_by as left_behind};
 ghost use Rattle.giop_frames.specs.Joining.{IsResting, IsFilled, IsReady, Reads, Takes, Needs, lifted, with_tail};
 
 use crate::fault::{FeedFault, FrameFault};
-use crate::header::{HEADER, header_cause, piece_len};
+use crate::header::{HEADER, Header, judged, piece_len};
 use crate::partials::take_piece;
 use crate::rules::{MAX_PARTIALS, piece_cause};
 use crate::unfinished::{Unfinished, bytes_of};
@@ -61,19 +62,22 @@ impl Joiner {
     }
 
     /// Judges a whole piece and takes it. Its buffer becomes the message's.
-    fn finish(&mut self, whole: &mut List<Whole>) -> Result<(), FeedFault>
+    fn finish(&mut self, header: Header, whole: &mut List<Whole>) -> Result<(), FeedFault>
+        requires header { BeginsWith header self.old.tail }
+        requires value { header_at self.old.tail ≡ Ok header }
         requires ready { IsReady self.old }
         requires room { self.old.at + length self.old.tail < 2 ^ 64 }
         ensures { Reads result [] self.old self.new whole.old.items whole.new.items }
     {
         let limit = self.limit;
         let at = self.at;
-        if let Some(cause) = piece_cause(limit, self.partials.as_slice(), self.tail.as_slice()) {
+        let tail = self.tail.as_slice();
+        if let Some(cause) = piece_cause(limit, self.partials.as_slice(), header, tail) {
             return Err(FeedFault::Frame(FrameFault { cause, offset: at }));
         }
         let bytes = std::mem::replace(&mut self.tail, List::new(self.alloc));
         self.at = at + bytes.len() as u64;
-        lift(take_piece(&mut self.partials, at, bytes, whole))
+        lift(take_piece(&mut self.partials, at, header, bytes, whole))
     }
 
     /// Judges the header once it is there, and the piece once it is whole.
@@ -86,15 +90,19 @@ impl Joiner {
         if has < HEADER {
             return Ok(());
         }
-        let limit = self.limit;
-        if let Some(cause) = header_cause(limit, self.tail.as_slice()) {
-            let offset = self.at;
-            return Err(FeedFault::Frame(FrameFault { cause, offset }));
+        match judged(self.limit, self.tail.as_slice()) {
+            Err(cause) => {
+                let offset = self.at;
+                Err(FeedFault::Frame(FrameFault { cause, offset }))
+            }
+            Ok(header) => {
+                if has < header.piece_len() {
+                    Ok(())
+                } else {
+                    self.finish(header, whole)
+                }
+            }
         }
-        if has < piece_len(self.tail.as_slice()) {
-            return Ok(());
-        }
-        self.finish(whole)
     }
 
     fn add(&mut self, bytes: &[u8]) -> Result<(), NoMemory>

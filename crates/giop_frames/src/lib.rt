@@ -6,6 +6,7 @@ mod fault;
 mod framer;
 mod header;
 mod joiner;
+mod kind;
 pub mod laws;
 mod partials;
 mod rules;
@@ -17,6 +18,7 @@ mod whole;
 pub use cutting::{can_split, split};
 pub use fault::{FeedFault, FrameCause, FrameFault};
 pub use framer::Framer;
+pub use kind::Kind;
 pub use stream::read_stream;
 pub use whole::Whole;
 

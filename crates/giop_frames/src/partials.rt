@@ -3,11 +3,13 @@ ghost use Rattle.std.specs.Prelude.{◌≡◌, ◌≤◌, ◌<◌, ◌+◌, ◌-
 ghost use Rattle.std.specs.Int.{w32};
 ghost use Rattle.cdr_core.specs.Field.{number_bytes};
 ghost use Rattle.giop_frames.specs.Pieces.{has_more as has_more_of};
+ghost use Rattle.giop_frames.specs.Headers.{BeginsWith};
 ghost use Rattle.giop_frames.specs.Messages.{is_fragment as is_fragment_of, opens, sealed, joined};
 ghost use Rattle.giop_frames.specs.Running.{stepped};
 ghost use Rattle.giop_frames.specs.Steps.{written, IsSound, StepsBy, GrowsAt, Does};
 
-use crate::header::{HEADER, has_more, id_of, is_fragment, kind_of, order_of};
+use crate::header::{HEADER, Header, kind_of};
+use crate::kind::Kind;
 use crate::unfinished::{Unfinished, place_of};
 use crate::whole::Whole;
 use orb_base::{List, NoMemory, Octets, Order};
@@ -23,17 +25,22 @@ fn give(whole: &mut List<Whole>, message: Whole) -> Result<(), NoMemory>
 }
 
 /// A first piece opens a message. Its bytes are not copied.
-fn begin(partials: &mut Vec<Unfinished>, at: u64, bytes: Octets) -> Result<(), NoMemory>
+fn begin(
+    partials: &mut Vec<Unfinished>,
+    at: u64,
+    header: Header,
+    bytes: Octets,
+) -> Result<(), NoMemory>
+    requires header { BeginsWith header bytes.items }
     requires sound { IsSound partials.old.items bytes.items }
     requires first { opens bytes.items ≡ true }
     ensures { OnOk result (partials.new.items ≡ stepped (record { at = at; bytes = bytes.items }) partials.old.items) }
 {
-    let id = id_of(bytes.as_slice());
-    let order = order_of(bytes.as_slice());
+    let id = header.id_of(bytes.as_slice());
     partials.push(Unfinished {
         at,
         id,
-        order,
+        order: header.order,
         bytes,
     })?;
     Ok(())
@@ -48,13 +55,14 @@ fn grow_at(partials: &mut Vec<Unfinished>, i: usize, more: &[u8]) -> Result<(), 
 }
 
 /// A middle Fragment joins its message: its bytes behind the id are copied once more.
-fn go_on(partials: &mut Vec<Unfinished>, bytes: &[u8]) -> Result<(), NoMemory>
+fn go_on(partials: &mut Vec<Unfinished>, header: Header, bytes: &[u8]) -> Result<(), NoMemory>
+    requires header { BeginsWith header bytes.now }
     requires sound { IsSound partials.old.items bytes.now }
     requires fragment { is_fragment_of bytes.now ≡ true }
     requires more { has_more_of bytes.now ≡ true }
     ensures { OnOk result (StepsBy bytes.now partials.old.items partials.new.items) }
 {
-    match place_of(id_of(bytes), partials.as_slice()) {
+    match place_of(header.id_of(bytes), partials.as_slice()) {
         None => Ok(()),
         Some(i) => grow_at(partials, i, &bytes[16..]),
     }
@@ -117,16 +125,18 @@ fn join(u: Unfinished, at: u64, bytes: &[u8]) -> Result<Whole, NoMemory>
 fn end(
     partials: &mut Vec<Unfinished>,
     at: u64,
+    header: Header,
     bytes: &[u8],
     whole: &mut List<Whole>,
 ) -> Result<(), NoMemory>
+    requires header { BeginsWith header bytes.now }
     requires sound { IsSound partials.old.items bytes.now }
     requires fragment { is_fragment_of bytes.now ≡ true }
     requires last { has_more_of bytes.now ≡ false }
     ensures ok { OnOk result (Does (record { at = at; bytes = bytes.now }) partials.old.items partials.new.items whole.old.items whole.new.items) }
     ensures err { OnErr result (whole.new.items ≡ whole.old.items) }
 {
-    match place_of(id_of(bytes), partials.as_slice()) {
+    match place_of(header.id_of(bytes), partials.as_slice()) {
         None => Ok(()),
         Some(i) => {
             let u = partials.remove(i);
@@ -137,14 +147,15 @@ fn end(
 }
 
 /// A CancelRequest drops the unfinished message of its id.
-fn cancel(partials: &mut Vec<Unfinished>, bytes: &[u8])
+fn cancel(partials: &mut Vec<Unfinished>, header: Header, bytes: &[u8])
+    requires header { BeginsWith header bytes.now }
     requires sound { IsSound partials.old.items bytes.now }
     requires other { is_fragment_of bytes.now ≡ false }
     requires last { has_more_of bytes.now ≡ false }
     ensures { StepsBy bytes.now partials.old.items partials.new.items }
 {
-    if kind_of(bytes) == 2 && bytes.len() >= 16 {
-        if let Some(i) = place_of(id_of(bytes), partials.as_slice()) {
+    if header.is(Kind::CancelRequest) && bytes.len() >= 16 {
+        if let Some(i) = place_of(header.id_of(bytes), partials.as_slice()) {
             partials.remove(i);
         }
     }
@@ -154,24 +165,24 @@ fn cancel(partials: &mut Vec<Unfinished>, bytes: &[u8])
 fn lone(
     partials: &mut Vec<Unfinished>,
     at: u64,
+    header: Header,
     bytes: Octets,
     whole: &mut List<Whole>,
 ) -> Result<(), NoMemory>
+    requires header { BeginsWith header bytes.items }
     requires sound { IsSound partials.old.items bytes.items }
     requires other { is_fragment_of bytes.items ≡ false }
     requires last { has_more_of bytes.items ≡ false }
     ensures ok { OnOk result (Does (record { at = at; bytes = bytes.items }) partials.old.items partials.new.items whole.old.items whole.new.items) }
     ensures err { OnErr result (whole.new.items ≡ whole.old.items) }
 {
-    cancel(partials, bytes.as_slice());
-    let order = order_of(bytes.as_slice());
-    let kind = kind_of(bytes.as_slice());
+    cancel(partials, header, bytes.as_slice());
     give(
         whole,
         Whole {
             at,
-            order,
-            kind,
+            order: header.order,
+            kind: header.kind.number(),
             bytes,
         },
     )
@@ -181,23 +192,24 @@ fn lone(
 pub(crate) fn take_piece(
     partials: &mut Vec<Unfinished>,
     at: u64,
+    header: Header,
     bytes: Octets,
     whole: &mut List<Whole>,
 ) -> Result<(), NoMemory>
-    requires { IsSound partials.old.items bytes.items }
+    requires header { BeginsWith header bytes.items }
+    requires sound { IsSound partials.old.items bytes.items }
     ensures ok { OnOk result (Does (record { at = at; bytes = bytes.items }) partials.old.items partials.new.items whole.old.items whole.new.items) }
     ensures err { OnErr result (whole.new.items ≡ whole.old.items) }
 {
-    let more = has_more(bytes.as_slice());
-    if is_fragment(bytes.as_slice()) {
-        if more {
-            go_on(partials, bytes.as_slice())
+    if header.is(Kind::Fragment) {
+        if header.more {
+            go_on(partials, header, bytes.as_slice())
         } else {
-            end(partials, at, bytes.as_slice(), whole)
+            end(partials, at, header, bytes.as_slice(), whole)
         }
-    } else if more {
-        begin(partials, at, bytes)
+    } else if header.more {
+        begin(partials, at, header, bytes)
     } else {
-        lone(partials, at, bytes, whole)
+        lone(partials, at, header, bytes, whole)
     }
 }

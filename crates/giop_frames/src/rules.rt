@@ -1,10 +1,12 @@
 //! The rules that a whole piece is judged by.
-ghost use Rattle.std.specs.Prelude.{◌≡◌, ◌≤◌, ◌+◌, length, nat_lt};
+ghost use Rattle.std.specs.Prelude.{◌≡◌, ◌≤◌, ◌+◌, length, nat_lt, Ok};
 ghost use Rattle.std.specs.Option.{option_copied};
+ghost use Rattle.giop_frames.specs.Headers.{BeginsWith};
 ghost use Rattle.giop_frames.specs.Stream as Rule;
 
 use crate::fault::FrameCause;
-use crate::header::{has_more, id_of, is_fragment, kind_of, order_of};
+use crate::header::Header;
+use crate::kind::Kind;
 use crate::unfinished::{Unfinished, open_at};
 use orb_base::Order;
 
@@ -27,13 +29,6 @@ fn same_order(a: Order, b: Order) -> bool
     }
 }
 
-#[tactic(auto, unfolding(crate::specs::Stream::is_short_kind))]
-fn is_short_kind(kind: u8) -> bool
-    ensures { result ≡ Rule.is_short_kind kind }
-{
-    kind == 2 || kind == 5 || kind == 6
-}
-
 /// Whether two lengths together pass the limit.
 fn exceeds(limit: usize, has: usize, more: usize) -> bool
     ensures { result ≡ nat_lt limit (has + more) }
@@ -42,14 +37,19 @@ fn exceeds(limit: usize, has: usize, more: usize) -> bool
 }
 
 #[tactic(auto, unfolding(crate::specs::Stream::fragment_cause))]
-fn fragment_cause(limit: usize, bytes: &[u8], begun: Option<&Unfinished>) -> Option<FrameCause>
+fn fragment_cause(
+    limit: usize,
+    order: Order,
+    bytes: &[u8],
+    begun: Option<&Unfinished>,
+) -> Option<FrameCause>
     requires { 16 ≤ length bytes.now }
-    ensures { result ≡ Rule.fragment_cause limit bytes.now (option_copied begun.entry) }
+    ensures { result ≡ Rule.fragment_cause limit order bytes.now (option_copied begun.entry) }
 {
     match begun {
         None => Some(FrameCause::BadPiece),
         Some(u) => {
-            if !same_order(u.order, order_of(bytes)) {
+            if !same_order(u.order, order) {
                 Some(FrameCause::BadPiece)
             } else if exceeds(limit, u.bytes.len(), bytes.len() - 16) {
                 Some(FrameCause::TooLong)
@@ -61,11 +61,12 @@ fn fragment_cause(limit: usize, bytes: &[u8], begun: Option<&Unfinished>) -> Opt
 }
 
 #[tactic(auto, unfolding(crate::specs::Stream::first_cause))]
-fn first_cause(partials: &[Unfinished], bytes: &[u8]) -> Option<FrameCause>
-    requires { 16 ≤ length bytes.now }
+fn first_cause(partials: &[Unfinished], header: Header, bytes: &[u8]) -> Option<FrameCause>
+    requires header { BeginsWith header bytes.now }
+    requires long { 16 ≤ length bytes.now }
     ensures { result ≡ Rule.first_cause partials.now bytes.now }
 {
-    if open_at(id_of(bytes), partials).is_some() {
+    if open_at(header.id_of(bytes), partials).is_some() {
         Some(FrameCause::BadPiece)
     } else if partials.len() >= MAX_PARTIALS {
         Some(FrameCause::TooManyPartials)
@@ -74,25 +75,29 @@ fn first_cause(partials: &[Unfinished], bytes: &[u8]) -> Option<FrameCause>
     }
 }
 
-/// The first rule that a whole piece breaks behind these unfinished messages.
-#[tactic(auto, unfolding(crate::specs::Stream::piece_cause))]
-pub(crate) fn piece_cause(limit: usize, partials: &[Unfinished], bytes: &[u8]) -> Option<FrameCause>
-    requires { 12 ≤ length bytes.now }
-    ensures { result ≡ Rule.piece_cause limit partials.now bytes.now }
+/// The first rule that a whole piece with this header breaks behind these unfinished messages.
+pub(crate) fn piece_cause(
+    limit: usize,
+    partials: &[Unfinished],
+    header: Header,
+    bytes: &[u8],
+) -> Option<FrameCause>
+    requires { BeginsWith header bytes.now }
+    ensures { result ≡ Rule.piece_rule limit partials.now bytes.now (Ok header) }
 {
-    let more = has_more(bytes);
-    if more && is_short_kind(kind_of(bytes)) {
+    if header.more && header.kind.comes_whole() {
         Some(FrameCause::BadPiece)
-    } else if more && bytes.len() % 8 != 0 {
+    } else if header.more && bytes.len() % 8 != 0 {
         Some(FrameCause::BadPiece)
-    } else if is_fragment(bytes) {
+    } else if header.is(Kind::Fragment) {
         if bytes.len() < 16 {
             Some(FrameCause::BadPiece)
         } else {
-            fragment_cause(limit, bytes, open_at(id_of(bytes), partials))
+            let begun = open_at(header.id_of(bytes), partials);
+            fragment_cause(limit, header.order, bytes, begun)
         }
-    } else if more {
-        first_cause(partials, bytes)
+    } else if header.more {
+        first_cause(partials, header, bytes)
     } else {
         None
     }

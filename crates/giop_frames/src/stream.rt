@@ -6,6 +6,7 @@ ghost use Rattle.giop_frames.specs.Feeds.{ReadsStream, joined_feeds};
 use crate::fault::FeedFault;
 use crate::framer::Framer;
 use crate::whole::Whole;
+use orb_base::limits::MAX_MESSAGE;
 use orb_base::{List, Octets};
 use std::alloc::Global;
 
@@ -18,7 +19,7 @@ pub fn read_stream(
     whole: &mut List<Whole>,
 ) -> Result<Option<u64>, FeedFault>
     requires least { 16 ≤ limit }
-    requires most { limit ≤ 262144 }
+    requires most { limit ≤ MAX_MESSAGE }
     requires short { length (joined_feeds feeds.now) < 2 ^ 64 }
     ensures { ReadsStream result (stream limit (joined_feeds feeds.now)) whole.old.items whole.new.items }
 {

@@ -214,6 +214,28 @@ fn sixteen_messages_may_be_open(rt: HostRuntime) -> Result<(), Fail> {
     Ok(())
 }
 
+/// The numbers of section 15.4.1.
+const KINDS: [(u8, Kind); 8] = [
+    (0, Kind::Request),
+    (1, Kind::Reply),
+    (2, Kind::CancelRequest),
+    (3, Kind::LocateRequest),
+    (4, Kind::LocateReply),
+    (5, Kind::CloseConnection),
+    (6, Kind::MessageError),
+    (7, Kind::Fragment),
+];
+
+#[test]
+fn kinds_have_numbers(rt: HostRuntime) -> Result<(), Fail> {
+    for (number, kind) in KINDS {
+        assert_eq!(rt; Kind::of_number(number), Some(kind));
+        assert_eq!(rt; kind.number(), number);
+    }
+    assert_eq!(rt; Kind::of_number(8), None);
+    Ok(())
+}
+
 /// A CancelRequest of id 1, and the last fragment of id 1, which then has no message.
 const CANCELLED: [u8; 32] = [
     0x47, 0x49, 0x4f, 0x50, 1, 2, 0, 2, 0, 0, 0, 4, 0, 0, 0, 1, 0x47, 0x49, 0x4f, 0x50, 1, 2, 0, 7,

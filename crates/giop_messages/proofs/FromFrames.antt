@@ -12,16 +12,17 @@ use Rattle.cdr_core.specs.Reading.{number_of}
 use Rattle.cdr_core.proofs.Numbers.{number_again}
 use Rattle.cdr_core.proofs.CallerLemmas.{length-number_bytes}
 use Rattle.giop_frames.specs.declared.fault.FrameCause.{FrameCause}
-use Rattle.giop_frames.specs.declared.fault.FrameCause.TheVariants.{BadMagic, BadVersion, BadType, TooLong}
 use Rattle.giop_frames.specs.declared.fault.FeedFault.{FeedFault}
 use Rattle.giop_frames.specs.declared.fault.FeedFault.TheVariants.{Frame, NoMemory}
 use Rattle.giop_frames.specs.Pieces.{Piece, Cut, order_of, has_more, kind_of, piece_len, id_of, cut}
 use Rattle.giop_frames.specs.Messages.{Partial, Message, is_fragment, opens, continues, ends, added, begun, open_at, sealed, joined as joined_message, lone, completed}
-use Rattle.giop_frames.specs.Stream.{Said, has_magic, has_version, header_cause, fragment_cause, piece_cause, or_else, cause_of, at_end, or_stopped, tail_cause, stream}
+use Rattle.giop_frames.specs.Headers.{has_magic, has_version}
+use Rattle.giop_frames.specs.Stream.{Said, header_cause, fragment_cause, piece_cause, or_else, cause_of, at_end, or_stopped, tail_cause, stream}
 use Rattle.giop_frames.specs.Running.{grown, stepped, run, ahead}
 use Rattle.giop_frames.specs.Feeds.{Feed, said, Adds, AddsFront, Tells}
 use Rattle.giop_frames.specs.Laws.{ArePieces}
 use Rattle.giop_frames.proofs.LawProofs.{cuts_exactly}
+use Rattle.giop_frames.proofs.Heads.{sound_head, head_is, head_few, header_within}
 use Rattle.giop_frames.proofs.Growing.{stream_is}
 use Rattle.giop_frames.proofs.Effects.{opens_is}
 use Rattle.giop_frames.proofs.Soundness.{fragment_fits, joins_within}
@@ -45,7 +46,11 @@ at_front a b n lt h = get_or_append_left a b 0 n (omega arith)
 
 magic_front : (a b : List ℕ) → 12 ≤ length a → has_magic (a ++ b) ≡ has_magic a
 unfolding has_magic
-magic_front a b h = rw (at_front a b 0 (omega arith) h, at_front a b 1 (omega arith) h, at_front a b 2 (omega arith) h, at_front a b 3 (omega arith) h) refl
+magic_front [] b h = absurd (omega arith)
+magic_front (w ∷ []) b h = absurd (omega arith)
+magic_front (w ∷ x ∷ []) b h = absurd (omega arith)
+magic_front (w ∷ x ∷ y ∷ []) b h = absurd (omega arith)
+magic_front (w ∷ x ∷ y ∷ z ∷ a) b h = refl
 
 version_front : (a b : List ℕ) → 12 ≤ length a → has_version (a ++ b) ≡ has_version a
 unfolding has_version
@@ -80,22 +85,11 @@ record HasNoCause (limit : ℕ) (bytes : List ℕ) : Type 0 where
   pub kind : kind_of bytes ≤ 7
   pub len : piece_len bytes ≤ limit
 
-not_lt : (n m : ℕ) → nat_lt n m ≡ false → m ≤ n
-not_lt n m h = grind arith
-
-four_hold : (a b c d : Bool) → cond (not a) (Some BadMagic) (cond (not b) (Some BadVersion) (cond c (Some BadType) (cond d (Some TooLong) None))) ≡ None
-    → (a ≡ true) × (b ≡ true) × (c ≡ false) × (d ≡ false)
-four_hold false b c d h = absurd (cc)
-four_hold true false c d h = absurd (cc)
-four_hold true true true d h = absurd (cc)
-four_hold true true false true h = absurd (cc)
-four_hold true true false false h = (refl, refl, refl, refl)
-
 no_cause : (limit : ℕ) (bytes : List ℕ) → header_cause limit bytes ≡ None → HasNoCause limit bytes
-unfolding header_cause
 no_cause limit bytes h =
-    let f = four_hold (has_magic bytes) (has_version bytes) (nat_lt 7 (kind_of bytes)) (nat_lt limit (piece_len bytes)) h in
-    record { magic = f.0; version = f.1; kind = not_lt 7 (kind_of bytes) f.2; len = not_lt limit (piece_len bytes) f.3 }
+    let s = sound_head limit bytes h in
+    let i = head_is bytes s.0 s.1 in
+    record { magic = i.magic; version = i.version; kind = head_few bytes s.0 s.1; len = header_within limit bytes h }
 
 other_kind : (bytes : List ℕ) → kind_of bytes ≤ 7 → is_fragment bytes ≡ false → kind_of bytes ≤ 6
 unfolding is_fragment
@@ -253,10 +247,10 @@ none_is = All-nil IsMessage
 one_is : (m : Message) → IsMessage m → All IsMessage (m ∷ [])
 one_is m h = All-cons IsMessage m [] h none_is
 
-joined_is : (limit : ℕ) (p : Piece) (u : Partial) → limit ≤ 262144 → IsBegun u.order true u.bytes → fragment_cause limit p.bytes (Some u) ≡ None → IsMessage (joined_message p u)
+joined_is : (limit : ℕ) (p : Piece) (u : Partial) → limit ≤ 262144 → IsBegun u.order true u.bytes → fragment_cause limit (order_of p.bytes) p.bytes (Some u) ≡ None → IsMessage (joined_message p u)
 joined_is limit p u few h e =
     let all : List ℕ = u.bytes ++ added p in
-    let short : length all ≤ 262144 = omega (arith, length-append u.bytes (added p), length-drop 16 p.bytes, fragment_fits limit p.bytes u e, few) in
+    let short : length all ≤ 262144 = omega (arith, length-append u.bytes (added p), length-drop 16 p.bytes, fragment_fits limit (order_of p.bytes) p.bytes u e, few) in
     subst (λ (k : ℕ). IsMessage (made p.at u.order k (sealed u.order all))) (kind_front u.bytes (added p) h.long)
     (sealed_is p.at u.order all (begun_more u.order true u.bytes (added p) h) short)
 
@@ -268,7 +262,7 @@ completed_by limit us p false false o em ef eo few hs l w h k = one_is (lone p) 
 completed_by limit us p false true None em ef eo few hs l w h k = none_is
 completed_by limit us p false true (Some u) em ef eo few hs l w h k =
     one_is (joined_message p u)
-    (joined_is limit p u few (found_begun (id_of p.bytes) us u hs eo) (ap (fragment_cause limit p.bytes) (sym eo) ∙ joins_within limit us p.bytes k ef))
+    (joined_is limit p u few (found_begun (id_of p.bytes) us u hs eo) (ap (fragment_cause limit (order_of p.bytes) p.bytes) (sym eo) ∙ joins_within limit us p.bytes k ef))
 
 completed_is : (limit : ℕ) (us : List Partial) (p : Piece) → limit ≤ 262144 → AreBegun us → 12 ≤ length p.bytes → length p.bytes ≡ piece_len p.bytes → header_cause limit p.bytes ≡ None
     → piece_cause limit us p.bytes ≡ None → All IsMessage (option_to_list (completed us p))

@@ -11,7 +11,7 @@ use Rattle.cdr_core.proofs.Numbers.{number_back}
 use Rattle.cdr_core.proofs.Parts.{AreBytes-drop, AreBytes-take}
 use Rattle.giop_frames.specs.Messages as Frames
 use Rattle.giop_frames.specs.Pieces.{order_of, has_more, kind_of, piece_len}
-use Rattle.giop_frames.specs.Stream.{has_magic, has_version}
+use Rattle.giop_frames.specs.Headers.{has_magic, has_version}
 use Rattle.giop_messages.specs.Layout.{header, order_flag}
 use Rattle.giop_messages.specs.MessageReading.{IsMessage}
 
@@ -83,10 +83,11 @@ is_number n k h = grind arith
 pub magic_is : {bytes : List ℕ} (t : Twelve bytes) → has_magic (joined t) ≡ true → (t.b0 ≡ 71) × (t.b1 ≡ 73) × (t.b2 ≡ 79) × (t.b3 ≡ 80)
 unfolding has_magic
 magic_is t h =
-    let a = both_hold (t.b0 == 71) _ h in
-    let b = both_hold (t.b1 == 73) _ a.1 in
-    let c = both_hold (t.b2 == 79) _ b.1 in
-    (is_number t.b0 71 a.0, is_number t.b1 73 b.0, is_number t.b2 79 c.0, is_number t.b3 80 c.1)
+    let a = both_hold (71 == t.b0) _ h in
+    let b = both_hold (73 == t.b1) _ a.1 in
+    let c = both_hold (79 == t.b2) _ b.1 in
+    let d = both_hold (80 == t.b3) _ c.1 in
+    (sym (is_number 71 t.b0 a.0), sym (is_number 73 t.b1 b.0), sym (is_number 79 t.b2 c.0), sym (is_number 80 t.b3 d.0))
 
 pub version_is : {bytes : List ℕ} (t : Twelve bytes) → has_version (joined t) ≡ true → (t.b4 ≡ 1) × (t.b5 ≡ 2)
 unfolding has_version

@@ -12,7 +12,8 @@ use Rattle.cdr_core.proofs.Parts.{AreBytes-drop}
 use Rattle.giop_frames.specs.Messages as Frames
 use Rattle.giop_messages.specs.declared.message_fault.MessageFault.{MessageFault}
 use Rattle.giop_messages.specs.Message.{Message, request, reply, cancel, locate, located, close, error, kind_of, Fits, HasStatus}
-use Rattle.giop_messages.specs.Layout.{magic, header, named_fields}
+use Rattle.giop_frames.specs.Headers.{magic}
+use Rattle.giop_messages.specs.Layout.{header, named_fields}
 use Rattle.giop_messages.specs.Reading.{HasBody, ReadsIn, Reads}
 use Rattle.giop_messages.specs.declared.message.Message as program
 use Rattle.giop_messages.specs.Views.{message_of}

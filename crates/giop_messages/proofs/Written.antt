@@ -13,13 +13,15 @@ use Rattle.giop_frames.specs.Pieces as Pieces
 use Rattle.giop_frames.specs.Pieces.{Piece, order_of, has_more, piece_len}
 use Rattle.giop_frames.specs.Messages as Frames
 use Rattle.giop_frames.specs.Messages.{is_fragment, opens, begun, lone}
-use Rattle.giop_frames.specs.Stream.{Said, has_magic, has_version}
+use Rattle.giop_frames.specs.Headers.{has_magic, has_version}
+use Rattle.giop_frames.specs.Stream.{Said, header_cause}
 use Rattle.giop_frames.specs.Running.{stepped, ahead}
-use Rattle.giop_frames.specs.Splitting.{is_long_kind}
+use Rattle.giop_frames.specs.Kinds.{is_long_kind}
 use Rattle.giop_frames.proofs.Effects.{last_opens_none}
 use Rattle.giop_frames.proofs.Deeds.{completes_lone}
 use Rattle.giop_frames.proofs.Growing.{stream_is}
-use Rattle.giop_frames.proofs.PieceStreams.{header_passes, lone_passes, other_by, goes_by, empty_ahead}
+use Rattle.giop_frames.proofs.Heads.{header_passes}
+use Rattle.giop_frames.proofs.PieceStreams.{lone_passes, other_by, goes_by, empty_ahead}
 use Rattle.giop_messages.specs.Message.{Message, request, reply, cancel, locate, located, close, error, kind_of}
 use Rattle.giop_messages.specs.Spelling.{all_fields, framed, spelled}
 use Rattle.giop_messages.specs.Reading.{ReadsIn}
@@ -175,9 +177,10 @@ written_ahead limit at (m ∷ later) few w =
     let f : is_fragment p ≡ false = no_fragment m.0 m.1 p i in
     let kind : Pieces.kind_of p ≤ 7 = omega (arith, i.kind, few_kinds m.1) in
     let fits : piece_len p ≤ limit = omega (arith, i.size, w.1) in
+    let header : header_cause limit p ≡ None = header_passes limit p i.magic i.version (grind arith) (grind arith) in
     goes_by limit [] [] at p (written_bytes later) (Some (whole_at at m.0 m.1)) (only (wholes_from (at + length p) later)) i.long i.size
-    (header_passes limit p i.magic i.version (grind arith) (grind arith))
-    (lone_passes limit [] p i.alone f)
+    header
+    (lone_passes limit [] p header i.alone f)
     (steps_none q (last_opens_none p i.alone))
     (completes_lone [] q i.alone f ∙ ap Some (whole_is at m.0 m.1 i))
     (written_ahead limit (at + length p) later few w.2)

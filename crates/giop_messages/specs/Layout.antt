@@ -6,11 +6,8 @@ use Rattle.orb_base.specs.declared.order.Order.{Order}
 use Rattle.orb_base.specs.declared.order.Order.TheVariants.{Big, Little}
 use Rattle.cdr_core.specs.Field.{Field, number, run, number_bytes, string_fields, octets_fields}
 use Rattle.orb_base.specs.Tagged.{Context, Tagged}
+use Rattle.giop_frames.specs.Headers.{magic}
 use Rattle.giop_messages.specs.Message.{Target, key, profile, addressing, Message, request, reply, cancel, locate, located, close, error}
-
--- 'GIOP'
-abbrev pub magic : List ℕ
-magic = 71 ∷ 73 ∷ 79 ∷ 80 ∷ []
 
 -- bit 0 of the flags
 abbrev pub order_flag : Order → ℕ

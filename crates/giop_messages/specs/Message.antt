@@ -2,6 +2,8 @@
 use Rattle.std.specs.Prelude.{◌≤◌, ◌<◌, ◌+◌, ◌^◌, ℕ, List, length}
 use Rattle.std.specs.List.{AllByRecursion}
 use Rattle.orb_base.specs.NulFree.{HasNoNul}
+use Rattle.giop_frames.specs.declared.kind.Kind.TheVariants as kinds
+use Rattle.giop_frames.specs.Kinds.{number}
 use Rattle.orb_base.specs.Tagged.{Context, Tagged}
 
 -- the object that a request is for: by the key of its adapter, by a profile, or by a reference of which one profile is
@@ -54,13 +56,13 @@ reply_of id status contexts body = reply (record { id = id; status = status; con
 
 -- the number of a message's kind: section 15.4.1
 abbrev pub kind_of : Message → ℕ
-kind_of (request _) = 0
-kind_of (reply _) = 1
-kind_of (cancel _) = 2
-kind_of (locate _) = 3
-kind_of (located _) = 4
-kind_of close = 5
-kind_of error = 6
+kind_of (request _) = number kinds.Request
+kind_of (reply _) = number kinds.Reply
+kind_of (cancel _) = number kinds.CancelRequest
+kind_of (locate _) = number kinds.LocateRequest
+kind_of (located _) = number kinds.LocateReply
+kind_of close = number kinds.CloseConnection
+kind_of error = number kinds.MessageError
 
 -- data that the widths can hold
 pub record FitsTagged (tagged : Tagged) : Type 0 where

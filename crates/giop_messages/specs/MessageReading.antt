@@ -6,9 +6,12 @@ use Rattle.cdr_core.specs.Alignment.{pad_len}
 use Rattle.cdr_core.specs.Cursor as Cdr
 use Rattle.cdr_core.specs.Cursor.{Cursor, cursor}
 use Rattle.cdr_core.specs.Reading.{number_at, count_at, octets_at, string_at}
+use Rattle.orb_base.specs.declared.limits.TheConstants.{MAX_MESSAGE}
+use Rattle.giop_frames.specs.declared.kind.Kind.TheVariants as kinds
+use Rattle.giop_frames.specs.Kinds.{number, is_kind}
 use Rattle.giop_frames.specs.Messages as Frames
 use Rattle.giop_frames.specs.Pieces.{order_of, has_more, kind_of, piece_len}
-use Rattle.giop_frames.specs.Stream.{has_magic, has_version}
+use Rattle.giop_frames.specs.Headers.{has_magic, has_version}
 use Rattle.giop_messages.specs.declared.message_fault.MessageFault.{MessageFault}
 use Rattle.giop_messages.specs.declared.message_fault.MessageFault.TheVariants as faults
 use Rattle.orb_base.specs.Tagged.{Context, Tagged}
@@ -22,9 +25,9 @@ pub record IsMessage (m : Frames.Message) : Type 0 where
   pub order : order_of m.bytes ≡ m.order
   pub unfragmented : has_more m.bytes ≡ false
   pub kind : kind_of m.bytes ≡ m.kind
-  pub few_kinds : m.kind ≤ 6
+  pub few_kinds : m.kind ≤ number kinds.MessageError
   pub size : piece_len m.bytes ≡ length m.bytes
-  pub short : length m.bytes ≤ 262144
+  pub short : length m.bytes ≤ MAX_MESSAGE
 
 -- a value and the cursor behind it, or the first fault
 abbrev pub Parsed : Type 0 → Type 0
@@ -200,12 +203,12 @@ as_message of (Err e) = Err e
 -- a message of a kind up to 6 that begins at the cursor, within its bytes
 unfoldable pub kind_at : ℕ → List ℕ → Cursor → Result Message MessageFault
 kind_at kind bytes c =
-    if kind == 0 then as_message request (request_at bytes c)
-    else if kind == 1 then as_message reply (reply_at bytes c)
-    else if kind == 2 then as_message cancel (cancel_at c)
-    else if kind == 3 then as_message locate (locate_at c)
-    else if kind == 4 then as_message located (located_at c)
-    else if kind == 5 then Ok close
+    if is_kind kinds.Request kind then as_message request (request_at bytes c)
+    else if is_kind kinds.Reply kind then as_message reply (reply_at bytes c)
+    else if is_kind kinds.CancelRequest kind then as_message cancel (cancel_at c)
+    else if is_kind kinds.LocateRequest kind then as_message locate (locate_at c)
+    else if is_kind kinds.LocateReply kind then as_message located (located_at c)
+    else if is_kind kinds.CloseConnection kind then Ok close
     else Ok error
 
 -- what stands behind the header of 12 bytes

@@ -1,6 +1,6 @@
 -- The first fault of a message's header: each part before it has a reading, and the part there has none. CORBA 3.0.3,
 -- section 15.4. The causes and their order are own profile.
-use Rattle.std.specs.Prelude.{◌≡◌, ◌≤◌, ◌<◌, ◌==◌, ℕ, List, [], ◌∷◌, ◌⊎◌, length, drop, if◌then◌else◌}
+use Rattle.std.specs.Prelude.{◌≡◌, ◌≤◌, ◌<◌, ℕ, List, [], ◌∷◌, ◌⊎◌, length, drop, if◌then◌else◌}
 use Rattle.std.specs.Int.{w8, w16, w32}
 use Rattle.std.specs.List.{AllByRecursion, flat_map}
 use Rattle.cdr_core.specs.declared.fault.CdrFault.{CdrFault}
@@ -8,6 +8,8 @@ use Rattle.cdr_core.specs.Field.{Field, number}
 use Rattle.cdr_core.specs.Cursor.{Cursor, cursor, aligned}
 use Rattle.cdr_core.specs.Basic.{BasicType, integer, octet_sequence, string, BasicValue, unsigned, type_of}
 use Rattle.cdr_core.specs.Passing.{Spans, Passes, Fails, FailsCount}
+use Rattle.giop_frames.specs.declared.kind.Kind.TheVariants as kinds
+use Rattle.giop_frames.specs.Kinds.{is_kind}
 use Rattle.giop_frames.specs.Messages as Frames
 use Rattle.giop_messages.specs.declared.message_fault.MessageFault.{MessageFault}
 use Rattle.giop_messages.specs.declared.message_fault.MessageFault.TheVariants as faults
@@ -137,11 +139,11 @@ request_parts = long ∷ octet ∷ octet ∷ octet ∷ octet ∷ target ∷ basi
 -- the parts of the header of each kind, behind the first 12 bytes
 abbrev pub parts_of : ℕ → List Part
 parts_of kind =
-    if kind == 0 then request_parts
-    else if kind == 1 then long ∷ status ∷ contexts ∷ []
-    else if kind == 2 then long ∷ []
-    else if kind == 3 then long ∷ target ∷ []
-    else if kind == 4 then long ∷ long ∷ []
+    if is_kind kinds.Request kind then request_parts
+    else if is_kind kinds.Reply kind then long ∷ status ∷ contexts ∷ []
+    else if is_kind kinds.CancelRequest kind then long ∷ []
+    else if is_kind kinds.LocateRequest kind then long ∷ target ∷ []
+    else if is_kind kinds.LocateReply kind then long ∷ long ∷ []
     else []
 
 -- the header of a message has no reading, and this is its first fault

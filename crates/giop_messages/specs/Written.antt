@@ -2,9 +2,11 @@
 use Rattle.std.specs.Prelude.{◌≡◌, ℕ, ◌+◌, ◌≤◌, true, List, [], ◌∷◌, None, Ok, length}
 use Rattle.std.specs.List.{flat_map}
 use Rattle.orb_base.specs.declared.order.Order.{Order}
+use Rattle.orb_base.specs.declared.limits.TheConstants.{MAX_MESSAGE}
 use Rattle.giop_frames.specs.Messages as Frames
 use Rattle.giop_frames.specs.Stream.{stream}
-use Rattle.giop_frames.specs.Splitting.{is_long_kind, IsUncut}
+use Rattle.giop_frames.specs.Kinds.{is_long_kind}
+use Rattle.giop_frames.specs.Splitting.{IsUncut}
 use Rattle.giop_messages.specs.Message.{Message, Fits, kind_of}
 use Rattle.giop_messages.specs.Spelling.{spelled}
 use Rattle.giop_messages.specs.MessageReading.{message_at}
@@ -30,17 +32,17 @@ AreWritten limit (m ∷ later) = Fits m.1 × (length (spelled m.0 m.1) ≤ limit
 -- the stream of messages written one behind the other is those messages and nothing else: no rest and no fault
 abbrev pub StreamsWritten : Type 0
 StreamsWritten =
-    (limit : ℕ) (messages : List (Order × Message)) → limit ≤ 262144 → AreWritten limit messages
+    (limit : ℕ) (messages : List (Order × Message)) → limit ≤ MAX_MESSAGE → AreWritten limit messages
     → stream limit (written_bytes messages) ≡ record { messages = wholes_from 0 messages; rest = None; bad = None }
 
 -- each of them is read as the message that was written
 abbrev pub ReadsWritten : Type 0
 ReadsWritten =
-    (at : ℕ) (order : Order) (message : Message) → Fits message → length (spelled order message) ≤ 262144
+    (at : ℕ) (order : Order) (message : Message) → Fits message → length (spelled order message) ≤ MAX_MESSAGE
     → message_at (whole_at at order message) ≡ Ok message
 
 -- and one of a kind that may come in fragments can be cut into pieces
 abbrev pub UncutWritten : Type 0
 UncutWritten =
-    (order : Order) (message : Message) → length (spelled order message) ≤ 262144 → is_long_kind (kind_of message) ≡ true
+    (order : Order) (message : Message) → length (spelled order message) ≤ MAX_MESSAGE → is_long_kind (kind_of message) ≡ true
     → IsUncut (spelled order message)

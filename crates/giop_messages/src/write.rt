@@ -3,6 +3,8 @@ ghost use Rattle.std.specs.Prelude.{◌≡◌, ◌≤◌, ◌<◌, ◌+◌, ◌^
 ghost use Rattle.std.specs.Int.{w8, w32};
 ghost use Rattle.cdr_core.specs.Field.{number, run, fields_end};
 ghost use Rattle.cdr_core.specs.Writing.{Puts};
+ghost use Rattle.giop_frames.specs.declared.kind.Kind.TheVariants as kinds;
+ghost use Rattle.giop_frames.specs.Kinds.{number as kind_number};
 ghost use Rattle.giop_messages.specs.Message as Spec;
 ghost use Rattle.giop_messages.specs.Layout.{order_flag, header_fields};
 ghost use Rattle.giop_messages.specs.Spelling.{all_fields, spelled};
@@ -17,6 +19,7 @@ use crate::part::{put_body, put_contexts, put_target};
 use crate::reply::Reply;
 use crate::request::Request;
 use cdr_core::Writer;
+use giop_frames::Kind;
 use orb_base::limits::MAX_MESSAGE;
 use orb_base::{Context, NoMemory, Order};
 
@@ -35,13 +38,13 @@ fn kind(message: &Message) -> u8
     ensures { result ≡ Spec.kind_of (message_of message.now) }
 {
     match message {
-        Message::Request(_) => 0,
-        Message::Reply(_) => 1,
-        Message::Cancel(_) => 2,
-        Message::Locate(_) => 3,
-        Message::Located(_) => 4,
-        Message::Close => 5,
-        Message::Error => 6,
+        Message::Request(_) => Kind::Request.number(),
+        Message::Reply(_) => Kind::Reply.number(),
+        Message::Cancel(_) => Kind::CancelRequest.number(),
+        Message::Locate(_) => Kind::LocateRequest.number(),
+        Message::Located(_) => Kind::LocateReply.number(),
+        Message::Close => Kind::CloseConnection.number(),
+        Message::Error => Kind::MessageError.number(),
     }
 }
 
@@ -52,6 +55,13 @@ fn put_header(into: &mut Writer, order: Order, kind: u8, size: u32) -> Result<()
     let head = [b'G', b'I', b'O', b'P', 1, 2, flag(order), kind];
     into.put_run(1, &head)?;
     into.put_u32(size)
+}
+
+/// Puts the header of a reply.
+fn put_reply_header(into: &mut Writer, order: Order, size: u32) -> Result<(), NoMemory>
+    ensures { Puts result into.old into.new (header_fields order (kind_number kinds.Reply) size) }
+{
+    put_header(into, order, Kind::Reply.number(), size)
 }
 
 /// Puts the id and the flags of a request, and the reserved octets.
@@ -176,6 +186,6 @@ pub fn write_reply(
     let len = reply_len(contexts, body.len());
     into.reserve(len)?;
     let size = len - 12;
-    put_header(into, order, 1, size as u32)?;
+    put_reply_header(into, order, size as u32)?;
     put_reply_parts(into, id, status, contexts, body)
 }

@@ -15,8 +15,8 @@ piece-requires-clause-fits c =
       length-take (length c.split_at.result.0.now - 16) (drop 16 c.split_at.result.0.now),
     )
 
-pub piece-requires-in-loop-left-clause-fits : goal.piece-requires-in-loop-left-clause-fits
-piece-requires-in-loop-left-clause-fits c =
+pub fragment-requires-clause-fits : goal.fragment-requires-clause-fits
+fragment-requires-clause-fits c =
     omega (
       arith,
       short_of c.args.message.now c.requires.message (λ i. omega (arith, c.type_inv.message i)),
@@ -24,8 +24,8 @@ piece-requires-in-loop-left-clause-fits c =
       length-take (c.args.limit - 16) c.loop-left.left.now,
     )
 
-pub piece-requires-2-clause-fits : goal.piece-requires-2-clause-fits
-piece-requires-2-clause-fits c = omega (arith, short_of c.args.message.now c.requires.message (λ i. omega (arith, c.type_inv.message i)), c.loop-left.invariant.short)
+pub fragment-requires-2-clause-fits : goal.fragment-requires-2-clause-fits
+fragment-requires-2-clause-fits c = omega (arith, short_of c.args.message.now c.requires.message (λ i. omega (arith, c.type_inv.message i)), c.loop-left.invariant.short)
 
 pub returns-then-message-limit-clause-reads : goal.returns-then-message-limit-clause-reads
 returns-then-message-limit-clause-reads c =

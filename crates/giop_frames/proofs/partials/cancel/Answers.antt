@@ -1,14 +1,14 @@
-use Rattle.std.proofs.Common.{◌==◌, ◌∙◌, sym, length, nat_le}
+use Rattle.std.proofs.Common.{◌==◌, length, nat_le, sym}
 use Rattle.giop_frames.specs.Pieces.{kind_of}
-use Rattle.giop_frames.proofs.Deeds.{found_as, none_as, cancels_it, stays, stays_open, short_no_cancel, other_no_cancel}
+use Rattle.giop_frames.proofs.Deeds.{found_as, none_as, cancels_it, stays, stays_open, short_no_cancel, cancel_as, no_cancel_as}
 use Rattle.giop_frames.proofs.Effects.{last_opens_none}
 use Rattle.giop_frames.proofs.partials.cancel.Goals as goal
-use Rattle.giop_frames.proofs.partials.cancel.Goals.{else-kind_of-eq2-via-then-kind_of-eq2+else-bytes-ge16, else-kind_of-eq2-via-else-kind_of-eq2}
+use Rattle.giop_frames.proofs.partials.cancel.Goals.{else-is-via-then-is+else-bytes-ge16, else-is-via-else-is}
 
 pub returns-in-Some : goal.returns-in-Some
 returns-in-Some c =
     cancels_it c.args.partials.now.items c.remove.new.self.items c.args.bytes.now c.in-Some.i c.requires.sound c.requires.other c.requires.last
-    (sym c.kind_of.ensures ∙ c.if-kind_of-eq2.true) c.if-bytes-ge16.true
+    (cancel_as c.args.bytes.now _ c.requires.header.kind c.if-is.ensures) c.if-bytes-ge16.true
     (found_as _ _ c.in-Some.i _ _ c.id_of.ensures c.as_slice.ensures.value c.in-Some.ensures) c.remove.ensures.items
 
 pub returns-in_default : goal.returns-in_default
@@ -16,11 +16,11 @@ returns-in_default c =
     stays_open c.args.partials.now.items c.args.bytes.now (last_opens_none c.args.bytes.now c.requires.last)
     (none_as _ _ _ _ c.id_of.ensures c.as_slice.ensures.value c.in_default.ensures)
 
-pub returns-else-kind_of-eq2 : goal.returns-else-kind_of-eq2
-returns-else-kind_of-eq2 c =
-    elim c.else-kind_of-eq2.branch [
-      | else-kind_of-eq2-via-then-kind_of-eq2+else-bytes-ge16 w ↦ stays c.args.partials.now.items c.args.bytes.now c.requires.other c.requires.last
+pub returns-else-is : goal.returns-else-is
+returns-else-is c =
+    elim c.else-is.branch [
+      | else-is-via-then-is+else-bytes-ge16 w ↦ stays c.args.partials.now.items c.args.bytes.now c.requires.other c.requires.last
           (short_no_cancel (kind_of c.args.bytes.now == 2) (length c.args.bytes.now) w.if-bytes-ge16.false)
-      | else-kind_of-eq2-via-else-kind_of-eq2 w ↦ stays c.args.partials.now.items c.args.bytes.now c.requires.other c.requires.last
-          (other_no_cancel (kind_of c.args.bytes.now) (nat_le 16 (length c.args.bytes.now)) (λ h. w.if-kind_of-eq2.false (c.kind_of.ensures ∙ h)))
+      | else-is-via-else-is w ↦ stays c.args.partials.now.items c.args.bytes.now c.requires.other c.requires.last
+          (no_cancel_as c.args.bytes.now _ (nat_le 16 (length c.args.bytes.now)) c.requires.header.kind w.if-is.ensures)
     ]

@@ -3,7 +3,8 @@ use Rattle.std.proofs.lemmas.Result.{err_from_is_err_and}
 use Rattle.std.specs.Int.{w32}
 use Rattle.cdr_core.specs.Field.{number, run}
 use Rattle.cdr_core.proofs.CallerLemmas.{puts_then, puts_first}
-use Rattle.giop_messages.specs.Layout.{magic, order_flag}
+use Rattle.giop_frames.specs.Headers.{magic}
+use Rattle.giop_messages.specs.Layout.{order_flag}
 use Rattle.giop_messages.proofs.write.put_header.Goals as goal
 
 pub returns-in_err-put_run : goal.returns-in_err-put_run

@@ -26,19 +26,19 @@ overflow_cast-size c =
     c.reply_len-len.ensures c.args.order c.args.id c.args.status c.args.body.now refl in
     omega (arith, c.requires.len)
 
-pub returns-in_err-put_header-clause-memory : goal.returns-in_err-put_header-clause-memory
-returns-in_err-put_header-clause-memory c =
-    let p = err_from_is_err_and c.from_residual-in_err-put_header.result c.from_residual-in_err-put_header.ensures.1 in
+pub returns-in_err-put_reply_header-clause-memory : goal.returns-in_err-put_reply_header-clause-memory
+returns-in_err-put_reply_header-clause-memory c =
+    let p = err_from_is_err_and c.from_residual-in_err-put_reply_header.result c.from_residual-in_err-put_reply_header.ensures.1 in
     let message = reply_of c.args.id c.args.status c.args.contexts.now c.args.body.now in
     let long : c.reply_len-len.result ≡ held (length (spelled c.args.order message)) =
     c.reply_len-len.ensures c.args.order c.args.id c.args.status c.args.body.now refl in
     let len = length_known c.args.order message c.reply_len-len.result long c.requires.len in
-    rw p.1 (header_front p.0 c.args.order message (c.reply_len-len.result - 12) c.reserve.new.self c.put_header.new.into (c.reserve.ensures ∙ c.requires.empty) len c.in_err-put_header.ensures)
+    rw p.1 (header_front p.0 c.args.order message (c.reply_len-len.result - 12) c.reserve.new.self c.put_reply_header.new.into (c.reserve.ensures ∙ c.requires.empty) len c.in_err-put_reply_header.ensures)
 
 pub put_reply_parts-requires : goal.put_reply_parts-requires
 put_reply_parts-requires c =
     let message = reply_of c.args.id c.args.status c.args.contexts.now c.args.body.now in
-    message_room c.args.order message c.reserve.new.self c.put_header.new.into 1 (c.reply_len-len.result - 12) (c.reserve.ensures ∙ c.requires.empty) c.in_ok-put_header.ensures c.requires.len
+    message_room c.args.order message c.reserve.new.self c.put_reply_header.new.into 1 (c.reply_len-len.result - 12) (c.reserve.ensures ∙ c.requires.empty) c.in_ok-put_reply_header.ensures c.requires.len
 
 pub returns-clause-ok : goal.returns-clause-ok
 returns-clause-ok c =
@@ -46,8 +46,8 @@ returns-clause-ok c =
     let long : c.reply_len-len.result ≡ held (length (spelled c.args.order message)) =
     c.reply_len-len.ensures c.args.order c.args.id c.args.status c.args.body.now refl in
     let len = length_known c.args.order message c.reply_len-len.result long c.requires.len in
-    (message_put c.put_reply_parts.result c.args.order message (c.reply_len-len.result - 12) c.reserve.new.self c.put_header.new.into c.put_reply_parts.new.into (c.reserve.ensures ∙ c.requires.empty) len
-    c.in_ok-put_header.ensures c.put_reply_parts.ensures).0
+    (message_put c.put_reply_parts.result c.args.order message (c.reply_len-len.result - 12) c.reserve.new.self c.put_reply_header.new.into c.put_reply_parts.new.into (c.reserve.ensures ∙ c.requires.empty) len
+    c.in_ok-put_reply_header.ensures c.put_reply_parts.ensures).0
 
 pub returns-clause-memory : goal.returns-clause-memory
 returns-clause-memory c =
@@ -55,5 +55,5 @@ returns-clause-memory c =
     let long : c.reply_len-len.result ≡ held (length (spelled c.args.order message)) =
     c.reply_len-len.ensures c.args.order c.args.id c.args.status c.args.body.now refl in
     let len = length_known c.args.order message c.reply_len-len.result long c.requires.len in
-    (message_put c.put_reply_parts.result c.args.order message (c.reply_len-len.result - 12) c.reserve.new.self c.put_header.new.into c.put_reply_parts.new.into (c.reserve.ensures ∙ c.requires.empty) len
-    c.in_ok-put_header.ensures c.put_reply_parts.ensures).1
+    (message_put c.put_reply_parts.result c.args.order message (c.reply_len-len.result - 12) c.reserve.new.self c.put_reply_header.new.into c.put_reply_parts.new.into (c.reserve.ensures ∙ c.requires.empty) len
+    c.in_ok-put_reply_header.ensures c.put_reply_parts.ensures).1
