@@ -1,12 +1,12 @@
 -- Beginnings of one history.
-use Rattle.std.proofs.Common.{◌≡◌, ◌≢◌, ℕ, zero, suc, ◌+◌, ◌<◌, ◌≤◌, ◌==◌, ◌⊎◌, ⊎_elim, Bool, true, false, if◌then◌else◌, List, [], ◌∷◌, ◌++◌, length, take, drop, Option, Some, None, sym, refl, ap, ◌∙◌, subst, arith, append-nil, append_assoc, length-append, take-append-drop}
+use Rattle.std.proofs.Common.{◌≡◌, ℕ, zero, suc, ◌+◌, ◌<◌, ◌≤◌, ◌==◌, ⊎_elim, Bool, true, false, if◌then◌else◌, List, [], ◌∷◌, ◌++◌, length, take, drop, sym, refl, ap, ◌∙◌, arith, append-nil, length-append, take-append-drop}
 use Rattle.std.specs.Prelude.{nat_le}
 use Rattle.std.proofs.Math.Dec.{leb}
 use Rattle.std.proofs.lemmas.Bool.{leb-true}
 use Rattle.std.proofs.lemmas.Bool.Decides.{leb_tells}
 use Rattle.turn_cell.proofs.Keeps.{true-ne-false}
 use Rattle.turn_cell.specs.declared.entry.Entry.{Entry}
-use Rattle.turn_cell.specs.History.{of, StartsWith, replay, Legal, FitFrom}
+use Rattle.turn_cell.specs.History.{of, StartsWith, Legal, FitFrom}
 use Rattle.turn_cell.specs.Views.{longer}
 
 module _ {A : Type 0} where

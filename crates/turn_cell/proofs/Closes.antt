@@ -1,8 +1,8 @@
 -- What the table holds where every seat was joined into one.
-use Rattle.std.proofs.Common.{◌≡◌, ◌≢◌, ℕ, zero, suc, ◌<◌, ◌⊎◌, inl, inr, ⊎_elim, Bool, true, false, List, [], ◌∷◌, map, length, Option, Some, None, sym, refl, ap, ◌∙◌, subst}
+use Rattle.std.proofs.Common.{◌≡◌, ◌≢◌, ℕ, ◌<◌, inl, inr, ⊎_elim, Bool, true, false, List, [], ◌∷◌, map, Option, Some, None, sym, refl, ap, ◌∙◌, subst}
 use mathlib.Core.Option.{some, some-injective}
 use lib.ListN.{get_elem?}
-use Rattle.atomic_table.specs.Table.{State, Final, Seen}
+use Rattle.atomic_table.specs.Table.{Final, Seen}
 use Rattle.turn_cell.specs.declared.entry.Entry.{Entry}
 use Rattle.turn_cell.specs.declared.board.Core.{Core}
 use Rattle.turn_cell.specs.declared.board.Known.{Known}
@@ -10,10 +10,9 @@ use Rattle.turn_cell.specs.declared.board.Terms.{Terms}
 use Rattle.turn_cell.specs.declared.board.Gone.{Gone}
 use Rattle.turn_cell.specs.History.{of}
 use Rattle.turn_cell.specs.Numbers.{Each, Made, first, next, Has, IsWhole}
-use Rattle.turn_cell.specs.Rule.{IsGone, Kept}
-use Rattle.turn_cell.specs.Good.{Good}
+use Rattle.turn_cell.specs.Rule.{IsGone}
 use Rattle.turn_cell.specs.Whole.{numbers, Ends}
-use Rattle.turn_cell.proofs.Keeps.{Some-injective, true-ne-false, each_map, Rule}
+use Rattle.turn_cell.proofs.Keeps.{true-ne-false, each_map, Rule}
 use Rattle.turn_cell.proofs.Parts.{none_of}
 
 find_in : {P : ℕ × ℕ → Type 0} (n : ℕ) (ps : List (ℕ × ℕ)) → Has n ps → Each P ps → (p : ℕ × ℕ) × (p.0 ≡ n) × P p

@@ -1,19 +1,19 @@
 -- A load that takes in what was told keeps the rule.
-use Rattle.std.proofs.Common.{◌≡◌, ◌≢◌, ℕ, ◌+◌, ◌<◌, ◌≤◌, Bool, true, false, List, [], ◌∷◌, ◌++◌, length, get_or, set, Option, Some, None, sym, refl, ap, ◌∙◌, subst, arith, length-append}
+use Rattle.std.proofs.Common.{◌≡◌, ◌≢◌, ℕ, ◌≤◌, Bool, false, List, [], length, set, Option, Some, sym, refl, ap, ◌∙◌, subst, arith, length-append}
 use mathlib.Core.Option.{some, some-injective}
 use lib.ListN.{get_elem?}
 use lib.Seq.{set-get_or}
-use Rattle.atomic_table.specs.Table.{State, Me, step, keeps, Allows}
+use Rattle.atomic_table.specs.Table.{Me, step, keeps, Allows}
 use Rattle.atomic_table.proofs.Lists.{set_else}
 use Rattle.turn_cell.specs.declared.entry.Entry.{Entry}
 use Rattle.turn_cell.specs.declared.board.Known.{Known}
 use Rattle.turn_cell.specs.declared.board.Terms.{Terms}
-use Rattle.turn_cell.specs.History.{of, StartsWith, Legal, FitFrom}
+use Rattle.turn_cell.specs.History.{of, StartsWith}
 use Rattle.turn_cell.specs.Views.{longer, hearing}
 use Rattle.turn_cell.specs.Steps.{heard}
-use Rattle.turn_cell.specs.Rule.{Knows, Kept}
+use Rattle.turn_cell.specs.Rule.{Knows}
 use Rattle.turn_cell.specs.Good.{Good}
-use Rattle.turn_cell.proofs.Keeps.{Some-injective, true-ne-false, S, V, Rule, views_stay, apart_stays, gone_stays}
+use Rattle.turn_cell.proofs.Keeps.{Some-injective, true-ne-false, Rule, views_stay, apart_stays, gone_stays}
 use Rattle.turn_cell.proofs.Joins.{longer_starts}
 use Rattle.turn_cell.proofs.Begins.{longer_begins, of_begins, Legal_begins, Fit_begins}
 

@@ -1,9 +1,7 @@
 -- A seat that takes in another, or a note of what another has seen, keeps the rule.
-use Rattle.std.proofs.Common.{◌≡◌, ◌≢◌, ℕ, zero, suc, ◌+◌, ◌<◌, ◌≤◌, ◌⊎◌, inl, inr, ⊎_elim, Bool, true, false, if◌then◌else◌, List, [], ◌∷◌, ◌++◌, length, set, Option, Some, None, sym, refl, ap, ◌∙◌, subst, arith}
+use Rattle.std.proofs.Common.{◌≡◌, ◌≢◌, ℕ, ◌⊎◌, inl, inr, ⊎_elim, Bool, true, false, if◌then◌else◌, List, ◌++◌, length, set, Option, Some, sym, refl, ap, ◌∙◌, subst}
 use Rattle.std.specs.Prelude.{nat_le}
-use mathlib.Core.Logic.{dite}
-use mathlib.Core.Option.{some, some-injective, some-ne-none}
-use native.Mathlib.Decide.{ℕ_discrete}
+use mathlib.Core.Option.{some, some-injective}
 use lib.ListN.{get_elem?}
 use Rattle.atomic_table.specs.Table.{State, Joins}
 use Rattle.atomic_table.proofs.Lists.{at_set, set_else}
@@ -11,11 +9,11 @@ use Rattle.turn_cell.specs.declared.entry.Entry.{Entry}
 use Rattle.turn_cell.specs.declared.board.Known.{Known}
 use Rattle.turn_cell.specs.declared.board.Terms.{Terms}
 use Rattle.turn_cell.specs.declared.board.Gone.{Gone}
-use Rattle.turn_cell.specs.History.{of, StartsWith}
-use Rattle.turn_cell.specs.Numbers.{Each, Made}
+use Rattle.turn_cell.specs.History.{StartsWith}
+use Rattle.turn_cell.specs.Numbers.{Each}
 use Rattle.turn_cell.specs.Views.{longer, gone_of, joined, telling, spent}
-use Rattle.turn_cell.specs.Rule.{IsGone, IsNumbered, Knows, Kept}
-use Rattle.turn_cell.proofs.Keeps.{Some-injective, true-ne-false, each_append, set_there, Rule, views_stay}
+use Rattle.turn_cell.specs.Rule.{IsGone, Knows}
+use Rattle.turn_cell.proofs.Keeps.{true-ne-false, each_append, Rule, views_stay}
 use Rattle.turn_cell.proofs.Parts.{None-ne-Some}
 
 module _ {O C R : Type 0} where

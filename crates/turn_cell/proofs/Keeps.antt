@@ -13,11 +13,11 @@ use Rattle.turn_cell.specs.declared.board.Core.{Core}
 use Rattle.turn_cell.specs.declared.board.Known.{Known}
 use Rattle.turn_cell.specs.declared.board.Terms.{Terms}
 use Rattle.turn_cell.specs.declared.board.Gone.{Gone}
-use Rattle.turn_cell.specs.Numbers.{Each, Made, first, next}
+use Rattle.turn_cell.specs.Numbers.{Each, Made}
 use Rattle.turn_cell.specs.History.{of, StartsWith}
 use Rattle.turn_cell.specs.Views.{looking, resting, after, own}
 use Rattle.turn_cell.specs.Steps.{released, taken, MayGo}
-use Rattle.turn_cell.specs.Rule.{IsGone, IsNumbered, Knows, Kept}
+use Rattle.turn_cell.specs.Rule.{IsGone, Knows, Kept}
 use Rattle.turn_cell.specs.Good.{Fresh, Good}
 
 -- an even word says that the turn is free

@@ -1,5 +1,5 @@
 -- A new table meets the rule.
-use Rattle.std.proofs.Common.{◌≡◌, ◌≢◌, ℕ, zero, suc, Bool, true, false, List, [], ◌∷◌, length, Option, Some, None, sym, refl, ap, ◌∙◌, subst, arith}
+use Rattle.std.proofs.Common.{◌≡◌, ◌≢◌, ℕ, zero, suc, Bool, true, false, List, [], ◌∷◌, Option, Some, sym, refl, ◌∙◌, subst, arith}
 use mathlib.Core.Option.{some, some-injective, some-ne-none}
 use lib.ListN.{get_elem?}
 use Rattle.atomic_table.specs.Table.{opening, Me}
@@ -7,7 +7,7 @@ use Rattle.turn_cell.specs.declared.entry.Entry.{Entry}
 use Rattle.turn_cell.specs.declared.board.Core.{Core}
 use Rattle.turn_cell.specs.declared.board.Known.{Known}
 use Rattle.turn_cell.specs.declared.board.Terms.{Terms}
-use Rattle.turn_cell.specs.Numbers.{Each, Made, first, next}
+use Rattle.turn_cell.specs.Numbers.{Each, Made, first}
 use Rattle.turn_cell.specs.Views.{starting}
 use Rattle.turn_cell.specs.Rule.{Kept, Knows}
 use Rattle.turn_cell.specs.Tries.{IsSeated}

@@ -1,10 +1,10 @@
 -- A seat that is split from another keeps the rule.
-use Rattle.std.proofs.Common.{◌≡◌, ◌≢◌, ℕ, zero, suc, ◌+◌, ◌<◌, ◌≤◌, ◌==◌, eqb, ◌⊎◌, inl, inr, ⊎_elim, Bool, true, false, if◌then◌else◌, List, [], ◌∷◌, ◌++◌, length, set, Option, Some, None, sym, refl, ap, ◌∙◌, subst, arith, eq-eqb, ne_eqb}
+use Rattle.std.proofs.Common.{◌≡◌, ◌≢◌, ℕ, zero, suc, ◌+◌, ◌≤◌, eqb, ◌⊎◌, inl, inr, ⊎_elim, Bool, true, false, if◌then◌else◌, List, [], ◌∷◌, ◌++◌, length, set, Option, Some, None, sym, refl, ap, ◌∙◌, subst, arith, eq-eqb, ne_eqb}
 use mathlib.Core.Logic.{dite}
 use mathlib.Core.Option.{some, some-injective, some-ne-none}
 use native.Mathlib.Decide.{ℕ_discrete}
 use lib.ListN.{get_elem?}
-use Rattle.atomic_table.specs.Table.{State, Splits}
+use Rattle.atomic_table.specs.Table.{Splits}
 use Rattle.atomic_table.proofs.Lists.{at_longer, set_else, set_again}
 use Rattle.turn_cell.specs.declared.entry.Entry.{Entry}
 use Rattle.turn_cell.specs.declared.board.Known.{Known}
@@ -13,8 +13,8 @@ use Rattle.turn_cell.specs.declared.board.Gone.{Gone}
 use Rattle.turn_cell.specs.History.{of}
 use Rattle.turn_cell.specs.Numbers.{Each, Made, first, next, Injects, NotFirst}
 use Rattle.turn_cell.specs.Views.{heir_in, parted, child, note}
-use Rattle.turn_cell.specs.Rule.{IsGone, IsNumbered, Knows, Kept}
-use Rattle.turn_cell.proofs.Keeps.{Some-injective, true-ne-false, each_map, each_both, each_append, set_there, Rule, Apart, AllGone, views_stay, back, apart_stays, gone_stays}
+use Rattle.turn_cell.specs.Rule.{IsGone, IsNumbered, Knows}
+use Rattle.turn_cell.proofs.Keeps.{Some-injective, true-ne-false, each_map, each_both, set_there, Rule, views_stay, back, apart_stays, gone_stays}
 
 at_snoc_at : {A : Type 0} (l : List A) (a b : A) (j : ℕ) → get_elem? (l ++ a ∷ []) j ≡ some b → (get_elem? l j ≡ some b) ⊎ ((j ≡ length l) × (a ≡ b))
 at_snoc_at [] a b zero e = inr (refl, some-injective a b e)

@@ -1,5 +1,5 @@
 -- What a history is after one more call, and what a try of a call leaves.
-use Rattle.std.proofs.Common.{◌≡◌, ◌≢◌, ℕ, ◌+◌, ◌*◌, ◌<◌, ◌≤◌, ◌==◌, eqb, Bool, true, false, if◌then◌else◌, List, [], ◌∷◌, ◌++◌, length, Option, Some, sym, refl, ap, ◌∙◌, subst, arith, eq-eqb, ne_eqb, append-nil, append_assoc, length-append}
+use Rattle.std.proofs.Common.{◌≡◌, ℕ, ◌+◌, ◌<◌, ◌≤◌, ◌==◌, Bool, true, false, if◌then◌else◌, List, [], ◌∷◌, ◌++◌, length, sym, refl, ap, ◌∙◌, subst, arith, eq-eqb, append-nil, append_assoc, length-append}
 use Rattle.turn_cell.specs.declared.entry.Entry.{Entry}
 use Rattle.turn_cell.specs.declared.board.Core.{Core}
 use Rattle.turn_cell.specs.declared.board.Known.{Known}

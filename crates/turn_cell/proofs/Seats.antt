@@ -1,5 +1,5 @@
 -- From what the table's seat knows to what contracts see of a seat.
-use Rattle.std.proofs.Common.{◌≡◌, ℕ, Bool, List, [], ◌∷◌, ◌++◌, length, Option, Some, sym, refl, ap, ◌∙◌, subst, append-nil, append_assoc}
+use Rattle.std.proofs.Common.{◌≡◌, ℕ, Bool, List, [], ◌∷◌, ◌++◌, Option, Some, sym, refl, ◌∙◌, append_assoc}
 use Rattle.atomic_table.specs.Seated.{TableId}
 use Rattle.atomic_table.specs.Table.{Me}
 use Rattle.turn_cell.specs.declared.entry.Entry.{Entry}
@@ -8,12 +8,10 @@ use Rattle.turn_cell.specs.declared.board.Known.{Known}
 use Rattle.turn_cell.specs.declared.board.Terms.{Terms}
 use Rattle.turn_cell.specs.declared.tried.Tried.{Tried}
 use Rattle.turn_cell.specs.declared.tried.Tried.TheVariants.{Replied, Worn, NotYet}
-use Rattle.turn_cell.specs.History.{of, StartsWith}
 use Rattle.turn_cell.specs.Seats.{CellView, SeatView}
-use Rattle.turn_cell.specs.Calls.{IsOf, IsLater, IsGood, Looks, Calls, WornOut, TriesOn}
-use Rattle.turn_cell.specs.Good.{Good, entry}
+use Rattle.turn_cell.specs.Calls.{Looks, TriesOn}
+use Rattle.turn_cell.specs.Good.{entry}
 use Rattle.turn_cell.specs.Tries.{Sits, Looked, Tries, Stays, IsSeated}
-use Rattle.turn_cell.proofs.Keeps.{StartsWith-trans}
 
 module _ {O C R : Type 0} where
   abbrev pub seat_view : TableId → ℕ → ℕ → Known O C R → SeatView O C R

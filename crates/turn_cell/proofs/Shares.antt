@@ -1,17 +1,16 @@
 -- What seats are after a split, a join and a meeting.
-use Rattle.std.proofs.Common.{◌≡◌, ℕ, ◌+◌, ◌≤◌, Bool, true, false, List, [], ◌∷◌, ◌++◌, length, Option, Some, None, sym, refl, ap, ◌∙◌, subst, arith, le_refl}
-use Rattle.std.specs.Prelude.{nat_le, if◌then◌else◌}
+use Rattle.std.proofs.Common.{◌≡◌, ℕ, ◌+◌, ◌≤◌, Bool, false, List, [], length, Option, Some, sym, ap, ◌∙◌, subst, arith}
+use Rattle.std.specs.Prelude.{if◌then◌else◌}
 use Rattle.std.proofs.Math.Dec.{leb-zero}
 use Rattle.atomic_table.specs.Table.{Me, step}
 use Rattle.turn_cell.specs.declared.entry.Entry.{Entry}
 use Rattle.turn_cell.specs.declared.board.Core.{Core}
 use Rattle.turn_cell.specs.declared.board.Known.{Known}
 use Rattle.turn_cell.specs.declared.board.Terms.{Terms}
-use Rattle.turn_cell.specs.History.{of, StartsWith}
-use Rattle.turn_cell.specs.Views.{heir_in, longer, parted, child, joined, note, telling, hearing}
+use Rattle.turn_cell.specs.History.{of}
+use Rattle.turn_cell.specs.Views.{heir_in, longer, parted, child, joined, telling}
 use Rattle.turn_cell.specs.Steps.{heard}
-use Rattle.turn_cell.specs.Good.{Good}
-use Rattle.turn_cell.specs.Tries.{Sits, IsSeated}
+use Rattle.turn_cell.specs.Tries.{IsSeated}
 
 module _ {O C R : Type 0} where
   pub longer_none : (a : List (Entry O C R)) → longer a [] ≡ a

@@ -1,10 +1,10 @@
 -- The numbers of a register's seats, as tests split and join them.
-use Rattle.std.proofs.Common.{◌≡◌, ℕ, zero, suc, ◌+◌, ◌<◌, ◌&&◌, Bool, true, List, [], ◌∷◌, ◌++◌, map, Option, Some, None, sym, ap, ap₂, refl, subst, ◌∙◌, arith, inl, inr}
+use Rattle.std.proofs.Common.{◌≡◌, ℕ, zero, suc, ◌+◌, ◌<◌, ◌&&◌, Bool, List, [], ◌∷◌, ◌++◌, map, Option, Some, None, sym, ap, ap₂, refl, subst, ◌∙◌, arith, inl, inr}
 use Rattle.std.specs.Prelude.{if◌then◌else◌, nat_lt}
 use Rattle.std.proofs.lemmas.Bool.{le-leb, eq-eqb}
 use Rattle.std.proofs.Math.Dec.{eqb}
 use Rattle.turn_cell.specs.declared.board.Gone.{Gone}
-use Rattle.turn_cell.specs.Numbers.{Each, Has, IsWhole}
+use Rattle.turn_cell.specs.Numbers.{Has, IsWhole}
 use Rattle.turn_cell.specs.Register.{heir}
 use Rattle.turn_cell.specs.RegisterHeirs.{tells}
 use Rattle.turn_cell.specs.Team.{team}

@@ -1,7 +1,6 @@
 -- What a call of a turn cell does to the caller's seat.
 use Rattle.std.specs.Prelude.{◌≡◌, ℕ, Bool, List, [], ◌∷◌, ◌++◌, length, ◌+◌, Option, Some}
 use Rattle.turn_cell.specs.declared.entry.Entry.{Entry}
-use Rattle.turn_cell.specs.declared.board.Terms.{Terms}
 use Rattle.turn_cell.specs.declared.board.Gone.{Gone}
 use Rattle.turn_cell.specs.declared.tried.Tried.{Tried}
 use Rattle.turn_cell.specs.declared.tried.Tried.TheVariants.{Replied, Worn, NotYet}

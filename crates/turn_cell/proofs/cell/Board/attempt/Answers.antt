@@ -1,7 +1,7 @@
-use Rattle.std.proofs.Common.{rules, sym, ap, subst, refl, ◌∙◌, ◌≡◌, ℕ, [], ◌∷◌, true, Some, None}
+use Rattle.std.proofs.Common.{sym, ap, subst, ◌∙◌}
 use Rattle.turn_cell.specs.Steps.{MayGo}
 use Rattle.turn_cell.specs.Tries.{Tries}
-use Rattle.turn_cell.specs.Views.{resting, looking}
+use Rattle.turn_cell.specs.Views.{resting}
 use Rattle.turn_cell.proofs.Runs.{goes, tells, sound_here}
 use Rattle.turn_cell.proofs.cell.Board.attempt.Goals as goal
 

@@ -1,4 +1,4 @@
-use Rattle.std.proofs.Common.{sym, ap, subst, ◌∙◌, ◌≡◌, ℕ, ◌∷◌, Option, Some, None}
+use Rattle.std.proofs.Common.{sym, subst, ◌∙◌, ◌≡◌, ℕ}
 use mathlib.Core.Option.{some-injective}
 use Rattle.turn_cell.specs.Numbers.{IsWhole}
 use Rattle.turn_cell.specs.Whole.{numbers, Ends}

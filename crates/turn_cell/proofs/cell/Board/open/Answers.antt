@@ -1,4 +1,4 @@
-use Rattle.std.proofs.Common.{rules, sym, ap, subst, refl, ◌∙◌, ◌≡◌, ℕ, [], ◌∷◌, List, Option, Some}
+use Rattle.std.proofs.Common.{sym, subst, refl, ◌∙◌, [], ◌∷◌, List, Option}
 use Rattle.atomic_table.specs.Table.{opening}
 use Rattle.turn_cell.specs.declared.board.Core.{Core}
 use Rattle.turn_cell.specs.declared.board.Terms.{Terms}

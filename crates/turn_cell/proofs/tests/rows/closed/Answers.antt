@@ -1,4 +1,4 @@
-use Rattle.std.proofs.Common.{sym, subst, ℕ, List}
+use Rattle.std.proofs.Common.{sym, subst}
 use Rattle.turn_cell.specs.Numbers.{IsWhole}
 use Rattle.turn_cell.specs.Register.{heir}
 use Rattle.turn_cell.proofs.Team.{two}

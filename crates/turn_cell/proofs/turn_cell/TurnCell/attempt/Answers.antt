@@ -1,4 +1,4 @@
-use Rattle.std.proofs.Common.{rules, sym, ap, subst, refl, ◌∙◌, ◌≡◌, ℕ, Some}
+use Rattle.std.proofs.Common.{sym, ap, subst, ◌∙◌, ◌≡◌, Some}
 use Rattle.turn_cell.specs.Calls.{TriesOn}
 use Rattle.turn_cell.specs.Seats.{CellView, SeatView}
 use Rattle.turn_cell.proofs.Seats.{seated_after, tries_on, seat_view}

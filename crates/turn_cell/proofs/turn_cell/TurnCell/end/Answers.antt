@@ -1,4 +1,4 @@
-use Rattle.std.proofs.Common.{sym, ap, subst, ◌∙◌, ◌≡◌, ℕ}
+use Rattle.std.proofs.Common.{ap, subst, ◌∙◌, ℕ}
 use Rattle.turn_cell.specs.History.{replay}
 use Rattle.turn_cell.specs.Seats.{CellView, SeatView}
 use Rattle.turn_cell.specs.Whole.{IsWholeOf}
