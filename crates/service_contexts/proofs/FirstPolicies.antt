@@ -75,3 +75,9 @@ found_all kind count i start c found all so_far =
 
 pub no_bytes : (found : Option (Bor (List ℕ))) → found ≡ None → option_map (λ x. x.now) found ≡ None
 no_bytes found none = ap (λ (o : Option (Bor (List ℕ))). option_map (λ (x : Bor (List ℕ)). x.now) o) none
+
+pub policy_found : (c d : Cursor) (x : Item) → item_at c ≡ Ok (x, d) → policy_at c ≡ Ok (tagged_of x, d)
+policy_found c d x is = rw is refl
+
+pub policy_bad : (c : Cursor) (e : CdrFault) → item_at c ≡ Err e → policy_at c ≡ Err e
+policy_bad c e is = rw is refl

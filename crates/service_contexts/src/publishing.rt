@@ -40,8 +40,10 @@ fn find_policy<'a>(wanted: u32, count: u32, reader: &mut Reader<'a>) -> Option<&
 {
     let mut found = None;
     for _ in 0..count {
-        let (kind, value) = reader.take_item().ok()?;
-        found = first_value(found, wanted, kind, value);
+        match reader.take_item() {
+            Ok((kind, value)) => found = first_value(found, wanted, kind, value),
+            Err(_) => return None,
+        }
     }
     found
 }
