@@ -1,21 +1,13 @@
 //! Scans over what the lane machine holds.
-ghost use Rattle.std.specs.Prelude.{◌≡◌, ◌<◌, length, position, find, count_by, option_map, IfSome};
+ghost use Rattle.std.specs.Prelude.{◌≡◌, ◌==◌, position, find, count_by, option_map};
 ghost use Rattle.std.specs.List.{list_any};
-ghost use Rattle.lane_machine.specs.Choice.{chosen_thread, greatest, can_start, rank};
-ghost use Rattle.lane_machine.specs.Machine.{same_conn, item_conn};
-ghost use Rattle.lane_machine.specs.Readiness.{works_for};
+ghost use Rattle.orb_base.specs.Conn.{same_conn};
 ghost use Rattle.orb_base.specs.Outcomes.{body_len};
+ghost use Rattle.lane_machine.specs.Machine.{item_conn};
+ghost use Rattle.lane_machine.specs.Readiness.{all_below};
 
 use crate::call::How;
-use crate::thread::LaneThread;
 use orb_base::{ConnId, Due, Item, Job, Outcome};
-
-/// Whether two names are of one connection.
-pub fn is_same(a: ConnId, b: ConnId) -> bool
-    ensures { result ≡ same_conn a b }
-{
-    a.slot == b.slot && a.nth == b.nth
-}
 
 /// The connection that an item is for.
 pub fn conn_of(item: &Item) -> ConnId
@@ -72,7 +64,7 @@ pub fn body_len(outcome: &Outcome) -> usize
 pub fn first_item(items: &[Item], conn: ConnId) -> Option<usize>
     ensures { result ≡ position (λ i. same_conn (item_conn i) conn) items.now }
 {
-    items.iter().position(|item| is_same(conn_of(item), conn))
+    items.iter().position(|item| conn_of(item).is_same(conn))
 }
 
 /// How a connection ended.
@@ -81,7 +73,7 @@ pub fn how_ended(ended: &[(ConnId, How)], conn: ConnId) -> Option<How>
 {
     ended
         .iter()
-        .find(|end| is_same(end.0, conn))
+        .find(|end| end.0.is_same(conn))
         .map(|end| end.1)
 }
 
@@ -89,7 +81,7 @@ pub fn how_ended(ended: &[(ConnId, How)], conn: ConnId) -> Option<How>
 pub fn is_among(conns: &[ConnId], conn: ConnId) -> bool
     ensures { result ≡ list_any (λ c. same_conn c conn) conns.now }
 {
-    conns.iter().any(|c| is_same(*c, conn))
+    conns.iter().any(|c| c.is_same(conn))
 }
 
 /// How many items the connection has.
@@ -98,40 +90,26 @@ pub fn count_items(items: &[Item], conn: ConnId) -> usize
 {
     items
         .iter()
-        .filter(|item| is_same(conn_of(item), conn))
+        .filter(|item| conn_of(item).is_same(conn))
         .count()
 }
 
-/// How many threads have a request of the connection.
-pub fn count_workers(threads: &[LaneThread], conn: ConnId) -> usize
-    ensures { result ≡ count_by (λ thread. works_for conn thread.doing) threads.now }
+/// Whether the slot is one of these.
+pub fn has_left(left: &[u8], slot: u8) -> bool
+    ensures { result ≡ list_any (λ l. l == slot) left.now }
 {
-    threads
-        .iter()
-        .filter(|thread| thread.works_for(conn))
-        .count()
+    left.iter().any(|l| *l == slot)
 }
 
-/// The number of the thread that is given a request of this lane. Two passes over the threads.
-#[tactic(auto, unfolding(crate::specs::Choice::chosen_thread))]
-pub fn choose(threads: &[LaneThread], borrowing: bool, lane: u8) -> Option<usize>
-    ensures chosen { result ≡ chosen_thread borrowing lane threads.now }
-    ensures there { IfSome result (λ at. at < length threads.now) }
+/// Whether each slot below this number is one of these.
+#[tactic(auto, using(crate::proofs::Slots::none_below, crate::proofs::Slots::one_more, crate::proofs::Slots::one_stays))]
+pub fn all_left(left: &[u8], slots: u8) -> bool
+    ensures { result ≡ all_below (λ slot. list_any (λ l. l == slot) left.now) slots }
 {
-    let best = greatest_rank(threads, borrowing, lane);
-    threads.iter().position(|thread| thread.can_start(borrowing, lane) && thread.rank() == best)
-}
-
-/// The greatest rank of those that can be given a request of this lane.
-#[tactic(auto, using(crate::proofs::Ranks::best_start, crate::proofs::Ranks::best_taken, crate::proofs::Ranks::best_passed, crate::proofs::Ranks::best_end))]
-fn greatest_rank(threads: &[LaneThread], borrowing: bool, lane: u8) -> u16
-    ensures { result ≡ greatest (can_start borrowing lane) rank threads.now }
-{
-    let mut best = 0;
-    for thread in threads {
-        if thread.can_start(borrowing, lane) {
-            best = best.max(thread.rank());
+    for slot in 0..slots {
+        if !has_left(left, slot) {
+            return false;
         }
     }
-    best
+    true
 }

@@ -14,12 +14,13 @@ use Rattle.lane_machine.specs.declared.call.LaneCall.{LaneCall}
 use Rattle.lane_machine.specs.declared.call.LaneCall.TheVariants.{Offer, Take, Finish, Collect}
 use Rattle.lane_machine.specs.declared.call.LaneReply.{LaneReply}
 use Rattle.lane_machine.specs.declared.call.LaneReply.TheVariants as reply
-use Rattle.lane_machine.specs.declared.doing.Doing.TheVariants.{Free, Given}
+use Rattle.thread_borrowing.specs.declared.doing.Doing.TheVariants.{Free, Given}
 use Rattle.lane_machine.specs.State.{State}
-use Rattle.lane_machine.specs.Choice.{chosen_thread, next_job}
+use Rattle.thread_borrowing.specs.Choice.{chosen_thread}
+use Rattle.request_buffer.specs.Next.{next_job}
 use Rattle.lane_machine.specs.Machine.{step, is_over, offered}
 use Rattle.lane_machine.specs.Readiness.{owed}
-use Rattle.lane_machine.specs.History.{Entry}
+use Rattle.turn_cell.specs.declared.entry.Entry.{Entry}
 use Rattle.lane_machine.specs.Histories.{History, replay, IsLegal}
 use Rattle.orb_command.specs.Setup.{built_in, pipe_conn, interface_of}
 use Rattle.orb_command.specs.Said.{call_bytes, said, item_bytes}
@@ -36,7 +37,7 @@ eqb-same n = elim (eqb_tells n n) [ inl same ↦ same.0 | inr other ↦ absurd (
 abbrev pub at : State → History → Run
 at s h = record { state = s; history = h }
 
-abbrev entry : LaneCall → LaneReply → Entry LaneCall LaneReply
+abbrev entry : LaneCall → LaneReply → Entry State LaneCall LaneReply
 entry call answer = record { caller = 0; call = call; reply = answer }
 
 abbrev pub idle : ℕ → ℕ → State
@@ -65,7 +66,7 @@ offer_runs c b serial size id order over = ap (λ (x : Bool). offered (idle c b)
 pub offer_closes : (c b : ℕ) (job : JobRecord) → is_over (idle c b) job.size ≡ true → step (idle c b) (Offer job) ≡ (shut c b, reply.Closing)
 offer_closes c b job over = ap (λ (x : Bool). offered (idle c b) job x) over
 
-four : (h : History) (e f g k : Entry LaneCall LaneReply) → (((h ++ e ∷ []) ++ f ∷ []) ++ g ∷ []) ++ k ∷ [] ≡ h ++ e ∷ f ∷ g ∷ k ∷ []
+four : (h : History) (e f g k : Entry State LaneCall LaneReply) → (((h ++ e ∷ []) ++ f ∷ []) ++ g ∷ []) ++ k ∷ [] ≡ h ++ e ∷ f ∷ g ∷ k ∷ []
 four h e f g k = simp append_assoc
 
 -- a given job is taken, finished and collected
@@ -250,7 +251,7 @@ runs_grouped outcome n (job ∷ jobs) c b s bytes (ping, numbered, pings) (inr (
 -- the history of jobs, cut before the collect of the answer to one of them
 pub record CutAt (history : History) (so_far reply : List ℕ) : Type 0 where
   pub before : History
-  pub last : Entry LaneCall LaneReply
+  pub last : Entry State LaneCall LaneReply
   pub later : History
   pub parts : history ≡ before ++ last ∷ later
   pub says : said pipe_conn before ≡ so_far

@@ -22,11 +22,11 @@ use Rattle.lane_machine.specs.declared.call.LaneCall.{LaneCall}
 use Rattle.lane_machine.specs.declared.call.LaneCall.TheVariants.{Collect, End}
 use Rattle.lane_machine.specs.declared.call.LaneReply.{LaneReply}
 use Rattle.lane_machine.specs.declared.call.LaneReply.TheVariants as reply
-use Rattle.lane_machine.specs.declared.doing.Doing.TheVariants.{Free}
+use Rattle.thread_borrowing.specs.declared.doing.Doing.TheVariants.{Free}
 use Rattle.lane_machine.specs.State.{State}
 use Rattle.lane_machine.specs.Machine.{step, is_over}
 use Rattle.lane_machine.specs.Readiness.{owed}
-use Rattle.lane_machine.specs.History.{Entry}
+use Rattle.turn_cell.specs.declared.entry.Entry.{Entry}
 use Rattle.lane_machine.specs.Histories.{History, replay, IsLegal}
 use Rattle.orb_command.specs.declared.course.Course.{Course}
 use Rattle.orb_command.specs.declared.course.Course.TheVariants.{Whole, Closing, Stopped}
@@ -53,7 +53,7 @@ use Rattle.orb_command.proofs.PipeRuns.{at, idle, Grouped, CutAt, GroupedTo, run
 
 -- ---- the end of the connection
 
-abbrev entry : LaneCall → LaneReply → Entry LaneCall LaneReply
+abbrev entry : LaneCall → LaneReply → Entry State LaneCall LaneReply
 entry call answer = record { caller = 0; call = call; reply = answer }
 
 abbrev settled : ℕ → ℕ → Bool → State
@@ -107,7 +107,7 @@ or-false : (a : Bool) → (a || false) ≡ a
 or-false true = refl
 or-false false = refl
 
-any_both : (test : Entry LaneCall LaneReply → Bool) (h k : History) → list_any test (h ++ k) ≡ (list_any test h || list_any test k)
+any_both : (test : Entry State LaneCall LaneReply → Bool) (h k : History) → list_any test (h ++ k) ≡ (list_any test h || list_any test k)
 any_both test [] k = refl
 any_both test (e ∷ h) k = ap (λ (x : Bool). test e || x) (any_both test h k) ∙ sym (or-assoc (test e) (list_any test h) (list_any test k))
 
@@ -507,6 +507,13 @@ pub want_so : (E : Type 0) (outcome : List ℕ → JobRecord → Outcome) (jobs 
     → course ≡ Closing → AnswersAll {E = E} (Ok course) outcome jobs s out out' → WroteFront (IsRun outcome jobs) out out'
 want_so E outcome jobs course s out out' came answered =
     let a : AnswersAll {E = E} (Ok Closing) outcome jobs s out out' = subst (λ (x : Course). AnswersAll {E = E} (Ok x) outcome jobs s out out') came answered in
+    all_run outcome jobs s out out' a.0
+
+-- the same where no call was answered Closing
+pub want_ended : (E : Type 0) (outcome : List ℕ → JobRecord → Outcome) (jobs : List JobRecord) (course : Course) (s : State) (out out' : SinkState)
+    → course ≡ Whole → AnswersAll {E = E} (Ok course) outcome jobs s out out' → WroteFront (IsRun outcome jobs) out out'
+want_ended E outcome jobs course s out out' came answered =
+    let a : AnswersAll {E = E} (Ok Whole) outcome jobs s out out' = subst (λ (x : Course). AnswersAll {E = E} (Ok x) outcome jobs s out out') came answered in
     all_run outcome jobs s out out' a.0
 
 -- ---- the whole input

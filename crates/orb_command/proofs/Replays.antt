@@ -13,12 +13,13 @@ use Rattle.lane_machine.specs.declared.call.LaneReply.TheVariants as reply
 use Rattle.lane_machine.specs.State.{State, opening}
 use Rattle.lane_machine.specs.Machine.{step, item_place}
 use Rattle.lane_machine.specs.Readiness.{is_ready}
-use Rattle.lane_machine.specs.History.{Entry, replay_by}
+use Rattle.turn_cell.specs.declared.entry.Entry.{Entry}
+use Rattle.turn_cell.specs.History as history
 use Rattle.orb_command.specs.Setup.{Setup, pipe_conn}
 use Rattle.orb_command.specs.Piped.{Run, applied, first_given, finished_by, turned, rested_after, rested, in_hand, collected, emptied_after, settled, before_call, room_behind, behind_call, grouped, answer_of, piped, IsReplayed}
 
 -- one more entry is one more step
-replay-append : {O C R : Type 0} (one : O → C → O × R) (s : O) (h : List (Entry C R)) (e : Entry C R) → replay_by one s (h ++ e ∷ []) ≡ (one (replay_by one s h) e.call).0
+replay-append : {O C R : Type 0} (one : O → C → O × R) (s : O) (h : List (Entry O C R)) (e : Entry O C R) → history.replay one s (h ++ e ∷ []) ≡ (one (history.replay one s h) e.call).0
 replay-append one s [] e = refl
 replay-append one s (first ∷ h) e = replay-append one (one s first.call).0 h e
 
@@ -39,6 +40,9 @@ finished_keeps s servant run t reply.Close is = is
 finished_keeps s servant run t reply.Error is = is
 finished_keeps s servant run t reply.Done is = is
 finished_keeps s servant run t reply.Noted is = is
+finished_keeps s servant run t reply.Posted is = is
+finished_keeps s servant run t reply.Removed is = is
+finished_keeps s servant run t reply.Nothing is = is
 
 turned_keeps : (s : State) (servant : JobRecord → Outcome) (run : Run) (t : Option ℕ) → IsReplayed s run → IsReplayed s (turned servant run t)
 turned_keeps s servant run (Some t) is = finished_keeps s servant (applied run (Take t)) t (step run.state (Take t)).1 (applied_keeps s run (Take t) is)

@@ -4,7 +4,8 @@ use Rattle.cdr_core.specs.Field.{number_bytes}
 use Rattle.orb_base.specs.declared.order.Order.TheVariants.{Big}
 use Rattle.lane_machine.specs.declared.call.How.TheVariants.{Quiet}
 use Rattle.lane_machine.specs.declared.call.LaneCall.TheVariants.{Offer}
-use Rattle.lane_machine.specs.Choice.{chosen_thread, next_job}
+use Rattle.thread_borrowing.specs.Choice.{chosen_thread}
+use Rattle.request_buffer.specs.Next.{next_job}
 use Rattle.lane_machine.specs.Readiness.{owed}
 use Rattle.orb_command.specs.Setup.{built_in}
 use Rattle.orb_command.specs.Ping.{ping_outcome}

@@ -10,10 +10,10 @@ use Rattle.lane_machine.specs.declared.call.How.{How}
 use Rattle.lane_machine.specs.declared.call.LaneCall.TheVariants.{Offer, Take, Finish, Collect, End}
 use Rattle.lane_machine.specs.declared.call.LaneReply.{LaneReply}
 use Rattle.lane_machine.specs.declared.call.LaneReply.TheVariants as reply
-use Rattle.lane_machine.specs.declared.doing.Doing.{Doing}
-use Rattle.lane_machine.specs.declared.doing.Doing.TheVariants.{Free, Given, Busy}
+use Rattle.thread_borrowing.specs.declared.doing.Doing.{Doing}
+use Rattle.thread_borrowing.specs.declared.doing.Doing.TheVariants.{Free, Given, Busy}
 use Rattle.lane_machine.specs.State.{State}
-use Rattle.lane_machine.specs.Choice.{next_job}
+use Rattle.request_buffer.specs.Next.{next_job}
 use Rattle.lane_machine.specs.Machine.{step, is_over}
 use Rattle.lane_machine.specs.Readiness.{is_ready, IsSound, owed}
 use Rattle.orb_command.specs.Setup.{pipe_conn}

@@ -13,8 +13,8 @@ use Rattle.giop_messages.specs.Message.{close}
 use Rattle.giop_messages.specs.Spelling.{spelled}
 use Rattle.lane_machine.specs.declared.call.LaneCall.{LaneCall}
 use Rattle.lane_machine.specs.declared.call.LaneCall.TheVariants.{Offer}
-use Rattle.lane_machine.specs.declared.doing.Doing.{Doing}
-use Rattle.lane_machine.specs.declared.doing.Doing.TheVariants.{Free, Given}
+use Rattle.thread_borrowing.specs.declared.doing.Doing.{Doing}
+use Rattle.thread_borrowing.specs.declared.doing.Doing.TheVariants.{Free, Given}
 use Rattle.lane_machine.specs.State.{State, opening}
 use Rattle.lane_machine.specs.Machine.{is_over}
 use Rattle.orb_command.specs.declared.course.Course.{Course}

@@ -12,10 +12,10 @@ use Rattle.lane_machine.specs.declared.call.LaneCall.{LaneCall}
 use Rattle.lane_machine.specs.declared.call.LaneCall.TheVariants.{Take, Finish, Collect, End}
 use Rattle.lane_machine.specs.declared.call.LaneReply.{LaneReply}
 use Rattle.lane_machine.specs.declared.call.LaneReply.TheVariants as reply
-use Rattle.lane_machine.specs.declared.doing.Doing.{Doing}
-use Rattle.lane_machine.specs.declared.doing.Doing.TheVariants.{Free, Given, Busy}
+use Rattle.thread_borrowing.specs.declared.doing.Doing.{Doing}
+use Rattle.thread_borrowing.specs.declared.doing.Doing.TheVariants.{Free, Given, Busy}
 use Rattle.lane_machine.specs.State.{State, opening}
-use Rattle.lane_machine.specs.Choice.{is_free}
+use Rattle.thread_borrowing.specs.ThreadList.{is_free}
 use Rattle.lane_machine.specs.Machine.{step, item_place}
 use Rattle.lane_machine.specs.Readiness.{is_ready}
 use Rattle.lane_machine.specs.Histories.{History, replay}

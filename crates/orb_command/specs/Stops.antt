@@ -6,7 +6,8 @@ use Rattle.lane_machine.specs.declared.call.LaneCall.{LaneCall}
 use Rattle.lane_machine.specs.declared.call.LaneCall.TheVariants.{End}
 use Rattle.lane_machine.specs.declared.call.LaneReply.{LaneReply}
 use Rattle.lane_machine.specs.declared.call.LaneReply.TheVariants as reply
-use Rattle.lane_machine.specs.History.{Entry}
+use Rattle.turn_cell.specs.declared.entry.Entry.{Entry}
+use Rattle.lane_machine.specs.State.{State}
 use Rattle.lane_machine.specs.Histories.{History}
 use Rattle.orb_command.specs.Setup.{pipe_conn}
 use Rattle.orb_command.specs.Said.{call_bytes, said}
@@ -34,7 +35,7 @@ has_end h = list_any (λ e. is_end e.call) h
 -- call before it was answered Closing, or none was and no End was made
 pub record StopsAt (h : History) (closing : Bool) (out out' : SinkState) : Type 0 where
   pub before : History
-  pub last : Entry LaneCall LaneReply
+  pub last : Entry State LaneCall LaneReply
   pub later : History
   pub front : List ℕ
   pub rest : List ℕ

@@ -1,6 +1,6 @@
 //! The pipe: one connection, read from a source and answered to a sink.
 ghost use Rattle.std.specs.Prelude.{◌≡◌, ◌≤◌, length};
-ghost use Rattle.lane_machine.specs.declared.doing.Doing.TheVariants.{Free};
+ghost use Rattle.thread_borrowing.specs.declared.doing.Doing.TheVariants.{Free};
 ghost use Rattle.orb_command.specs.PingRun.{opened, ping_interface, Does, IsPingJob, ArePingJobs, IsRun, AnswersOne, AnswersAll, CutRun, SaysFarewell};
 ghost use Rattle.orb_command.specs.Pipe.{Serves, Replies, Pipes};
 

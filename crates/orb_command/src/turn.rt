@@ -2,7 +2,7 @@
 ghost use Rattle.std.specs.Prelude.{◌≡◌, ◌≤◌, ◌+◌, true, None, OnOk, IfOk};
 ghost use Rattle.orb_base.specs.Outcomes.{body_len};
 ghost use Rattle.lane_machine.specs.declared.call.LaneCall.TheVariants.{End, Collect};
-ghost use Rattle.lane_machine.specs.declared.doing.Doing.TheVariants.{Free, Given, Busy};
+ghost use Rattle.thread_borrowing.specs.declared.doing.Doing.TheVariants.{Free, Given, Busy};
 ghost use Rattle.lane_machine.specs.Machine.{step};
 ghost use Rattle.lane_machine.specs.Readiness.{is_ready, IsSound};
 ghost use Rattle.orb_command.specs.Setup.{pipe_conn};

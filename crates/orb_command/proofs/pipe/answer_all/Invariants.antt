@@ -1,5 +1,5 @@
 use Rattle.std.proofs.Common.{◌≡◌, drop}
-use Rattle.lane_machine.specs.declared.doing.Doing.TheVariants.{Free}
+use Rattle.thread_borrowing.specs.declared.doing.Doing.TheVariants.{Free}
 use Rattle.orb_command.specs.PingRun.{ArePingJobs, Does, Underway}
 use Rattle.orb_command.proofs.pipe.answer_all.Given as goal
 
