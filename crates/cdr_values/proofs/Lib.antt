@@ -1,0 +1,9 @@
+pub mod Choosing
+pub mod Places
+pub mod Labels
+pub mod Loops
+pub mod Members
+pub mod HasFields
+pub mod Taking
+pub mod Decoded
+pub mod OneMember

@@ -1,0 +1,22 @@
+//! Types and values of IDL, and their spelling by the Common Data Representation: CORBA 3.0.3, section 15.3.
+//!
+//! What a value of a type is spelled as stands once, in `specs/Spelling.antt`, as the fields of `cdr_core`; reading,
+//! writing and fitting are exact against it.
+#![tactic(auto)]
+
+mod choice;
+mod copying;
+mod decoding;
+mod fault;
+mod kind;
+mod number;
+mod value;
+
+pub use copying::{copy_members, copy_type, copy_value};
+pub use decoding::decode;
+pub use fault::DecodeFault;
+pub use kind::{Case, IdlType, Member};
+pub use value::IdlValue;
+
+#[cfg(test)]
+mod tests;
