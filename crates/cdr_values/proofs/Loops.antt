@@ -7,7 +7,8 @@ use Rattle.cdr_values.specs.declared.fault.DecodeFault.TheVariants.{Cdr, NoMemor
 use Rattle.cdr_values.specs.declared.kind.Member.{Member}
 use Rattle.cdr_values.specs.declared.kind.IdlType.TheFolds.{fold_out-Member}
 use Rattle.cdr_values.specs.Trees.{Value, Kind, Branch, members_of}
-use Rattle.cdr_core.specs.Cursor.{Cursor, Reads, ◌>>=◌}
+use Rattle.cdr_core.specs.Cursor.{Cursor, Reads}
+use Rattle.cdr_core.specs.Sequence.{◌>>=◌}
 use Rattle.cdr_values.specs.Gives.{Refuses}
 use Rattle.cdr_values.specs.Reading.{with_front, then_values, times, read, read_members}
 use Rattle.cdr_values.specs.Kinds.{kind_step, case_step, member_step, kind_of, member_of, members_view}

@@ -8,7 +8,8 @@ use Rattle.std.proofs.Math.Facts.{to_z-neg}
 use Rattle.std.specs.Int.{Width, w8, w16, w32, w64, w128, byte_len, from_bool, cast_signed, cast_unsigned}
 use Rattle.cdr_core.specs.declared.fault.CdrFault.{CdrFault}
 use Rattle.cdr_core.specs.declared.fault.CdrCause.TheVariants.{BadEnum, OverBound}
-use Rattle.cdr_core.specs.Cursor.{Cursor, AreBytes, Reads, ◌>>=◌, fault, aligned}
+use Rattle.cdr_core.specs.Cursor.{Cursor, AreBytes, Reads, fault, aligned}
+use Rattle.cdr_core.specs.Sequence.{◌>>=◌}
 use Rattle.cdr_core.specs.Field.{Field, string_fields}
 use Rattle.cdr_core.specs.Field as core
 use Rattle.cdr_core.specs.Passing.{Spans}

@@ -3,7 +3,8 @@
 use Rattle.std.specs.Prelude.{ℕ, zero, suc, ℤ, pos, nat_abs, ◌==◌, Bool, true, false, List, [], ◌∷◌, ◌++◌, length, nat_lt, if◌then◌else◌, Option, Some, None, Result, Ok, Err}
 use Rattle.std.specs.Int.{w8, w32, from_bool, cast_signed}
 use Rattle.cdr_core.specs.declared.fault.CdrCause.TheVariants.{BadEnum, OverBound}
-use Rattle.cdr_core.specs.Cursor.{Cursor, Reads, ◌>>=◌, fault, aligned}
+use Rattle.cdr_core.specs.Cursor.{Cursor, Reads, fault, aligned}
+use Rattle.cdr_core.specs.Sequence.{◌>>=◌}
 use Rattle.cdr_core.specs.Reading.{number_at, bool_at, count_at, string_at}
 use Rattle.cdr_values.specs.Trees.{wide, Scalar, boolean, char, unsigned, signed, enumeration, Kind, scalar, words, sequence, array, structure, union, Members, no_members, member, Cases, no_cases, case, Value, truth, number, letter, text, items, chosen, label, Values, no_values, value, values_of}
 use Rattle.cdr_values.specs.Spelling.{is_above}

@@ -294,6 +294,14 @@ fn each_fault_is_told_at_its_place(rt: HostRuntime) -> Result<(), Fail> {
     Ok(())
 }
 
+/// How many items a value has.
+fn count_of(value: &IdlValue) -> usize {
+    match value {
+        IdlValue::Items(values) => values.len(),
+        _ => 0,
+    }
+}
+
 #[test]
 fn a_long_sequence_is_read(rt: HostRuntime) -> Result<(), Fail> {
     let alloc = rt.alloc();
@@ -304,7 +312,7 @@ fn a_long_sequence_is_read(rt: HostRuntime) -> Result<(), Fail> {
     let kind = IdlType::Seq(boxed(alloc, IdlType::Octet)?, 0);
     let (value, len) = decode(alloc, Order::Big, 0, &kind, bytes.as_slice())?;
     assert_eq!(rt; len, 65540);
-    assert!(rt; matches!(value, IdlValue::Items(values) if values.len() == 65536));
+    assert_eq!(rt; count_of(&value), 65536);
     Ok(())
 }
 

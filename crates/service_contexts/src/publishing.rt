@@ -36,7 +36,7 @@ fn first_value<'a>(
 fn find_policy<'a>(wanted: u32, count: u32, reader: &mut Reader<'a>) -> Option<&'a [u8]>
     ensures { option_map (λ x. x.now) result
         ≡ option_and_then (λ policies. Spec.first_bytes wanted policies.0)
-            (result_ok (times (made_at tagged_of) count reader.old)) }
+        (result_ok (times (made_at tagged_of) count reader.old)) }
 {
     let mut found = None;
     for _ in 0..count {
