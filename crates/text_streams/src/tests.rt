@@ -156,9 +156,9 @@ fn no_byte_is_no_write(rt: HostRuntime) -> Result<(), Fail> {
     let alloc = rt.alloc();
     let mut failing = MemSink::new(alloc, List::new(alloc), list(alloc, &[0])?);
     assert_eq!(rt; write_all(&mut failing, b""), WriteAll::Whole);
-    let mut counting = CountingSink { bytes: 0 };
+    let mut counting = CountingSink::new();
     assert_eq!(rt; write_all(&mut counting, b"seven.."), WriteAll::Whole);
-    assert_eq!(rt; counting.bytes, 7);
+    assert_eq!(rt; counting.bytes(), 7);
     Ok(())
 }
 
