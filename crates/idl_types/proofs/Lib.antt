@@ -1,0 +1,4 @@
+pub mod Places
+pub mod Marking
+pub mod Walks
+pub mod Descent
