@@ -5,5 +5,10 @@ pub mod Loops
 pub mod Members
 pub mod HasFields
 pub mod Taking
+pub mod Refused
+pub mod FitLoops
+pub mod Fitted
 pub mod Decoded
 pub mod OneMember
+pub mod Wrote
+pub mod Endings

@@ -3,6 +3,11 @@ pub mod Kinds
 pub mod Values
 pub mod Choice
 pub mod Spelling
+pub mod Fitting
+pub mod Passing
+pub mod FirstFault
 pub mod Reading
 pub mod Gives
 pub mod Numerals
+pub mod Numbers
+pub mod Writing

@@ -7,14 +7,19 @@
 mod choice;
 mod copying;
 mod decoding;
+mod encoding;
 mod fault;
+mod fitting;
 mod kind;
 mod number;
+mod spelled;
 mod value;
 
 pub use copying::{copy_members, copy_type, copy_value};
 pub use decoding::decode;
+pub use encoding::encode;
 pub use fault::DecodeFault;
+pub use fitting::fits;
 pub use kind::{Case, IdlType, Member};
 pub use value::IdlValue;
 
