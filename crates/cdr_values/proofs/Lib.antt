@@ -8,6 +8,10 @@ pub mod Taking
 pub mod Refused
 pub mod FitLoops
 pub mod Fitted
+pub mod Growing
+pub mod ReadBack
+pub mod Refusing
+pub mod LawProofs
 pub mod Decoded
 pub mod OneMember
 pub mod Wrote

@@ -11,6 +11,7 @@ mod encoding;
 mod fault;
 mod fitting;
 mod kind;
+mod laws;
 mod number;
 mod spelled;
 mod value;
@@ -21,6 +22,7 @@ pub use encoding::encode;
 pub use fault::DecodeFault;
 pub use fitting::fits;
 pub use kind::{Case, IdlType, Member};
+pub use laws::{reads_back, reads_exactly, reads_one_way};
 pub use value::IdlValue;
 
 #[cfg(test)]
