@@ -11,6 +11,7 @@ pub mod Fitted
 pub mod Growing
 pub mod ReadBack
 pub mod Refusing
+pub mod LawfulLoops
 pub mod LawProofs
 pub mod Decoded
 pub mod OneMember

@@ -11,6 +11,7 @@ mod encoding;
 mod fault;
 mod fitting;
 mod kind;
+mod lawful;
 mod laws;
 mod number;
 mod spelled;
@@ -22,6 +23,7 @@ pub use encoding::encode;
 pub use fault::DecodeFault;
 pub use fitting::fits;
 pub use kind::{Case, IdlType, Member};
+pub use lawful::is_lawful;
 pub use laws::{reads_back, reads_exactly, reads_one_way};
 pub use value::IdlValue;
 
