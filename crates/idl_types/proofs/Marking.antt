@@ -1,16 +1,16 @@
 -- Bits as marks.
 use Rattle.std.proofs.Common.{◌≡◌, ℕ, ◌+◌, ◌*◌, ◌/◌, ◌%◌, ◌^◌, ◌<◌, ◌≤◌, Bool, true, false, eqb, ◌||◌, List, length, get_or, replicate, inl, inr, sym, refl, ap, ◌∙◌, subst, arith}
-use Rattle.std.specs.Prelude.{◌==◌, slice_set}
+use Rattle.std.specs.Prelude.{◌==◌, slice_set, bit_or}
 use Rattle.std.specs.List.{slice_index_or}
-use Rattle.std.specs.Int.{w64, bit_at, bit_or}
+use Rattle.std.specs.Int.{w64, bit_at}
 use Rattle.std.proofs.lemmas.Bool.{cases_eq, cases_lt, eq-eqb, ne_eqb}
-use Rattle.std.proofs.lemmas.List.{get_or-replicate, get_or-set_other}
+use Rattle.std.proofs.lemmas.List.{get_or-replicate, get_or-set_other, length-replicate}
 use Rattle.std.proofs.lemmas.Grind.{get_or-set_at}
 use Rattle.std.proofs.Math.ListN.{get_or-eq_default}
 use Rattle.std.proofs.lemmas.Nat.Bits.{bit_at-zero, bit_at_set_same, bit_at_set_other}
 use Rattle.idl_types.specs.Marked.{is_marked}
 
-no_word : (m i : ℕ) → get_or (replicate m 0) i 0 ≡ 0
+no_word : (m i : ℕ) → ◌≡◌ {A = ℕ} (get_or (replicate m 0) i 0) 0
 no_word m i = elim (cases_lt i m) [
   | inl h ↦ get_or-replicate m i 0 0 h
   | inr h ↦ get_or-eq_default (replicate m 0) 0 {n = i} (omega (arith, length-replicate m 0))

@@ -1,5 +1,5 @@
 -- Places and finds in lists, and in lists of views.
-use Rattle.std.proofs.Common.{◌≡◌, ℕ, ◌+◌, ◌<◌, ◌≤◌, suc, zero, Bool, true, false, cond, not, ltb, eqb, ◌&&◌, ◌||◌, List, [], ◌∷◌, ◌++◌, length, map, Option, Some, None, inl, inr, ◌⊎◌, sym, refl, ap, ◌∙◌, subst, arith}
+use Rattle.std.proofs.Common.{◌≡◌, ℕ, ◌+◌, ◌<◌, ◌≤◌, suc, zero, Bool, true, false, cond, not, ltb, eqb, ◌&&◌, ◌||◌, List, [], ◌∷◌, ◌++◌, length, map, drop, Option, Some, None, inl, inr, ◌⊎◌, sym, refl, ap, ◌∙◌, subst, arith}
 use Rattle.std.specs.Prelude.{slice_get, position, find, Vec}
 use Rattle.std.specs.Option.{option_map}
 use Rattle.std.specs.List.{position_or_len, prefix_len, list_any, list_all}
@@ -9,7 +9,7 @@ use Rattle.std.specs.declared.alloc.Global.{Global}
 use Rattle.std.proofs.lemmas.Option.{slice_get_past, slice_get-map, get_or_from_slice_get, slice_get_cases, cond_some, none-some, same_Some}
 use Rattle.std.proofs.lemmas.List.Quantifiers.{position-Some}
 use Rattle.std.proofs.lemmas.List.Folds.{find_at}
-use Rattle.std.proofs.lemmas.Bool.{ltb-true, ltb-false, lt-ltb, le-ltb, cases_Bool, cases_lt, and_parts, or_cases, or_left, or_right, both_ways}
+use Rattle.std.proofs.lemmas.Bool.{ltb-true, ltb-false, lt-ltb, le-ltb, cases_Bool, cases_lt, and_parts, or_cases, or_left, or_right, or_from, both_ways}
 use Rattle.idl_types.specs.declared.operation.Operation.{Operation}
 use Rattle.idl_types.specs.Things.{OperationView, Thing, id_of}
 use Rattle.idl_types.specs.Views.{operation_of}
@@ -20,6 +20,10 @@ use Rattle.idl_types.specs.Entries.{Entry, AreKeyed, entry_things}
 some_none : (b : Bool) (n : ℕ) → cond b (Some n) None ≡ None → b ≡ false
 some_none true n e = absurd (none-some n (sym e))
 some_none false n e = refl
+
+front_on : (o r : Option ℕ) (i : ℕ) → ((j : ℕ) → o ≡ Some j → r ≡ Some j) → option_map suc o ≡ Some i → option_map suc r ≡ Some i
+front_on None r i more h = absurd (none-some i h)
+front_on (Some j) r i more h = ap (option_map suc) (more j refl) ∙ h
 
 module _ {X : Type 0} (p : X → Bool) where
   -- what stands at a place that was looked up
@@ -43,29 +47,43 @@ module _ {X : Type 0} (p : X → Bool) where
   position_here x xs t = ap (λ (b : Bool). cond (ltb (cond (not b) (1 + prefix_len (λ y. not (p y)) xs) 0) (suc (length xs))) (Some (cond (not b) (1 + prefix_len (λ y. not (p y)) xs) 0)) None) t
       ∙ ap (λ (b : Bool). cond b (Some 0) None) (lt-ltb 0 (suc (length xs)) (omega arith))
 
+  shifted : (l n : ℕ) → cond (ltb (1 + l) (suc n)) (Some (1 + l)) None ≡ option_map suc (cond (ltb l n) (Some l) None)
+  shifted l n = elim (cases_lt l n) [
+    | inl h ↦ ap (λ (b : Bool). cond b (Some (1 + l)) None) (lt-ltb (1 + l) (suc n) (omega arith)) ∙ ap Some (let e : 1 + l ≡ suc l = omega arith in e)
+        ∙ sym (ap (λ (b : Bool). option_map suc (cond b (Some l) None)) (lt-ltb l n h))
+    | inr h ↦ ap (λ (b : Bool). cond b (Some (1 + l)) None) (le-ltb (1 + l) (suc n) (omega arith))
+        ∙ sym (ap (λ (b : Bool). option_map suc (cond b (Some l) None)) (le-ltb l n h))
+  ]
+
   position_later : (x : X) (xs : List X) → p x ≡ false → position p (x ∷ xs) ≡ option_map suc (position p xs)
   position_later x xs f = ap (λ (b : Bool). cond (ltb (cond (not b) (1 + prefix_len (λ y. not (p y)) xs) 0) (suc (length xs))) (Some (cond (not b) (1 + prefix_len (λ y. not (p y)) xs) 0)) None) f
       ∙ shifted (prefix_len (λ y. not (p y)) xs) (length xs)
-    where
-      shifted : (l n : ℕ) → cond (ltb (1 + l) (suc n)) (Some (1 + l)) None ≡ option_map suc (cond (ltb l n) (Some l) None)
-      shifted l n = elim (cases_lt l n) [
-        | inl h ↦ ap (λ (b : Bool). cond b (Some (1 + l)) None) (lt-ltb (1 + l) (suc n) (omega arith)) ∙ ap Some (let e : 1 + l ≡ suc l = omega arith in e)
-            ∙ sym (ap (λ (b : Bool). option_map suc (cond b (Some l) None)) (lt-ltb l n h))
-        | inr h ↦ ap (λ (b : Bool). cond b (Some (1 + l)) None) (le-ltb (1 + l) (suc n) (omega arith))
-            ∙ sym (ap (λ (b : Bool). option_map suc (cond b (Some l) None)) (le-ltb l n h))
-      ]
 
   -- a place in a front is the place
   pub position_front : (xs ys : List X) (i : ℕ) → position p xs ≡ Some i → position p (xs ++ ys) ≡ Some i
-  position_front [] ys i e = absurd (none-some i (sym (let n : position p [] ≡ None = refl in n) ∙ e))
+  position_front [] ys i e = absurd (none-some i e)
   position_front (x ∷ xs) ys i e = elim (cases_Bool (p x)) [
     | inl t ↦ position_here x (xs ++ ys) t ∙ sym (position_here x xs t) ∙ e
-    | inr f ↦ position_later x (xs ++ ys) f ∙ on (position p xs) refl (sym (position_later x xs f) ∙ e)
+    | inr f ↦ position_later x (xs ++ ys) f ∙ front_on (position p xs) (position p (xs ++ ys)) i (λ j is. position_front xs ys j is) (sym (position_later x xs f) ∙ e)
   ]
-    where
-      on : (o : Option ℕ) → position p xs ≡ o → option_map suc o ≡ Some i → option_map suc (position p (xs ++ ys)) ≡ Some i
-      on None is h = absurd (none-some i h)
-      on (Some j) is h = ap (option_map suc) (position_front xs ys j is) ∙ h
+
+-- a list without a place has no element that passes
+later_none : (o : Option ℕ) → option_map suc o ≡ None → o ≡ None
+later_none None e = refl
+later_none (Some i) e = absurd (none-some (suc i) (sym e))
+
+pub none_any : {X : Type 0} (p : X → Bool) (xs : List X) → position p xs ≡ None → list_any p xs ≡ false
+none_any p [] e = refl
+none_any p (x ∷ xs) e = elim (cases_Bool (p x)) [
+  | inl t ↦ absurd (none-some 0 (sym e ∙ position_here p x xs t))
+  | inr f ↦ or_from (p x) (list_any p xs) f (none_any p xs (later_none (position p xs) (sym (position_later p x xs f) ∙ e)))
+]
+
+-- a list without its front, by its next element
+pub drop_at : {X : Type 0} (xs : List X) (i j : ℕ) (x : X) → slice_get xs i ≡ Some x → j ≡ suc i → drop i xs ≡ x ∷ drop j xs
+drop_at [] i j x at is = absurd (none-some x at)
+drop_at (y ∷ ys) zero j x at is = ap (λ (z : X). z ∷ ys) (same_Some y x at) ∙ ap (λ (n : ℕ). x ∷ drop n (y ∷ ys)) (sym is)
+drop_at (y ∷ ys) (suc i) j x at is = drop_at ys i (suc i) x at refl ∙ ap (λ (n : ℕ). x ∷ drop n (y ∷ ys)) (sym is)
 
 -- a place in a list of views is the place in the list
 length_map : {X Y : Type 0} (f : X → Y) (xs : List X) → length (map f xs) ≡ length xs

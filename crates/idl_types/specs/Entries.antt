@@ -1,6 +1,7 @@
 -- A repository's entries as plain data.
-use Rattle.std.specs.Prelude.{◌≡◌, ℕ, List, map, Vec}
+use Rattle.std.specs.Prelude.{◌≡◌, ℕ, List, [], ◌∷◌, ◌++◌, map, Vec, Result, Ok, Err}
 use Rattle.std.specs.declared.alloc.Global.{Global}
+use Rattle.orb_base.specs.declared.no_memory.NoMemory.{NoMemory}
 use Rattle.cdr_values.specs.Trees.{Name}
 use Rattle.idl_types.specs.declared.declaration.Declaration.{Declaration}
 use Rattle.idl_types.specs.declared.held.Held.{Held}
@@ -26,3 +27,8 @@ entry_keys es = map (λ e. e.0.items) es
 -- each key is the id of its thing
 abbrev pub AreKeyed : List Entry → Type 0
 AreKeyed es = entry_keys es ≡ map id_of (entry_things es)
+
+-- an entry was put behind the others, or nothing changed
+abbrev pub InsertsBehind : Result (Unit {0}) NoMemory → List Entry → Entry → List Entry → Type 0
+InsertsBehind (Ok u) es e new = new ≡ es ++ e ∷ []
+InsertsBehind (Err x) es e new = new ≡ es

@@ -1,7 +1,7 @@
 -- References to types inside a repository, in place of copies (own profile).
 use Rattle.std.specs.Prelude.{ℕ, zero, suc, List, [], ◌∷◌, Option, Some, None, map, slice_get}
 use Rattle.std.specs.Option.{option_map, option_and_then}
-use Rattle.cdr_values.specs.Trees.{Kind, scalar, words, sequence, array, structure, union, Members, no_members, member, members_of}
+use Rattle.cdr_values.specs.Trees.{Kind, scalar, words, sequence, array, structure, union, Members, no_members, member}
 use Rattle.idl_types.specs.declared.type_ref.Part.{Part}
 use Rattle.idl_types.specs.declared.type_ref.Part.TheVariants.{Whole, Member, Outcome, Parameter}
 use Rattle.idl_types.specs.declared.type_ref.TypeRef.{TypeRef}
@@ -24,7 +24,7 @@ abbrev pub part_kind : Part → Thing → Option Kind
 part_kind Whole (constant c) = Some c.kind
 part_kind Whole (named t) = Some t.kind
 part_kind (Member i) (named t) = member_kind i (members_in t.kind)
-part_kind (Member i) (exception e) = member_kind i (members_of e.members)
+part_kind (Member i) (exception e) = option_map (λ m. m.1) (slice_get e.members i)
 part_kind (Outcome o) (interface i) = option_and_then (λ o. o.result) (slice_get i.operations o)
 part_kind (Parameter o p) (interface i) = option_and_then (λ o. option_map (λ p. p.kind) (slice_get o.params p)) (slice_get i.operations o)
 part_kind p t = None

@@ -1,5 +1,5 @@
 -- What a repository keeps (own profile where no section is named).
-use Rattle.std.specs.Prelude.{ℕ, ◌≤◌, ◌&&◌, ◌||◌, IsTrue, if◌then◌else◌, not, nat_le, nat_eq, Bool, true, false, List, [], ◌∷◌, ◌++◌, Option, Some, None, map, sum_by, codes}
+use Rattle.std.specs.Prelude.{ℕ, ◌&&◌, ◌||◌, if◌then◌else◌, not, nat_le, nat_eq, Bool, true, false, List, [], ◌∷◌, ◌++◌, Option, Some, None, map, sum_by, codes}
 use Rattle.std.specs.List.{list_any, list_all, starts_with}
 use Rattle.std.specs.Str.{bytes_eq, str_eq_ignore_ascii_case, str_to_ascii_lowercase}
 use Rattle.cdr_values.specs.Trees.{Name, Kind, members_of}
@@ -54,6 +54,14 @@ is_sound_thing (interface i) = list_all is_sound_operation i.operations && diffe
 abbrev pub is_reserved : Name → Bool
 is_reserved id = starts_with nat_eq (str_to_ascii_lowercase id) (codes "idl:orb/") || str_eq_ignore_ascii_case id (codes "IDL:Orb:1.0")
 
+-- the id of the built-in interface
+abbrev pub ping_id : Name
+ping_id = codes "IDL:Orb/Ping:1.0"
+
+-- whether a thing isn't in the module Orb, or is the built-in interface
+abbrev pub is_own : Thing → Bool
+is_own t = not (is_reserved (id_of t)) || bytes_eq ping_id (id_of t)
+
 -- whether a thing's bases are interfaces among the things before it (CORBA 3.0.3, section 3.8.5)
 abbrev pub has_bases_in : List Thing → Thing → Bool
 has_bases_in before t = list_all (is_interface before) (bases_of t)
@@ -70,11 +78,3 @@ counted_leaves t = if is_reserved (id_of t) then 0 else thing_leaves t
 -- the file's leaves
 abbrev pub file_leaves : List Thing → ℕ
 file_leaves ts = sum_by counted_leaves ts
-
--- the things are sound each by itself, their ids are told apart, bases stand before what is derived from them, and the
--- file's leaves are no more than they may be
-pub record IsSound (ts : List Thing) : Type 0 where
-  pub each : IsTrue (list_all is_sound_thing ts)
-  pub ids : IsTrue (are_apart (map id_of ts))
-  pub based : IsTrue (are_based [] ts)
-  pub leaves : file_leaves ts ≤ most_file_leaves

@@ -1,5 +1,5 @@
 //! A declaration as a repository holds it.
-ghost use Rattle.std.specs.Prelude.{◌≡◌, ◌++◌, ◌∷◌, [], IfOk, OnOk, IsTrue, map, false};
+ghost use Rattle.std.specs.Prelude.{◌≡◌, ◌++◌, ◌∷◌, [], IfOk, OnOk, IsTrue, map, slice_get, false};
 ghost use Rattle.std.specs.List.{list_any};
 ghost use Rattle.std.specs.Option.{option_copied, option_map};
 ghost use Rattle.cdr_values.specs.Lawful.{differ};
@@ -38,10 +38,16 @@ impl Held {
         ensures { option_map operation_of (option_copied result) ≡ operation_in name.now (thing_of self.now.declaration) }
     {
         match self.names.get_index_of(name) {
-            Some(at) => self.declaration.operations().get(at),
+            Some(at) => operation_at(self.declaration.operations(), at),
             None => None,
         }
     }
+}
+
+fn operation_at(operations: &[Operation], at: usize) -> Option<&Operation>
+    ensures { option_map operation_of (option_copied result) ≡ slice_get (map operation_of operations.now) at }
+{
+    operations.get(at)
 }
 
 /// The names of operations, which differ.

@@ -1,5 +1,5 @@
 //! What bases lead to: a walk from place to lower place, in which none is followed twice.
-ghost use Rattle.std.specs.Prelude.{◌≡◌, ℕ, ◌+◌, ◌<◌, ◌||◌, ◌↔◌, IsTrue, length};
+ghost use Rattle.std.specs.Prelude.{◌≡◌, true, ℕ, ◌+◌, ◌<◌, ◌||◌, ◌↔◌, IsTrue, length};
 ghost use Rattle.std.specs.List.{list_any};
 ghost use Rattle.idl_types.specs.Finding.{object_id, is_interface, Descends, IsA};
 ghost use Rattle.idl_types.specs.Bases.{is_place, is_base_at};

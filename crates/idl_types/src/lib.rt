@@ -14,6 +14,7 @@ mod marks;
 mod named_type;
 mod operation;
 mod param;
+mod ping;
 mod repository;
 mod type_ref;
 mod way;

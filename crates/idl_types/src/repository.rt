@@ -1,13 +1,18 @@
 //! The repository.
-ghost use Rattle.std.specs.Prelude.{◌≡◌, ◌≤◌, ◌<◌, ◌↔◌, ◌++◌, ◌∷◌, IsTrue, IfSome, OnOk, OnErr, [], length, slice_get, map};
-ghost use Rattle.std.specs.List.{list_all};
+ghost use Rattle.std.specs.Prelude.{◌≡◌, ◌≤◌, ◌<◌, ◌↔◌, ◌++◌, ◌∷◌, IsTrue, false, IfSome, IfOk, OnOk, OnErr, [], length, slice_get, map};
+ghost use Rattle.std.specs.List.{list_all, list_any};
+ghost use Rattle.std.specs.Str.{bytes_eq};
+ghost use Rattle.indexmap.specs.IndexMap.{keys};
 ghost use Rattle.std.specs.Option.{option_copied, option_map};
 ghost use Rattle.idl_types.specs.Things.{id_of};
 ghost use Rattle.idl_types.specs.Views.{thing_of, constant_of, type_of, exception_of, interface_of, operation_of};
 ghost use Rattle.idl_types.specs.Finding as Found;
-ghost use Rattle.idl_types.specs.Sound.{is_sound_thing, are_apart, are_based, file_leaves};
-ghost use Rattle.idl_types.specs.Declaring.{may_declare};
-ghost use Rattle.idl_types.specs.Entries.{entry_things, AreKeyed};
+ghost use Rattle.idl_types.specs.Sound.{is_sound_thing, are_apart, are_based, file_leaves, is_own};
+ghost use Rattle.idl_types.specs.Declaring.{may_declare, may_hold};
+ghost use Rattle.idl_types.specs.BuiltIn.{with_ping};
+ghost use Rattle.idl_types.specs.References.{kind_at};
+ghost use Rattle.cdr_values.specs.Kinds.{kind_of};
+ghost use Rattle.idl_types.specs.Entries.{entry_things, AreKeyed, InsertsBehind};
 
 use crate::constant::Constant;
 use crate::declaration::Declaration;
@@ -17,6 +22,9 @@ use crate::interface::Interface;
 use crate::marks::MARKS;
 use crate::named_type::NamedType;
 use crate::operation::Operation;
+use crate::ping::{PING_ID, ping};
+use crate::type_ref::{TypeRef, part_element};
+use cdr_values::IdlType;
 use indexmap::IndexMap;
 use orb_base::NoMemory;
 use std::alloc::Global;
@@ -31,6 +39,7 @@ pub struct Repository {
     ghost each: { IsTrue (list_all is_sound_thing (entry_things declared.entries)) },
     ghost ids: { IsTrue (are_apart (map id_of (entry_things declared.entries))) },
     ghost based: { IsTrue (are_based [] (entry_things declared.entries)) },
+    ghost own: { IsTrue (list_all is_own (entry_things declared.entries)) },
     ghost leaves: { file_leaves (entry_things declared.entries) ≤ 1048576 },
 }
 
@@ -156,10 +165,47 @@ impl Repository {
         }
     }
 
+    /// The type that a reference stands for, or None where it stands for none. Takes no memory.
+    pub fn type_at(&self, reference: TypeRef) -> Option<&IdlType>
+        ensures { option_map kind_of (option_copied result) ≡ kind_at (things_of self.now) reference }
+    {
+        match self.nth(reference.place as usize) {
+            Some(declaration) => part_element(declaration, reference.part, reference.steps),
+            None => None,
+        }
+    }
+
     /// Declares one more thing. Answers want of memory also where 524,288 things are declared, more than a text of
     /// 1,048,576 bytes can declare; then nothing has changed.
     pub fn declare(&mut self, declaration: Declaration) -> Result<(), NoMemory>
         requires { IsTrue (may_declare (things_of self.old) (thing_of declaration)) }
+        ensures ok { OnOk result (things_of self.new ≡ things_of self.old ++ thing_of declaration ∷ []) }
+        ensures err { OnErr result (things_of self.new ≡ things_of self.old) }
+    {
+        self.hold(declaration)
+    }
+
+    /// The repository with the built-in module, whose one interface is put behind the others where it isn't there yet.
+    pub fn with_ping(self) -> Result<Repository, NoMemory>
+        ensures { IfOk result (λ r. things_of r ≡ with_ping (things_of self)) }
+    {
+        if self.place_of(PING_ID).is_some() {
+            return Ok(self);
+        }
+        let ping = ping(self.alloc)?;
+        self.and_held(ping)
+    }
+
+    fn and_held(mut self, declaration: Declaration) -> Result<Repository, NoMemory>
+        requires { IsTrue (may_hold (things_of self) (thing_of declaration)) }
+        ensures { IfOk result (λ r. things_of r ≡ things_of self ++ thing_of declaration ∷ []) }
+    {
+        self.hold(declaration)?;
+        Ok(self)
+    }
+
+    fn hold(&mut self, declaration: Declaration) -> Result<(), NoMemory>
+        requires { IsTrue (may_hold (things_of self.old) (thing_of declaration)) }
         ensures ok { OnOk result (things_of self.new ≡ things_of self.old ++ thing_of declaration ∷ []) }
         ensures err { OnErr result (things_of self.new ≡ things_of self.old) }
     {
@@ -168,7 +214,19 @@ impl Repository {
         }
         let key = Vec::from_slice(self.alloc, declaration.id().as_slice())?;
         let held = Held::new(self.alloc, declaration)?;
-        self.declared.insert(key, held)?;
-        Ok(())
+        insert_behind(&mut self.declared, key, held)
     }
+}
+
+/// Inserts behind the other entries, under a key that is none of theirs.
+fn insert_behind(
+    declared: &mut IndexMap<Vec<u8>, Held>,
+    key: Vec<u8>,
+    held: Held,
+) -> Result<(), NoMemory>
+    requires { list_any (λ k. bytes_eq key.items k.items) (keys declared.old) ≡ false }
+    ensures { InsertsBehind result declared.old.entries (key, held) declared.new.entries }
+{
+    declared.insert(key, held)?;
+    Ok(())
 }
