@@ -1,6 +1,6 @@
 -- Bases by ids are bases by places, and these stand before what is derived from them.
-use Rattle.std.proofs.Common.{◌≡◌, ℕ, ◌+◌, ◌<◌, ◌≤◌, suc, zero, Bool, true, false, List, [], ◌∷◌, ◌++◌, length, take, drop, Option, Some, None, ◌↔◌, refl, sym, ap, ◌∙◌, subst, arith, append_assoc, length-take, take-append-drop}
-use Rattle.std.specs.Prelude.{◌==◌, slice_get, position, IsTrue, is_some, find}
+use Rattle.std.proofs.Common.{◌≡◌, ℕ, ◌<◌, suc, zero, Bool, true, false, List, [], ◌∷◌, ◌++◌, length, take, drop, Option, Some, None, ◌↔◌, inl, inr, refl, sym, ap, ◌∙◌, subst, arith, append_assoc, length-take, take-append-drop}
+use Rattle.std.specs.Prelude.{◌==◌, slice_get, IsTrue, is_some}
 use Rattle.std.specs.Option.{option_map_or, option_and_then}
 use Rattle.std.specs.List.{list_any, list_all}
 use Rattle.std.specs.Str.{bytes_eq}
@@ -8,7 +8,7 @@ use Rattle.std.proofs.lemmas.Bool.{and_parts, eqb-true, eq-eqb, both_ways}
 use Rattle.std.proofs.lemmas.Option.{none-some, same_Some, slice_get_within}
 use Rattle.std.proofs.lemmas.Slice.Eq.{bytes_eq-Decides}
 use Rattle.idl_types.specs.Things.{Thing, constant, named, exception, interface, id_of, bases_of}
-use Rattle.idl_types.specs.Finding.{has_id, place_named, thing_named, as_interface, is_interface, bases_named, has_base, Leads, Descends}
+use Rattle.idl_types.specs.Finding.{has_id, place_named, thing_named, as_interface, is_interface, bases_named, has_base, Leads, Descends, IsA, object_id}
 use Rattle.idl_types.specs.Sound.{has_bases_in, are_based}
 use Rattle.idl_types.specs.Bases.{is_place, bases_at, is_base_at}
 use Rattle.idl_types.specs.Walk.{Trail, Reached}
@@ -23,10 +23,10 @@ based_at : (before ts : List Thing) → are_based before ts ≡ true → (a : �
 based_at before [] all a t at = absurd (none-some t at)
 based_at before (u ∷ us) all zero t at =
     subst (λ (v : Thing). has_bases_in (before ++ []) v ≡ true) (same_Some u t at)
-      (ap (λ (xs : List Thing). has_bases_in xs u) (behind_none before) ∙ (and_parts (has_bases_in before u) (are_based (before ++ u ∷ []) us) all).0)
+    (ap (λ (xs : List Thing). has_bases_in xs u) (behind_none before) ∙ (and_parts (has_bases_in before u) (are_based (before ++ u ∷ []) us) all).0)
 based_at before (u ∷ us) all (suc a) t at =
     ap (λ (xs : List Thing). has_bases_in xs t) (sym (append_assoc before (u ∷ []) (take a us)))
-      ∙ based_at (before ++ u ∷ []) us (and_parts (has_bases_in before u) (are_based (before ++ u ∷ []) us) all).1 a t at
+    ∙ based_at (before ++ u ∷ []) us (and_parts (has_bases_in before u) (are_based (before ++ u ∷ []) us) all).1 a t at
 
 -- an interface has a place
 pub has_place : (ts : List Thing) (id : List ℕ) → is_interface ts id ≡ true → (i : ℕ) × (place_named ts id ≡ Some i)
@@ -92,9 +92,12 @@ module _ (ts : List Thing) (based : are_based [] ts ≡ true) where
   base_placed id next a at e =
       let here : list_any (bytes_eq next) (bases_at ts a) ≡ true = ap (λ (bs : List (List ℕ)). list_any (bytes_eq next) bs) (sym (bases_placed ts id a at)) ∙ e in
       let h = any_all (bytes_eq next) (is_interface (take a ts)) (bases_at ts a) here (all_before a) in
-      let p = placed_before a next (ap (is_interface (take a ts)) (same_name next h.0 h.1) ∙ h.2) in
-      (p.0, p.1, any_more (bytes_eq next) (is_place ts p.0) (bases_at ts a)
-        (λ x same. ap (λ (o : Option ℕ). option_map_or (λ i. i == p.0) o false) (ap (place_named ts) (sym (same_name next x same)) ∙ p.1) ∙ eq-eqb p.0 p.0 refl) here)
+      let p = placed_before a next (ap (is_interface (take a ts)) (same_name next h.0 h.1) ∙ h.2) in (
+        p.0,
+        p.1,
+        any_more (bytes_eq next) (is_place ts p.0) (bases_at ts a)
+            (λ x same. ap (λ (o : Option ℕ). option_map_or (λ i. i == p.0) o false) (ap (place_named ts) (sym (same_name next x same)) ∙ p.1) ∙ eq-eqb p.0 p.0 refl) here,
+      )
 
   -- a path of ids is a path of places
   trail_of : (path : List (List ℕ)) (id other : List ℕ) (a b : ℕ) → place_named ts id ≡ Some a → place_named ts other ≡ Some b → Leads ts id path other → Reached (is_base_at ts) a b
@@ -126,3 +129,15 @@ module _ (ts : List Thing) (based : are_based [] ts ≡ true) where
   -- nothing descends from what isn't declared
   pub no_descent : (id other : List ℕ) (a : ℕ) → place_named ts id ≡ Some a → place_named ts other ≡ None → Descends ts id other → ⊥
   no_descent id other a at none d = let h = end_placed d.path id other a at d.leads in none-some h.0 (sym none ∙ h.1)
+
+-- the cases of the whole test
+pub none_a : (ts : List Thing) (id other : List ℕ) → is_interface ts id ≡ false → (IsTrue false → IsA ts id other) × (IsA ts id other → IsTrue false)
+none_a ts id other none = ((λ e. absurd (both_ways false refl e)), (λ a. absurd (both_ways (is_interface ts id) none a.declared)))
+
+pub object_a : (ts : List Thing) (id other : List ℕ) → is_interface ts id ≡ true → other ≡ object_id → (IsTrue true → IsA ts id other) × (IsA ts id other → IsTrue true)
+object_a ts id other there is = ((λ e. record { declared = there; kin = inl is }), (λ a. refl))
+
+pub kin_a : (ts : List Thing) (id other : List ℕ) (found : Bool) → is_interface ts id ≡ true → (other ≡ object_id → ⊥) → (IsTrue found ↔ Descends ts id other)
+    → (IsTrue found → IsA ts id other) × (IsA ts id other → IsTrue found)
+kin_a ts id other found there not_object both =
+    ((λ e. record { declared = there; kin = inr (both.0 e) }), (λ a. elim a.kin [ inl e ↦ absurd (not_object e) | inr d ↦ both.1 d ]))

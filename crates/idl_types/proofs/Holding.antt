@@ -1,6 +1,6 @@
 -- What a repository keeps goes on with one thing more.
 use Rattle.std.proofs.Common.{◌≡◌, Ok, Err, None, inl, inr, ℕ, ◌+◌, ◌<◌, ◌≤◌, Bool, true, false, not, ◌&&◌, ◌||◌, List, [], ◌∷◌, ◌++◌, length, map, refl, sym, ap, ◌∙◌, subst, arith, length-append, append_assoc}
-use Rattle.std.specs.Prelude.{Result, codes, nat_eq, Vec, if◌then◌else◌, sum_by, nat_le, IsTrue}
+use Rattle.std.specs.Prelude.{Result, codes, nat_eq, Vec, if◌then◌else◌, nat_le}
 use Rattle.std.specs.List.{list_any, list_all, starts_with}
 use Rattle.std.specs.Map.{keys_of}
 use Rattle.std.specs.Str.{bytes_eq, str_eq_ignore_ascii_case, str_to_ascii_lowercase}
@@ -15,11 +15,10 @@ use Rattle.indexmap.specs.IndexMap.{insert_entry}
 use Rattle.cdr_values.specs.Lawful.{differ}
 use Rattle.idl_types.specs.declared.held.Held.{Held}
 use Rattle.idl_types.specs.Things.{Thing, constant, named, exception, interface, id_of, operations_of}
-use Rattle.idl_types.specs.Views.{thing_of}
 use Rattle.idl_types.specs.Names.{operation_names}
 use Rattle.idl_types.specs.Sound.{is_sound_thing, is_sound_operation, is_reserved, ping_id, is_own, are_apart, has_bases_in, are_based, file_leaves, counted_leaves, most_file_leaves}
 use Rattle.idl_types.specs.Declaring.{is_new, may_hold}
-use Rattle.idl_types.specs.Entries.{Entry, entry_thing, entry_things, entry_keys, AreKeyed, InsertsBehind}
+use Rattle.idl_types.specs.Entries.{Entry, entry_thing, entry_things, AreKeyed, InsertsBehind}
 use Rattle.idl_types.specs.BuiltIn.{ping}
 use Rattle.idl_types.specs.Finding.{has_id, place_named}
 use Rattle.idl_types.proofs.Places.{any_map, any_more, none_any}
@@ -57,12 +56,12 @@ insert_behind_is eq k h (e ∷ es) new =
 key_new : (es : List Entry) (t : Thing) → AreKeyed es → is_new (entry_things es) t ≡ true → list_any (λ (k : Vec ℕ Global). bytes_eq (id_of t) k.items) (keys_of es) ≡ false
 key_new es t keyed new = false_from_ne_true (list_any (λ (k : Vec ℕ Global). bytes_eq (id_of t) k.items) (keys_of es))
     (λ there. both_ways (list_any (λ u. str_eq_ignore_ascii_case (id_of t) (id_of u)) (entry_things es))
-      (not-true (list_any (λ u. str_eq_ignore_ascii_case (id_of t) (id_of u)) (entry_things es)) new)
-      (any_more (λ u. bytes_eq (id_of t) (id_of u)) (λ u. str_eq_ignore_ascii_case (id_of t) (id_of u)) (entry_things es) (λ u same. same_folded (id_of t) (id_of u) same)
-        (sym (any_map (bytes_eq (id_of t)) id_of (entry_things es))
-          ∙ ap (λ (ns : List (List ℕ)). list_any (bytes_eq (id_of t)) ns) (sym keyed)
-          ∙ any_map (bytes_eq (id_of t)) (λ e. e.0.items) es
-          ∙ sym (any_map (λ (k : Vec ℕ Global). bytes_eq (id_of t) k.items) (λ e. e.0) es) ∙ there)))
+    (not-true (list_any (λ u. str_eq_ignore_ascii_case (id_of t) (id_of u)) (entry_things es)) new)
+    (any_more (λ u. bytes_eq (id_of t) (id_of u)) (λ u. str_eq_ignore_ascii_case (id_of t) (id_of u)) (entry_things es) (λ u same. same_folded (id_of t) (id_of u) same)
+    (sym (any_map (bytes_eq (id_of t)) id_of (entry_things es))
+    ∙ ap (λ (ns : List (List ℕ)). list_any (bytes_eq (id_of t)) ns) (sym keyed)
+    ∙ any_map (bytes_eq (id_of t)) (λ e. e.0.items) es
+    ∙ sym (any_map (λ (k : Vec ℕ Global). bytes_eq (id_of t) k.items) (λ e. e.0) es) ∙ there)))
   where
     same_folded : (a b : List ℕ) → bytes_eq a b ≡ true → str_eq_ignore_ascii_case a b ≡ true
     same_folded a b e = (bytes_eq-Decides (str_to_ascii_lowercase a) (str_to_ascii_lowercase b)).1 (ap str_to_ascii_lowercase ((bytes_eq-Decides a b).0 e))
@@ -79,10 +78,10 @@ module _ (es : List Entry) (e : Entry) where
   pub keyed_on : AreKeyed es → e.0.items ≡ id_of (entry_thing e) → AreKeyed (es ++ e ∷ [])
   keyed_on keyed key =
       map-append (λ (x : Entry). x.0.items) es (e ∷ [])
-        ∙ ap (λ (ns : List (List ℕ)). ns ++ e.0.items ∷ []) keyed
-        ∙ ap (λ (n : List ℕ). map id_of (entry_things es) ++ n ∷ []) key
-        ∙ sym (map-append id_of (entry_things es) (entry_thing e ∷ []))
-        ∙ ap (map id_of) (sym things_on)
+      ∙ ap (λ (ns : List (List ℕ)). ns ++ e.0.items ∷ []) keyed
+      ∙ ap (λ (n : List ℕ). map id_of (entry_things es) ++ n ∷ []) key
+      ∙ sym (map-append id_of (entry_things es) (entry_thing e ∷ []))
+      ∙ ap (map id_of) (sym things_on)
 
   pub room_on : length es < 524288 → length (es ++ e ∷ []) ≤ 524288
   room_on room = omega (arith, length-append es (e ∷ []))
@@ -108,16 +107,16 @@ differ_on same (m ∷ ns) n both all new =
     let p = and_parts (not (list_any (λ y. same y m) ns)) (differ same ns) all in
     let q = or_parts (same n m) (list_any (same n) ns) new in
     and_from (not (list_any (λ y. same y m) (ns ++ n ∷ []))) (differ same (ns ++ n ∷ []))
-      (not_from_false (list_any (λ y. same y m) (ns ++ n ∷ []))
-        (list_any-append (λ y. same y m) ns (n ∷ []) ∙ or_from (list_any (λ y. same y m) ns) (list_any (λ y. same y m) (n ∷ [])) (not-true (list_any (λ y. same y m) ns) p.0)
-          (or_from (same n m) false q.0 refl)))
-      (differ_on same ns n both p.1 q.1)
+    (not_from_false (list_any (λ y. same y m) (ns ++ n ∷ []))
+    (list_any-append (λ y. same y m) ns (n ∷ []) ∙ or_from (list_any (λ y. same y m) ns) (list_any (λ y. same y m) (n ∷ [])) (not-true (list_any (λ y. same y m) ns) p.0)
+    (or_from (same n m) false q.0 refl)))
+    (differ_on same ns n both p.1 q.1)
 
 pub ids_on : (ts : List Thing) (t : Thing) → are_apart (map id_of ts) ≡ true → Fresh ts t → are_apart (map id_of (ts ++ t ∷ [])) ≡ true
 ids_on ts t apart f =
     ap are_apart (map-append id_of ts (t ∷ []))
-      ∙ differ_on str_eq_ignore_ascii_case (map id_of ts) (id_of t) both apart
-        (any_map (str_eq_ignore_ascii_case (id_of t)) id_of ts ∙ not-true (list_any (λ u. str_eq_ignore_ascii_case (id_of t) (id_of u)) ts) f.new)
+    ∙ differ_on str_eq_ignore_ascii_case (map id_of ts) (id_of t) both apart
+    (any_map (str_eq_ignore_ascii_case (id_of t)) id_of ts ∙ not-true (list_any (λ u. str_eq_ignore_ascii_case (id_of t) (id_of u)) ts) f.new)
   where
     both : (a b : List ℕ) → str_eq_ignore_ascii_case a b ≡ true → str_eq_ignore_ascii_case b a ≡ true
     both a b e = (bytes_eq-Decides (str_to_ascii_lowercase b) (str_to_ascii_lowercase a)).1 (sym ((bytes_eq-Decides (str_to_ascii_lowercase a) (str_to_ascii_lowercase b)).0 e))
@@ -131,7 +130,7 @@ based_behind before [] t all one = and_from (has_bases_in before t) true (ap (λ
 based_behind before (u ∷ us) t all one =
     let p = and_parts (has_bases_in before u) (are_based (before ++ u ∷ []) us) all in
     and_from (has_bases_in before u) (are_based (before ++ u ∷ []) (us ++ t ∷ [])) p.0
-      (based_behind (before ++ u ∷ []) us t p.1 (ap (λ (xs : List Thing). has_bases_in xs t) (append_assoc before (u ∷ []) us) ∙ one))
+    (based_behind (before ++ u ∷ []) us t p.1 (ap (λ (xs : List Thing). has_bases_in xs t) (append_assoc before (u ∷ []) us) ∙ one))
 
 pub based_on : (ts : List Thing) (t : Thing) → are_based [] ts ≡ true → Fresh ts t → are_based [] (ts ++ t ∷ []) ≡ true
 based_on ts t all f = based_behind [] ts t all f.based
@@ -157,7 +156,7 @@ kept_on es e k room key f =
       ids = ap (λ (xs : List Thing). are_apart (map id_of xs)) (things_on es e) ∙ ids_on ts t k.ids f;
       based = ap (are_based []) (things_on es e) ∙ based_on ts t k.based f;
       own = ap (list_all is_own) (things_on es e) ∙ own_on ts t k.own f;
-      leaves = subst (λ (xs : List Thing). file_leaves xs ≤ most_file_leaves) (sym (things_on es e)) (leaves_on ts t f)
+      leaves = subst (λ (xs : List Thing). file_leaves xs ≤ most_file_leaves) (sym (things_on es e)) (leaves_on ts t f);
     }
 
 -- the entries go on keeping it, whether or not the entry was put behind them
@@ -171,7 +170,7 @@ reserved_like : (n : List ℕ) → str_eq_ignore_ascii_case ping_id n ≡ true �
 reserved_like n same =
     let e : str_to_ascii_lowercase ping_id ≡ str_to_ascii_lowercase n = (bytes_eq-Decides (str_to_ascii_lowercase ping_id) (str_to_ascii_lowercase n)).0 same in
     or_left (starts_with nat_eq (str_to_ascii_lowercase n) (codes "idl:orb/")) (str_eq_ignore_ascii_case n (codes "IDL:Orb:1.0"))
-      (ap (λ (m : List ℕ). starts_with nat_eq m (codes "idl:orb/")) (sym e))
+    (ap (λ (m : List ℕ). starts_with nat_eq m (codes "idl:orb/")) (sym e))
 
 own_like : (t : Thing) → str_eq_ignore_ascii_case ping_id (id_of t) ≡ true → is_own t ≡ true → has_id ping_id t ≡ true
 own_like t same own = ap (λ (b : Bool). not b || bytes_eq ping_id (id_of t)) (sym (reserved_like (id_of t) same)) ∙ own
@@ -188,13 +187,13 @@ any_both p q r (x ∷ xs) both any all =
 pub ping_may : (ts : List Thing) (t : Thing) → t ≡ ping → place_named ts ping_id ≡ None → list_all is_own ts ≡ true → file_leaves ts ≤ most_file_leaves → may_hold ts t ≡ true
 ping_may ts t is none own leaves =
     ap (may_hold ts) is
-      ∙ and_from (is_sound_thing ping && has_bases_in ts ping) ((is_new ts ping && is_own ping) && nat_le (file_leaves ts + counted_leaves ping) most_file_leaves) refl
-          (and_from (is_new ts ping && is_own ping) (nat_le (file_leaves ts + counted_leaves ping) most_file_leaves)
-            (and_from (is_new ts ping) (is_own ping) new refl)
-            (le-leb (file_leaves ts + counted_leaves ping) most_file_leaves (omega (arith, leaves))))
+    ∙ and_from (is_sound_thing ping && has_bases_in ts ping) ((is_new ts ping && is_own ping) && nat_le (file_leaves ts + counted_leaves ping) most_file_leaves) refl
+    (and_from (is_new ts ping && is_own ping) (nat_le (file_leaves ts + counted_leaves ping) most_file_leaves)
+    (and_from (is_new ts ping) (is_own ping) new refl)
+    (le-leb (file_leaves ts + counted_leaves ping) most_file_leaves (omega (arith, leaves))))
   where
     new : is_new ts ping ≡ true
     new = not_from_false (list_any (λ u. str_eq_ignore_ascii_case ping_id (id_of u)) ts)
         (false_from_ne_true (list_any (λ u. str_eq_ignore_ascii_case ping_id (id_of u)) ts)
-          (λ there. both_ways (list_any (has_id ping_id) ts) (none_any (has_id ping_id) ts none)
-            (any_both (λ u. str_eq_ignore_ascii_case ping_id (id_of u)) is_own (has_id ping_id) ts own_like there own)))
+        (λ there. both_ways (list_any (has_id ping_id) ts) (none_any (has_id ping_id) ts none)
+        (any_both (λ u. str_eq_ignore_ascii_case ping_id (id_of u)) is_own (has_id ping_id) ts own_like there own)))

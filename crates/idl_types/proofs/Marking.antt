@@ -1,5 +1,5 @@
 -- Bits as marks.
-use Rattle.std.proofs.Common.{◌≡◌, ℕ, ◌+◌, ◌*◌, ◌/◌, ◌%◌, ◌^◌, ◌<◌, ◌≤◌, Bool, true, false, eqb, ◌||◌, List, length, get_or, replicate, inl, inr, sym, refl, ap, ◌∙◌, subst, arith}
+use Rattle.std.proofs.Common.{◌≡◌, ℕ, ◌*◌, ◌/◌, ◌%◌, ◌^◌, ◌<◌, Bool, false, ◌||◌, List, length, get_or, replicate, inl, inr, sym, ap, ◌∙◌, arith}
 use Rattle.std.specs.Prelude.{◌==◌, slice_set, bit_or}
 use Rattle.std.specs.List.{slice_index_or}
 use Rattle.std.specs.Int.{w64, bit_at}
@@ -13,7 +13,7 @@ use Rattle.idl_types.specs.Marked.{is_marked}
 no_word : (m i : ℕ) → ◌≡◌ {A = ℕ} (get_or (replicate m 0) i 0) 0
 no_word m i = elim (cases_lt i m) [
   | inl h ↦ get_or-replicate m i 0 0 h
-  | inr h ↦ get_or-eq_default (replicate m 0) 0 {n = i} (omega (arith, length-replicate m 0))
+  | inr h ↦ get_or-eq_default (replicate m 0) 0 {n = i} (omega (arith, length-replicate {A = ℕ} m 0))
 ]
 
 pub unmarked : (m n : ℕ) → is_marked (replicate m 0) n ≡ false

@@ -1,5 +1,5 @@
 -- Names that differ are kept in their order.
-use Rattle.std.proofs.Common.{◌≡◌, ℕ, suc, zero, Bool, true, false, not, ◌&&◌, ◌||◌, List, [], ◌∷◌, ◌++◌, map, take, Some, refl, sym, ap, ◌∙◌, subst}
+use Rattle.std.proofs.Common.{◌≡◌, ℕ, suc, zero, Bool, true, false, not, List, [], ◌∷◌, ◌++◌, map, take, Some, refl, sym, ap, ◌∙◌}
 use Rattle.std.specs.Prelude.{slice_get, Vec, if◌then◌else◌}
 use Rattle.std.specs.List.{list_any}
 use Rattle.std.specs.Str.{bytes_eq}
@@ -43,5 +43,5 @@ name_new (p ∷ ps) (suc i) o at all =
     let ns = operation_names (map operation_of ps) in
     let parts = and_parts (not (list_any (λ y. bytes_eq y p.name) ns)) (differ bytes_eq ns) all in
     or_from (bytes_eq o.name p.name) (list_any (bytes_eq o.name) (operation_names (map operation_of (take i ps))))
-      (false_from_ne_true (bytes_eq o.name p.name) (λ same. both_ways (list_any (λ y. bytes_eq y p.name) ns) (not-true (list_any (λ y. bytes_eq y p.name) ns) parts.0) (name_there p.name ps i o at same)))
-      (name_new ps i o at parts.1)
+    (false_from_ne_true (bytes_eq o.name p.name) (λ same. both_ways (list_any (λ y. bytes_eq y p.name) ns) (not-true (list_any (λ y. bytes_eq y p.name) ns) parts.0) (name_there p.name ps i o at same)))
+    (name_new ps i o at parts.1)

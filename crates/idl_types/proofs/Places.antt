@@ -1,18 +1,16 @@
 -- Places and finds in lists, and in lists of views.
-use Rattle.std.proofs.Common.{◌≡◌, ℕ, ◌+◌, ◌<◌, ◌≤◌, suc, zero, Bool, true, false, cond, not, ltb, eqb, ◌&&◌, ◌||◌, List, [], ◌∷◌, ◌++◌, length, map, drop, Option, Some, None, inl, inr, ◌⊎◌, sym, refl, ap, ◌∙◌, subst, arith}
-use Rattle.std.specs.Prelude.{slice_get, position, find, Vec}
+use Rattle.std.proofs.Common.{◌≡◌, ℕ, ◌+◌, suc, Bool, true, false, cond, not, ltb, ◌||◌, List, [], ◌∷◌, ◌++◌, length, map, Option, Some, None, inl, inr, sym, refl, ap, ◌∙◌, subst, arith}
+use Rattle.std.specs.Prelude.{slice_get, position, find, Vec, is_some}
 use Rattle.std.specs.Option.{option_map}
 use Rattle.std.specs.List.{position_or_len, prefix_len, list_any, list_all}
 use Rattle.std.specs.Str.{bytes_eq}
 use Rattle.std.specs.Map.{keys_of}
 use Rattle.std.specs.declared.alloc.Global.{Global}
-use Rattle.std.proofs.lemmas.Option.{slice_get_past, slice_get-map, get_or_from_slice_get, slice_get_cases, cond_some, none-some, same_Some}
+use Rattle.std.proofs.lemmas.Option.{slice_get_past, slice_get_cases, cond_some, none-some}
 use Rattle.std.proofs.lemmas.List.Quantifiers.{position-Some}
 use Rattle.std.proofs.lemmas.List.Folds.{find_at}
 use Rattle.std.proofs.lemmas.Bool.{ltb-true, ltb-false, lt-ltb, le-ltb, cases_Bool, cases_lt, and_parts, or_cases, or_left, or_right, or_from, both_ways}
-use Rattle.idl_types.specs.declared.operation.Operation.{Operation}
 use Rattle.idl_types.specs.Things.{OperationView, Thing, id_of}
-use Rattle.idl_types.specs.Views.{operation_of}
 use Rattle.idl_types.specs.Finding.{has_id, has_name, place_named, thing_named}
 use Rattle.idl_types.specs.Names.{names_in, operation_names}
 use Rattle.idl_types.specs.Entries.{Entry, AreKeyed, entry_things}
@@ -67,6 +65,10 @@ module _ {X : Type 0} (p : X → Bool) where
     | inr f ↦ position_later x (xs ++ ys) f ∙ front_on (position p xs) (position p (xs ++ ys)) i (λ j is. position_front xs ys j is) (sym (position_later x xs f) ∙ e)
   ]
 
+pub none_of : {X : Type 0} (o : Option X) → is_some o ≡ false → o ≡ None
+none_of None e = refl
+none_of (Some x) e = absurd (both_ways true e refl)
+
 -- a list without a place has no element that passes
 later_none : (o : Option ℕ) → option_map suc o ≡ None → o ≡ None
 later_none None e = refl
@@ -78,12 +80,6 @@ none_any p (x ∷ xs) e = elim (cases_Bool (p x)) [
   | inl t ↦ absurd (none-some 0 (sym e ∙ position_here p x xs t))
   | inr f ↦ or_from (p x) (list_any p xs) f (none_any p xs (later_none (position p xs) (sym (position_later p x xs f) ∙ e)))
 ]
-
--- a list without its front, by its next element
-pub drop_at : {X : Type 0} (xs : List X) (i j : ℕ) (x : X) → slice_get xs i ≡ Some x → j ≡ suc i → drop i xs ≡ x ∷ drop j xs
-drop_at [] i j x at is = absurd (none-some x at)
-drop_at (y ∷ ys) zero j x at is = ap (λ (z : X). z ∷ ys) (same_Some y x at) ∙ ap (λ (n : ℕ). x ∷ drop n (y ∷ ys)) (sym is)
-drop_at (y ∷ ys) (suc i) j x at is = drop_at ys i (suc i) x at refl ∙ ap (λ (n : ℕ). x ∷ drop n (y ∷ ys)) (sym is)
 
 -- a place in a list of views is the place in the list
 length_map : {X Y : Type 0} (f : X → Y) (xs : List X) → length (map f xs) ≡ length xs

@@ -19,21 +19,21 @@ module _ (step : ℕ → ℕ → Bool) where
   -- where the start alone is marked
   pub walk_starts : (start : ℕ) (marked : ℕ → Bool) → ((k : ℕ) → marked k ≡ ((start == k) || false)) → Walked step start (start + 1) marked
   walk_starts start marked is = record {
-      starts = is start ∙ or_left (start == start) false (eq-eqb start start refl);
-      sound = λ k m. record { path = []; trail = alone_at start marked is k m };
-      followed = λ a k low m s. absurd (omega (arith, alone_at start marked is a m, low))
-    }
+    starts = is start ∙ or_left (start == start) false (eq-eqb start start refl);
+    sound = λ k m. record { path = []; trail = alone_at start marked is k m };
+    followed = λ a k low m s. absurd (omega (arith, alone_at start marked is a m, low));
+  }
 
   -- where a number isn't marked, there is nothing to follow
   pub walk_past : (start at : ℕ) (marked : ℕ → Bool) → Walked step start (at + 1) marked → marked at ≡ false → Walked step start at marked
   walk_past start at marked w none = record {
-      starts = w.starts;
-      sound = w.sound;
-      followed = λ a k low m s. elim (cases_eq a at) [
-        | inl e ↦ absurd (both_ways (marked at) none (ap marked (sym e) ∙ m))
-        | inr e ↦ w.followed a k (omega (arith, low, e)) m s
-      ]
-    }
+    starts = w.starts;
+    sound = w.sound;
+    followed = λ a k low m s. elim (cases_eq a at) [
+      | inl e ↦ absurd (both_ways (marked at) none (ap marked (sym e) ∙ m))
+      | inr e ↦ w.followed a k (omega (arith, low, e)) m s
+    ];
+  }
 
   module _ (lower : (a k : ℕ) → step a k ≡ true → k < a) where
     below : (xs : List ℕ) (a b : ℕ) → Trail step a xs b → b ≤ a
@@ -56,10 +56,10 @@ module _ (step : ℕ → ℕ → Bool) where
     -- where a number is marked, all its steps are
     pub walk_on : (start at : ℕ) (old new : ℕ → Bool) → Walked step start (at + 1) old → old at ≡ true → ((k : ℕ) → new k ≡ (old k || step at k)) → Walked step start at new
     walk_on start at old new w here is = record {
-        starts = is start ∙ or_left (old start) (step at start) w.starts;
-        sound = λ k m. elim (or_cases (old k) (step at k) (sym (is k) ∙ m)) [ inl e ↦ w.sound k e | inr e ↦ reached_on start at k (w.sound at here) e ];
-        followed = λ a k low m s. elim (cases_eq a at) [
-          | inl e ↦ is k ∙ or_right (old k) (step at k) (ap (λ (z : ℕ). step z k) (sym e) ∙ s)
-          | inr e ↦ (let high : at < a = omega (arith, low, e) in is k ∙ or_left (old k) (step at k) (w.followed a k (omega (arith, high)) (earlier start at old new is a high m) s))
-        ]
-      }
+      starts = is start ∙ or_left (old start) (step at start) w.starts;
+      sound = λ k m. elim (or_cases (old k) (step at k) (sym (is k) ∙ m)) [ inl e ↦ w.sound k e | inr e ↦ reached_on start at k (w.sound at here) e ];
+      followed = λ a k low m s. elim (cases_eq a at) [
+        | inl e ↦ is k ∙ or_right (old k) (step at k) (ap (λ (z : ℕ). step z k) (sym e) ∙ s)
+        | inr e ↦ (let high : at < a = omega (arith, low, e) in is k ∙ or_left (old k) (step at k) (w.followed a k (omega (arith, high)) (earlier start at old new is a high m) s))
+      ];
+    }

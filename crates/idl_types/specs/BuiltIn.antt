@@ -1,5 +1,5 @@
 -- The built-in module (own profile): module Orb { interface Ping { short current(); string echo(in string text); oneway void note(); }; };
-use Rattle.std.specs.Prelude.{Bool, true, false, List, [], ◌∷◌, ◌++◌, Some, None, is_some, codes, if◌then◌else◌}
+use Rattle.std.specs.Prelude.{true, false, List, [], ◌∷◌, ◌++◌, Some, None, is_some, codes, if◌then◌else◌}
 use Rattle.cdr_values.specs.Trees.{size2, scalar, signed, words}
 use Rattle.idl_types.specs.declared.way.Way.TheVariants as way
 use Rattle.idl_types.specs.Things.{ParamView, OperationView, Thing, interface}

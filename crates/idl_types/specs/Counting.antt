@@ -1,7 +1,7 @@
 -- Leaves and levels of types, which are limited (own profile).
-use Rattle.std.specs.Prelude.{ℕ, ◌+◌, ◌*◌, max, List, Option, Some, None, map, sum_by}
+use Rattle.std.specs.Prelude.{ℕ, ◌+◌, ◌*◌, max, Option, Some, None, sum_by}
 use Rattle.cdr_values.specs.Trees.{Kind, scalar, words, sequence, array, structure, union, Members, no_members, member, members_of, Cases, no_cases, case}
-use Rattle.idl_types.specs.Things.{ParamView, OperationView, Thing, constant, named, exception, interface}
+use Rattle.idl_types.specs.Things.{OperationView, Thing, constant, named, exception, interface}
 
 -- how many leaves a type has: a primitive, enum or string is one, a sequence has one more than its element, an array its
 -- element's as often as its length says, and a union one more than its cases

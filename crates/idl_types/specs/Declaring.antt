@@ -1,7 +1,7 @@
 -- What a repository takes as one more thing.
-use Rattle.std.specs.Prelude.{◌+◌, ◌&&◌, ◌||◌, not, nat_le, Bool, List}
+use Rattle.std.specs.Prelude.{◌+◌, ◌&&◌, not, nat_le, Bool, List}
 use Rattle.std.specs.List.{list_any}
-use Rattle.std.specs.Str.{bytes_eq, str_eq_ignore_ascii_case}
+use Rattle.std.specs.Str.{str_eq_ignore_ascii_case}
 use Rattle.idl_types.specs.Things.{Thing, id_of}
 use Rattle.idl_types.specs.Sound.{is_sound_thing, is_reserved, is_own, has_bases_in, counted_leaves, file_leaves, most_file_leaves}
 

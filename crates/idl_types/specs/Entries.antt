@@ -3,7 +3,6 @@ use Rattle.std.specs.Prelude.{◌≡◌, ℕ, List, [], ◌∷◌, ◌++◌, map
 use Rattle.std.specs.declared.alloc.Global.{Global}
 use Rattle.orb_base.specs.declared.no_memory.NoMemory.{NoMemory}
 use Rattle.cdr_values.specs.Trees.{Name}
-use Rattle.idl_types.specs.declared.declaration.Declaration.{Declaration}
 use Rattle.idl_types.specs.declared.held.Held.{Held}
 use Rattle.idl_types.specs.Things.{Thing, id_of}
 use Rattle.idl_types.specs.Views.{thing_of}

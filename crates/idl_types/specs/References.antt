@@ -1,11 +1,11 @@
 -- References to types inside a repository, in place of copies (own profile).
-use Rattle.std.specs.Prelude.{ℕ, zero, suc, List, [], ◌∷◌, Option, Some, None, map, slice_get}
+use Rattle.std.specs.Prelude.{ℕ, zero, suc, List, Option, Some, None, slice_get}
 use Rattle.std.specs.Option.{option_map, option_and_then}
-use Rattle.cdr_values.specs.Trees.{Kind, scalar, words, sequence, array, structure, union, Members, no_members, member}
+use Rattle.cdr_values.specs.Trees.{Kind, sequence, array, structure, Members, no_members, member}
 use Rattle.idl_types.specs.declared.type_ref.Part.{Part}
 use Rattle.idl_types.specs.declared.type_ref.Part.TheVariants.{Whole, Member, Outcome, Parameter}
 use Rattle.idl_types.specs.declared.type_ref.TypeRef.{TypeRef}
-use Rattle.idl_types.specs.Things.{OperationView, Thing, constant, named, exception, interface}
+use Rattle.idl_types.specs.Things.{Thing, constant, named, exception, interface}
 
 -- the type of the member at an index
 abbrev pub member_kind : ℕ → Members → Option Kind

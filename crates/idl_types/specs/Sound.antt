@@ -1,10 +1,10 @@
 -- What a repository keeps (own profile where no section is named).
-use Rattle.std.specs.Prelude.{ℕ, ◌&&◌, ◌||◌, if◌then◌else◌, not, nat_le, nat_eq, Bool, true, false, List, [], ◌∷◌, ◌++◌, Option, Some, None, map, sum_by, codes}
-use Rattle.std.specs.List.{list_any, list_all, starts_with}
+use Rattle.std.specs.Prelude.{ℕ, ◌&&◌, ◌||◌, if◌then◌else◌, not, nat_le, nat_eq, Bool, true, List, [], ◌∷◌, ◌++◌, Option, Some, None, map, sum_by, codes}
+use Rattle.std.specs.List.{list_all, starts_with}
 use Rattle.std.specs.Str.{bytes_eq, str_eq_ignore_ascii_case, str_to_ascii_lowercase}
 use Rattle.cdr_values.specs.Trees.{Name, Kind, members_of}
-use Rattle.cdr_values.specs.Lawful.{differ, is_lawful, are_lawful, member_names}
-use Rattle.idl_types.specs.Things.{ParamView, OperationView, Thing, constant, named, exception, interface, id_of, bases_of}
+use Rattle.cdr_values.specs.Lawful.{differ, is_lawful, are_lawful}
+use Rattle.idl_types.specs.Things.{OperationView, Thing, constant, named, exception, interface, id_of, bases_of}
 use Rattle.idl_types.specs.Counting.{leaves_of, leaves_of_members, levels_of, levels_of_members, thing_leaves}
 use Rattle.idl_types.specs.Finding.{is_interface}
 
@@ -41,7 +41,7 @@ is_sound_operation o = is_sound_result o.result && (list_all (λ p. is_sound_typ
 abbrev pub are_sound_members : List (Name × Kind) → Bool
 are_sound_members ms =
     are_lawful (members_of ms) && (differ bytes_eq (map (λ m. m.0) ms)
-      && (nat_le (leaves_of_members (members_of ms)) most_leaves && nat_le (levels_of_members (members_of ms)) most_levels))
+    && (nat_le (leaves_of_members (members_of ms)) most_leaves && nat_le (levels_of_members (members_of ms)) most_levels))
 
 -- whether the types of a thing are sound, and the names in it told apart: two inherited operations may differ in case alone
 abbrev pub is_sound_thing : Thing → Bool

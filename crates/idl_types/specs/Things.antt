@@ -1,5 +1,5 @@
 -- What an IDL file declares, as plain data: CORBA 3.0.3, chapter 3.
-use Rattle.std.specs.Prelude.{ℕ, Bool, List, [], Option}
+use Rattle.std.specs.Prelude.{Bool, List, [], Option}
 use Rattle.cdr_values.specs.Trees.{Name, Names, Kind, Value}
 use Rattle.idl_types.specs.declared.way.Way.{Way}
 

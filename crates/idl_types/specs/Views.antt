@@ -1,5 +1,5 @@
 -- The plain things that declarations stand for.
-use Rattle.std.specs.Prelude.{List, map}
+use Rattle.std.specs.Prelude.{map}
 use Rattle.std.specs.Option.{option_map}
 use Rattle.cdr_values.specs.Kinds.{kind_of, members_view}
 use Rattle.cdr_values.specs.Values.{value_of}

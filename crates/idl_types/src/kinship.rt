@@ -21,7 +21,10 @@ impl Repository {
         if !self.has_interface(id) {
             return false;
         }
-        is_object(base) || self.descends(id, base)
+        if is_object(base) {
+            return true;
+        }
+        self.descends(id, base)
     }
 
     /// Whether there is an interface of an id.

@@ -1,7 +1,8 @@
 //! References to types inside a repository.
 ghost use Rattle.std.specs.Prelude.{◌≡◌, map, slice_get};
 ghost use Rattle.std.specs.Option.{option_copied, option_map, option_and_then};
-ghost Rattle.cdr_values.specs.Kinds.{kind_of, members_view};
+ghost use Rattle.cdr_values.specs.Trees.{members_of};
+ghost use Rattle.cdr_values.specs.Kinds.{kind_of, members_view};
 ghost use Rattle.idl_types.specs.Views.{thing_of, operation_of, param_of};
 ghost use Rattle.idl_types.specs.References.{element_kind, part_kind, member_kind, members_in};
 
@@ -74,13 +75,19 @@ fn member_type(declaration: &Declaration, at: usize) -> Option<&IdlType>
     }
 }
 
-#[tactic(auto, using(crate::proofs::Parts::member_by_place))]
 fn struct_member(kind: &IdlType, at: usize) -> Option<&IdlType>
     ensures { option_map kind_of (option_copied result) ≡ member_kind at (members_in (kind_of kind.now)) }
 {
+    member_at(struct_members(kind), at)
+}
+
+/// The members of a struct.
+fn struct_members(kind: &IdlType) -> &[Member]
+    ensures { members_of (members_view result.now) ≡ members_in (kind_of kind.now) }
+{
     match kind {
-        IdlType::Struct(_, members) => member_at(members, at),
-        _ => None,
+        IdlType::Struct(_, members) => members.as_slice(),
+        _ => &[],
     }
 }
 

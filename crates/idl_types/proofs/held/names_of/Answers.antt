@@ -9,5 +9,5 @@ use Rattle.idl_types.proofs.held.names_of.Goals as goal
 pub put_name-requires : goal.put_name-requires
 put_name-requires c =
     ap (λ (n : List ℕ). list_any (bytes_eq n) (names_in c.loop-operation.names.keys)) c.as_slice.ensures.bytes
-      ∙ ap (λ (ns : List (List ℕ)). list_any (bytes_eq c.operation-item.result.name) ns) c.loop-operation.invariant
-      ∙ name_new c.args.operations.now c.loop-operation.operation-index c.operation-item.result (search (slice_get_read, rules)) c.requires
+    ∙ ap (λ (ns : List (List ℕ)). list_any (bytes_eq c.operation-item.result.name) ns) c.loop-operation.invariant
+    ∙ name_new c.args.operations.now c.loop-operation.operation-index c.operation-item.result (search (slice_get_read, rules)) c.requires

@@ -11,8 +11,8 @@ returns-in-Some c =
     let h = c.args.self.now in
     let os = operations_of (thing_of h.declaration) in
     c.operation_at.ensures
-      ∙ ap (λ (xs : List OperationView). slice_get xs c.in-Some.at) c.operations.ensures
-      ∙ sym (found_at (has_name c.args.name.now) os c.in-Some.at (sym (place_by_name c.args.name.now h.names.keys os h.indexed) ∙ sym c.in-Some.ensures.index))
+    ∙ ap (λ (xs : List OperationView). slice_get xs c.in-Some.at) c.operations.ensures
+    ∙ sym (found_at (has_name c.args.name.now) os c.in-Some.at (sym (place_by_name c.args.name.now h.names.keys os h.indexed) ∙ sym c.in-Some.ensures.index))
 
 pub returns-in-None : goal.returns-in-None
 returns-in-None c =
