@@ -1,8 +1,9 @@
 -- What a repository keeps goes on with one thing more.
-use Rattle.std.proofs.Common.{◌≡◌, Ok, Err, None, inl, inr, ℕ, ◌+◌, ◌<◌, ◌≤◌, Bool, true, false, not, ◌&&◌, ◌||◌, List, [], ◌∷◌, ◌++◌, length, map, refl, sym, ap, ◌∙◌, subst, arith, length-append, append_assoc}
-use Rattle.std.specs.Prelude.{Result, codes, nat_eq, Vec, if◌then◌else◌, nat_le}
-use Rattle.std.specs.List.{list_any, list_all, starts_with}
+use Rattle.std.proofs.Common.{◌≡◌, Ok, Err, None, inl, inr, ℕ, ◌+◌, ◌<◌, ◌≤◌, Bool, true, false, not, ◌&&◌, ◌||◌, List, [], ◌∷◌, ◌++◌, length, map, refl, sym, ap, ◌∙◌, subst, arith, length-append, append_assoc, take, zero, suc}
+use Rattle.std.specs.Prelude.{Result, IsOk, codes, Vec, if◌then◌else◌, nat_le, sum_by}
+use Rattle.std.specs.List.{list_any, list_all}
 use Rattle.std.specs.Map.{keys_of}
+use Rattle.std.specs.Char.{to_ascii_lowercase}
 use Rattle.std.specs.Str.{bytes_eq, str_eq_ignore_ascii_case, str_to_ascii_lowercase}
 use Rattle.std.specs.declared.alloc.Global.{Global}
 use Rattle.std.proofs.lemmas.List.{map-append}
@@ -15,10 +16,10 @@ use Rattle.indexmap.specs.IndexMap.{insert_entry}
 use Rattle.cdr_values.specs.Lawful.{differ}
 use Rattle.idl_types.specs.declared.held.Held.{Held}
 use Rattle.idl_types.specs.Things.{Thing, constant, named, exception, interface, id_of, operations_of}
-use Rattle.idl_types.specs.Names.{operation_names}
+use Rattle.idl_types.specs.Names.{names_in, operation_names}
 use Rattle.idl_types.specs.Sound.{is_sound_thing, is_sound_operation, is_reserved, ping_id, is_own, are_apart, has_bases_in, are_based, file_leaves, counted_leaves, most_file_leaves}
 use Rattle.idl_types.specs.Declaring.{is_new, may_hold}
-use Rattle.idl_types.specs.Entries.{Entry, entry_thing, entry_things, AreKeyed, InsertsBehind}
+use Rattle.idl_types.specs.Entries.{Entry, entry_thing, entry_things, AreKeyed, AreFolded, InsertsBehind, PutsBehind, SetsLeft}
 use Rattle.idl_types.specs.BuiltIn.{ping}
 use Rattle.idl_types.specs.Finding.{has_id, place_named}
 use Rattle.idl_types.proofs.Places.{any_map, any_more, none_any}
@@ -96,11 +97,8 @@ module _ (ts : List Thing) (t : Thing) where
   pub own_on : list_all is_own ts ≡ true → Fresh ts t → list_all is_own (ts ++ t ∷ []) ≡ true
   own_on own f = all_on is_own own f.own
 
-  pub leaves_on : Fresh ts t → file_leaves (ts ++ t ∷ []) ≤ most_file_leaves
-  leaves_on f = omega (arith, f.leaves, sum_by-append counted_leaves ts (t ∷ []))
-
 -- names that are apart, with one more that differs from each
-differ_on : (same : List ℕ → List ℕ → Bool) (ns : List (List ℕ)) (n : List ℕ) → ((a b : List ℕ) → same a b ≡ true → same b a ≡ true) → differ same ns ≡ true
+pub differ_on : (same : List ℕ → List ℕ → Bool) (ns : List (List ℕ)) (n : List ℕ) → ((a b : List ℕ) → same a b ≡ true → same b a ≡ true) → differ same ns ≡ true
     → list_any (same n) ns ≡ false → differ same (ns ++ n ∷ []) ≡ true
 differ_on same [] n both all new = refl
 differ_on same (m ∷ ns) n both all new =
@@ -135,18 +133,25 @@ based_behind before (u ∷ us) t all one =
 pub based_on : (ts : List Thing) (t : Thing) → are_based [] ts ≡ true → Fresh ts t → are_based [] (ts ++ t ∷ []) ≡ true
 based_on ts t all f = based_behind [] ts t all f.based
 
--- what the entries keep
-pub record Kept (es : List Entry) : Type 0 where
+-- what the entries and the names in lower case keep
+pub record Kept (es : List Entry) (ns : List (Vec ℕ Global)) : Type 0 where
   pub keyed : AreKeyed es
   pub room : length es ≤ 524288
   pub each : list_all is_sound_thing (entry_things es) ≡ true
   pub ids : are_apart (map id_of (entry_things es)) ≡ true
   pub based : are_based [] (entry_things es) ≡ true
   pub own : list_all is_own (entry_things es) ≡ true
-  pub leaves : file_leaves (entry_things es) ≤ most_file_leaves
+  pub by_case : AreFolded ns es
 
-kept_on : (es : List Entry) (e : Entry) → Kept es → length es < 524288 → e.0.items ≡ id_of (entry_thing e) → Fresh (entry_things es) (entry_thing e) → Kept (es ++ e ∷ [])
-kept_on es e k room key f =
+folded_on : (es : List Entry) (e : Entry) (ns more : List (Vec ℕ Global)) (low : List ℕ) → AreFolded ns es → low ≡ str_to_ascii_lowercase (id_of (entry_thing e))
+    → names_in more ≡ names_in ns ++ low ∷ [] → AreFolded more (es ++ e ∷ [])
+folded_on es e ns more low old is new =
+    new ∙ ap (λ (xs : List (List ℕ)). xs ++ low ∷ []) old ∙ ap (λ (l : List ℕ). map (λ (x : Entry). str_to_ascii_lowercase (id_of (entry_thing x))) es ++ l ∷ []) is
+    ∙ sym (map-append (λ (x : Entry). str_to_ascii_lowercase (id_of (entry_thing x))) es (e ∷ []))
+
+kept_on : (es : List Entry) (e : Entry) (ns more : List (Vec ℕ Global)) (low : List ℕ) → Kept es ns → length es < 524288 → e.0.items ≡ id_of (entry_thing e)
+    → low ≡ str_to_ascii_lowercase (id_of (entry_thing e)) → names_in more ≡ names_in ns ++ low ∷ [] → Fresh (entry_things es) (entry_thing e) → Kept (es ++ e ∷ []) more
+kept_on es e ns more low k room key is new f =
     let ts = entry_things es in
     let t = entry_thing e in
     record {
@@ -156,21 +161,53 @@ kept_on es e k room key f =
       ids = ap (λ (xs : List Thing). are_apart (map id_of xs)) (things_on es e) ∙ ids_on ts t k.ids f;
       based = ap (are_based []) (things_on es e) ∙ based_on ts t k.based f;
       own = ap (list_all is_own) (things_on es e) ∙ own_on ts t k.own f;
-      leaves = subst (λ (xs : List Thing). file_leaves xs ≤ most_file_leaves) (sym (things_on es e)) (leaves_on ts t f);
+      by_case = folded_on es e ns more low k.by_case is new;
     }
 
+kept_same : (es : List Entry) (ns more : List (Vec ℕ Global)) → Kept es ns → names_in more ≡ names_in ns → Kept es more
+kept_same es ns more k is = record { keyed = k.keyed; room = k.room; each = k.each; ids = k.ids; based = k.based; own = k.own; by_case = is ∙ k.by_case }
+
 -- the entries go on keeping it, whether or not the entry was put behind them
-pub kept_after : (r : Result (Unit {0}) NoMemory) (es new : List Entry) (e : Entry) → InsertsBehind r es e new
-    → Kept es → length es < 524288 → e.0.items ≡ id_of (entry_thing e) → Fresh (entry_things es) (entry_thing e) → Kept new
-kept_after (Ok u) es new e is k room key f = subst Kept (sym is) (kept_on es e k room key f)
-kept_after (Err x) es new e is k room key f = subst Kept (sym is) k
+pub kept_after : (r : Result (Unit {0}) NoMemory) (es new : List Entry) (e : Entry) (ns more : List (Vec ℕ Global)) (low : List ℕ)
+    → InsertsBehind r es e new → PutsBehind r (names_in ns) low (names_in more)
+    → Kept es ns → length es < 524288 → e.0.items ≡ id_of (entry_thing e) → low ≡ str_to_ascii_lowercase (id_of (entry_thing e)) → Fresh (entry_things es) (entry_thing e) → Kept new more
+kept_after (Ok u) es new e ns more low is puts k room key folded f = subst (λ (xs : List Entry). Kept xs more) (sym is) (kept_on es e ns more low k room key folded puts f)
+kept_after (Err x) es new e ns more low is puts k room key folded f = subst (λ (xs : List Entry). Kept xs more) (sym is) (kept_same es ns more k puts)
+
+-- the leaves of one more
+pub counted_on : (es new : List Entry) (e : Entry) → new ≡ es ++ e ∷ [] → file_leaves (entry_things new) ≡ file_leaves (entry_things es) + counted_leaves (entry_thing e)
+counted_on es new e is =
+    let one : sum_by counted_leaves (entry_thing e ∷ []) ≡ counted_leaves (entry_thing e) = omega arith in
+    ap (λ (xs : List Entry). file_leaves (entry_things xs)) is ∙ ap file_leaves (things_on es e) ∙ sum_by-append counted_leaves (entry_things es) (entry_thing e ∷ [])
+    ∙ ap (λ (n : ℕ). file_leaves (entry_things es) + n) one
+
+-- the count goes on adding up
+pub counted_after : (r : Result (Unit {0}) NoMemory) (es new : List Entry) (e : Entry) (free left free' : ℕ) → InsertsBehind r es e new → SetsLeft r free left free'
+    → free + file_leaves (entry_things es) ≡ 1048576 → left + (file_leaves (entry_things es) + counted_leaves (entry_thing e)) ≡ 1048576 → free' + file_leaves (entry_things new) ≡ 1048576
+counted_after (Ok u) es new e free left free' is set old all = omega (arith, all, set, counted_on es new e is)
+counted_after (Err x) es new e free left free' is set old all = omega (arith, old, set, ap (λ (xs : List Entry). file_leaves (entry_things xs)) is)
+
+-- where it is known to be Ok
+pub ok_puts : (r : Result (Unit {0}) NoMemory) (ns : List (List ℕ)) (n : List ℕ) (new : List (List ℕ)) → IsOk r → new ≡ ns ++ n ∷ [] → PutsBehind r ns n new
+ok_puts (Ok u) ns n new ok is = is
+ok_puts (Err x) ns n new ok is = absurd (both_ways false refl ok)
+
+pub ok_sets : (r : Result (Unit {0}) NoMemory) (old n new : ℕ) → IsOk r → new ≡ n → SetsLeft r old n new
+ok_sets (Ok u) old n new ok is = is
+ok_sets (Err x) old n new ok is = absurd (both_ways false refl ok)
+
+take_map : (n : ℕ) (xs : List ℕ) → str_to_ascii_lowercase (take n xs) ≡ take n (str_to_ascii_lowercase xs)
+take_map zero xs = refl
+take_map (suc n) [] = refl
+take_map (suc n) (x ∷ xs) = ap (λ (ys : List ℕ). to_ascii_lowercase x ∷ ys) (take_map n xs)
 
 -- the built-in interface may be held where its id isn't there
 reserved_like : (n : List ℕ) → str_eq_ignore_ascii_case ping_id n ≡ true → is_reserved n ≡ true
 reserved_like n same =
     let e : str_to_ascii_lowercase ping_id ≡ str_to_ascii_lowercase n = (bytes_eq-Decides (str_to_ascii_lowercase ping_id) (str_to_ascii_lowercase n)).0 same in
-    or_left (starts_with nat_eq (str_to_ascii_lowercase n) (codes "idl:orb/")) (str_eq_ignore_ascii_case n (codes "IDL:Orb:1.0"))
-    (ap (λ (m : List ℕ). starts_with nat_eq m (codes "idl:orb/")) (sym e))
+    let front : str_to_ascii_lowercase (take 8 n) ≡ str_to_ascii_lowercase (codes "IDL:Orb/") = take_map 8 n ∙ ap (take 8) (sym e) in
+    or_left (str_eq_ignore_ascii_case (take 8 n) (codes "IDL:Orb/")) (str_eq_ignore_ascii_case n (codes "IDL:Orb:1.0"))
+    ((bytes_eq-Decides (str_to_ascii_lowercase (take 8 n)) (str_to_ascii_lowercase (codes "IDL:Orb/"))).1 front)
 
 own_like : (t : Thing) → str_eq_ignore_ascii_case ping_id (id_of t) ≡ true → is_own t ≡ true → has_id ping_id t ≡ true
 own_like t same own = ap (λ (b : Bool). not b || bytes_eq ping_id (id_of t)) (sym (reserved_like (id_of t) same)) ∙ own
@@ -183,6 +220,9 @@ any_both p q r (x ∷ xs) both any all =
       | inl t ↦ or_left (r x) (list_any r xs) (both x t a.0)
       | inr t ↦ or_right (r x) (list_any r xs) (any_both p q r xs both t a.1)
     ]
+
+pub ping_free : (t : Thing) → t ≡ ping → counted_leaves t ≡ 0
+ping_free t is = ap counted_leaves is
 
 pub ping_may : (ts : List Thing) (t : Thing) → t ≡ ping → place_named ts ping_id ≡ None → list_all is_own ts ≡ true → file_leaves ts ≤ most_file_leaves → may_hold ts t ≡ true
 ping_may ts t is none own leaves =

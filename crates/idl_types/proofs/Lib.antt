@@ -5,3 +5,6 @@ pub mod Holding
 pub mod Marking
 pub mod Walks
 pub mod Descent
+pub mod Budgets
+pub mod Judging
+pub mod NamesTold

@@ -23,7 +23,7 @@ put_behind eq ns n new = ap (λ (b : Bool). names_in (if b then ns else ns ++ n 
 pub not_kept : (name : List ℕ) (ns : List (Vec ℕ Global)) → list_any (bytes_eq name) (names_in ns) ≡ false → list_any (λ (v : Vec ℕ Global). bytes_eq name v.items) ns ≡ false
 not_kept name ns e = sym (any_map (bytes_eq name) (λ (v : Vec ℕ Global). v.items) ns) ∙ e
 
-same_both : (a b : List ℕ) → bytes_eq a b ≡ true → bytes_eq b a ≡ true
+pub same_both : (a b : List ℕ) → bytes_eq a b ≡ true → bytes_eq b a ≡ true
 same_both a b e = (bytes_eq-Decides b a).1 (sym ((bytes_eq-Decides a b).0 e))
 
 name_there : (n : List ℕ) (os : List Operation) (i : ℕ) (o : Operation) → slice_get os i ≡ Some o → bytes_eq o.name n ≡ true

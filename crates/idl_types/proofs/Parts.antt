@@ -1,11 +1,14 @@
 -- Members of structs and exceptions, by their index.
-use Rattle.std.proofs.Common.{◌≡◌, ℕ, suc, zero, List, [], ◌∷◌, Some, refl, ap}
-use Rattle.std.specs.Prelude.{slice_get}
+use Rattle.std.proofs.Common.{◌≡◌, ◌∙◌, ℕ, suc, zero, Bool, ◌||◌, List, [], ◌∷◌, Some, refl, ap}
+use Rattle.std.specs.Prelude.{map, slice_get}
 use Rattle.std.specs.Option.{option_map}
 use Rattle.cdr_values.specs.declared.kind.Member.{Member}
 use Rattle.cdr_values.specs.declared.kind.IdlType.TheFolds.{fold_out-Member}
 use Rattle.cdr_values.specs.Trees.{Kind, Branch, members_of}
 use Rattle.cdr_values.specs.Kinds.{kind_step, case_step, member_step, kind_of, member_of, members_view}
+use Rattle.std.specs.List.{list_any}
+use Rattle.idl_types.specs.declared.param.Param.{Param}
+use Rattle.idl_types.specs.Views.{param_of}
 use Rattle.idl_types.specs.References.{member_kind}
 
 kind_in : (m : Member) → (member_of m).1 ≡ kind_of m.kind
@@ -22,3 +25,16 @@ pub member_by_place : (ms : List (List ℕ × Kind)) (i : ℕ) → member_kind i
 member_by_place [] i = refl
 member_by_place (m ∷ ms) zero = refl
 member_by_place (m ∷ ms) (suc i) = member_by_place ms i
+
+name_in : (m : Member) → (member_of m).0 ≡ m.name
+name_in m = ap (λ (x : List ℕ × Kind). x.0) (fold_out-Member Kind Branch (List ℕ × Kind) kind_step case_step member_step m)
+
+-- a test of the names of members
+pub any_member : (p : List ℕ → Bool) (ms : List Member) → list_any p (map (λ m. m.0) (members_view ms)) ≡ list_any (λ (m : Member). p m.name) ms
+any_member p [] = refl
+any_member p (m ∷ ms) = ap (λ (n : List ℕ). p n || list_any p (map (λ m. m.0) (members_view ms))) (name_in m) ∙ ap (λ (b : Bool). p m.name || b) (any_member p ms)
+
+-- a test of the names of parameters
+pub any_param : (p : List ℕ → Bool) (ps : List Param) → list_any p (map (λ x. x.name) (map param_of ps)) ≡ list_any (λ (x : Param). p x.name) ps
+any_param p [] = refl
+any_param p (x ∷ xs) = ap (λ (b : Bool). p x.name || b) (any_param p xs)

@@ -9,7 +9,8 @@ use Rattle.std.specs.declared.alloc.Global.{Global}
 use Rattle.std.proofs.lemmas.Option.{slice_get_past, slice_get_cases, cond_some, none-some}
 use Rattle.std.proofs.lemmas.List.Quantifiers.{position-Some}
 use Rattle.std.proofs.lemmas.List.Folds.{find_at}
-use Rattle.std.proofs.lemmas.Bool.{ltb-true, ltb-false, lt-ltb, le-ltb, cases_Bool, cases_lt, and_parts, or_cases, or_left, or_right, or_from, both_ways}
+use Rattle.std.proofs.lemmas.Bool.{ltb-true, ltb-false, lt-ltb, le-ltb, cases_Bool, cases_lt, and_parts, or_cases, or_left, or_right, or_from, both_ways, false_from_ne_true}
+use Rattle.std.proofs.lemmas.Slice.Eq.{bytes_eq-Decides}
 use Rattle.idl_types.specs.Things.{OperationView, Thing, id_of}
 use Rattle.idl_types.specs.Finding.{has_id, has_name, place_named, thing_named}
 use Rattle.idl_types.specs.Names.{names_in, operation_names}
@@ -140,3 +141,8 @@ pub place_by_name : (name : List ℕ) (ns : List (Vec ℕ Global)) (os : List Op
     → position (λ n. bytes_eq name n.items) ns ≡ position (has_name name) os
 place_by_name name ns os same =
     sym (position_map (bytes_eq name) (λ n. n.items) ns) ∙ ap (position (bytes_eq name)) same ∙ position_map (bytes_eq name) (λ o. o.name) os
+
+-- a test that says whether two texts are the same
+pub test_is : (r : Bool) (xs ys : List ℕ) → (r ≡ true → xs ≡ ys) → (xs ≡ ys → r ≡ true) → r ≡ bytes_eq xs ys
+test_is true xs ys to from = sym ((bytes_eq-Decides xs ys).1 (to refl))
+test_is false xs ys to from = sym (false_from_ne_true (bytes_eq xs ys) (λ e. both_ways false refl (from ((bytes_eq-Decides xs ys).0 e))))

@@ -2,6 +2,7 @@ pub mod Things
 pub mod Views
 pub mod Finding
 pub mod Counting
+pub mod Budget
 pub mod Sound
 pub mod Bases
 pub mod Names

@@ -1,7 +1,7 @@
 -- What a repository keeps (own profile where no section is named).
-use Rattle.std.specs.Prelude.{ℕ, ◌&&◌, ◌||◌, if◌then◌else◌, not, nat_le, nat_eq, Bool, true, List, [], ◌∷◌, ◌++◌, Option, Some, None, map, sum_by, codes}
-use Rattle.std.specs.List.{list_all, starts_with}
-use Rattle.std.specs.Str.{bytes_eq, str_eq_ignore_ascii_case, str_to_ascii_lowercase}
+use Rattle.std.specs.Prelude.{ℕ, ◌&&◌, ◌||◌, if◌then◌else◌, not, nat_le, take, Bool, true, List, [], ◌∷◌, ◌++◌, Option, Some, None, map, sum_by, codes}
+use Rattle.std.specs.List.{list_all}
+use Rattle.std.specs.Str.{bytes_eq, str_eq_ignore_ascii_case}
 use Rattle.cdr_values.specs.Trees.{Name, Kind, members_of}
 use Rattle.cdr_values.specs.Lawful.{differ, is_lawful, are_lawful}
 use Rattle.idl_types.specs.Things.{OperationView, Thing, constant, named, exception, interface, id_of, bases_of}
@@ -52,7 +52,7 @@ is_sound_thing (interface i) = list_all is_sound_operation i.operations && diffe
 
 -- whether an id stands in the module Orb at the file's scope, or is that module's, case aside
 abbrev pub is_reserved : Name → Bool
-is_reserved id = starts_with nat_eq (str_to_ascii_lowercase id) (codes "idl:orb/") || str_eq_ignore_ascii_case id (codes "IDL:Orb:1.0")
+is_reserved id = str_eq_ignore_ascii_case (take 8 id) (codes "IDL:Orb/") || str_eq_ignore_ascii_case id (codes "IDL:Orb:1.0")
 
 -- the id of the built-in interface
 abbrev pub ping_id : Name

@@ -28,7 +28,7 @@ impl Repository {
     }
 
     /// Whether there is an interface of an id.
-    fn has_interface(&self, id: &[u8]) -> bool
+    pub(crate) fn has_interface(&self, id: &[u8]) -> bool
         ensures { result ≡ is_interface (things_of self.now) id.now }
     {
         self.interface(id).is_some()

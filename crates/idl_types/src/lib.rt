@@ -7,15 +7,19 @@
 mod constant;
 mod declaration;
 mod exception;
+mod folding;
 mod held;
 mod interface;
 mod kinship;
+mod leaves;
+mod levels;
 mod marks;
 mod named_type;
 mod operation;
 mod param;
 mod ping;
 mod repository;
+mod soundness;
 mod type_ref;
 mod way;
 

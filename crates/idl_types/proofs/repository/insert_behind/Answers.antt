@@ -5,5 +5,5 @@ use Rattle.std.specs.declared.alloc.Global.{Global}
 use Rattle.idl_types.proofs.Holding.{insert_behind_is}
 use Rattle.idl_types.proofs.repository.insert_behind.Goals as goal
 
-pub returns : goal.returns
-returns c = c.in_ok-insert.ensures.entries ∙ insert_behind_is (λ (a b : Vec ℕ Global). bytes_eq a.items b.items) c.args.key c.args.held c.args.declared.now.entries c.requires
+pub returns-clause-entries : goal.returns-clause-entries
+returns-clause-entries c = c.in_ok-insert.ensures.entries ∙ insert_behind_is (λ (a b : Vec ℕ Global). bytes_eq a.items b.items) c.args.key c.args.held c.args.declared.now.entries c.requires
