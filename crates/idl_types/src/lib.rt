@@ -33,3 +33,6 @@ pub use param::Param;
 pub use repository::Repository;
 pub use type_ref::{Part, TypeRef};
 pub use way::Way;
+
+#[cfg(test)]
+mod tests;
