@@ -131,21 +131,42 @@ fn put(repository: &mut Repository, declaration: Declaration) -> Result<bool, No
     Ok(true)
 }
 
+fn put_interface(
+    alloc: Global,
+    repository: &mut Repository,
+    id: &[u8],
+    bases: &[&[u8]],
+    names: &[&[u8]],
+) -> Result<bool, NoMemory> {
+    let interface = interface(alloc, id, bases, names)?;
+    put(repository, interface)
+}
+
 #[test]
 fn bases_lead_in_a_diamond(rt: HostRuntime) -> Result<(), Fail> {
     let alloc = rt.alloc();
     let mut repository = Repository::new(alloc);
-    let rows: [(&[u8], &[&[u8]], &[&[u8]]); 5] = [
-        (TOP, &[], &[b"hear"]),
-        (LEFT, &[TOP], &[b"hear", b"_get_a", b"_set_a"]),
-        (RIGHT, &[TOP], &[b"hear"]),
-        (BOTTOM, &[LEFT, RIGHT], &[b"hear", b"_get_a", b"_set_a"]),
-        (ALONE, &[], &[b"_get_b"]),
-    ];
-    for (id, bases, names) in rows {
-        let interface = interface(alloc, id, bases, names)?;
-        assert!(rt; put(&mut repository, interface)?);
-    }
+    assert!(rt; put_interface(alloc, &mut repository, TOP, &[], &[b"hear"])?);
+    assert!(rt;
+        put_interface(
+            alloc,
+            &mut repository,
+            LEFT,
+            &[TOP],
+            &[b"hear", b"_get_a", b"_set_a"]
+        )?
+    );
+    assert!(rt; put_interface(alloc, &mut repository, RIGHT, &[TOP], &[b"hear"])?);
+    assert!(rt;
+        put_interface(
+            alloc,
+            &mut repository,
+            BOTTOM,
+            &[LEFT, RIGHT],
+            &[b"hear", b"_get_a", b"_set_a"]
+        )?
+    );
+    assert!(rt; put_interface(alloc, &mut repository, ALONE, &[], &[b"_get_b"])?);
     // An interface, what it may be an interface of, and whether it is.
     let rows: [(&[u8], &[u8], bool); 11] = [
         (BOTTOM, TOP, true),
@@ -220,17 +241,35 @@ fn what_would_break_a_promise_is_not_taken(rt: HostRuntime) -> Result<(), Fail> 
         let declaration = named(alloc, id, kind_of(alloc, sample)?)?;
         assert_eq!(rt; put(&mut repository, declaration)?, want, "{id:?}");
     }
-    // An id, bases, names of operations, and whether that interface is taken.
-    let rows: [(&[u8], &[&[u8]], &[&[u8]], bool); 4] = [
-        (b"IDL:M/I:1.0", &[b"IDL:M/A:1.0"], &[], false),
-        (b"IDL:M/I:1.0", &[], &[b"f", b"F"], true),
-        (b"IDL:M/J:1.0", &[b"IDL:M/I:1.0"], &[b"f", b"f"], false),
-        (b"IDL:M/J:1.0", &[b"IDL:M/I:1.0"], &[b"f", b"F"], true),
-    ];
-    for (id, bases, names, want) in rows {
-        let interface = interface(alloc, id, bases, names)?;
-        assert_eq!(rt; put(&mut repository, interface)?, want, "{id:?}");
-    }
+    // A base must be an interface; two operations may differ in case alone, but not have one name.
+    assert!(rt;
+        !put_interface(
+            alloc,
+            &mut repository,
+            b"IDL:M/I:1.0",
+            &[b"IDL:M/A:1.0"],
+            &[]
+        )?
+    );
+    assert!(rt; put_interface(alloc, &mut repository, b"IDL:M/I:1.0", &[], &[b"f", b"F"])?);
+    assert!(rt;
+        !put_interface(
+            alloc,
+            &mut repository,
+            b"IDL:M/J:1.0",
+            &[b"IDL:M/I:1.0"],
+            &[b"f", b"f"]
+        )?
+    );
+    assert!(rt;
+        put_interface(
+            alloc,
+            &mut repository,
+            b"IDL:M/J:1.0",
+            &[b"IDL:M/I:1.0"],
+            &[b"f", b"F"]
+        )?
+    );
     assert_eq!(rt; repository.len(), 5);
     assert_eq!(rt; repository.place_of(b"IDL:Orbs:1.0"), Some(2));
     Ok(())
