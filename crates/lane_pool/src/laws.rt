@@ -1,0 +1,16 @@
+//! What holds whenever nobody has the turn. The bodies are empty: each contract is a law of the definitions.
+ghost use Rattle.std.specs.Prelude.{◌≡◌};
+ghost use Rattle.turn_cell.specs.declared.board.Terms.{Terms};
+ghost use Rattle.turn_cell.specs.Good.{Good};
+ghost use Rattle.lane_machine.specs.State.{State, Opens};
+ghost use Rattle.lane_machine.specs.Machine.{step};
+ghost use Rattle.lane_machine.specs.Readiness.{is_ready, IsSound};
+ghost use Rattle.lane_machine.specs.Callers.{IsFit};
+ghost use Rattle.lane_machine.specs.Histories.{History, replay};
+ghost use Rattle.lane_pool.specs.Limits.{KeepsLimits};
+
+/// Behind what a pass sees, and behind the history that a pool gives at its end, the limits of the lane machine are kept.
+pub fn limits_are_kept()
+    ensures { (terms : Terms State) (h : History) → Good is_ready IsSound step Opens IsFit terms h
+        → KeepsLimits terms.opening (replay terms.opening h) }
+{}
