@@ -2,10 +2,10 @@ use Rattle.std.proofs.Common.{◌∷◌, ◌++◌, []}
 use Rattle.std.proofs.lemmas.Result.{err_from_is_err_and}
 use Rattle.std.specs.Int.{w8, w32}
 use Rattle.cdr_core.specs.Field.{number, run, string_fields}
-use Rattle.cdr_core.proofs.CallerLemmas.{puts_then, puts_first}
+use Rattle.cdr_core.proofs.CallerLemmas.{written_both, front_then, puts_then, puts_first}
 use Rattle.giop_messages.specs.Layout.{target_fields, contexts_fields, body_fields}
 use Rattle.giop_messages.specs.TargetView.{target_of}
-use Rattle.giop_messages.proofs.PutLaws.{written_both, front_then, room_first, room_between, text_fits}
+use Rattle.giop_messages.proofs.PutLaws.{room_first, room_between, text_fits}
 use Rattle.giop_messages.proofs.write.put_request.Goals as goal
 
 pub returns-in_err-put_request_head : goal.returns-in_err-put_request_head
