@@ -7,7 +7,7 @@ use Rattle.cdr_values.specs.Trees.{Kind, Branch, cases_of}
 use Rattle.cdr_values.specs.Kinds.{kind_step, case_step, member_step, case_of, cases_view}
 use Rattle.cdr_values.specs.Choice.{has_label, branches, or_else, choose}
 
-branches_back : (bs : List Branch) → branches (cases_of bs) ≡ bs
+pub branches_back : (bs : List Branch) → branches (cases_of bs) ≡ bs
 branches_back [] = refl
 branches_back (b ∷ bs) = ap (λ (cs : List Branch). b ∷ cs) (branches_back bs)
 
@@ -22,10 +22,10 @@ prefix_len_map q p f same (x ∷ xs) = rw (same x, prefix_len_map q p f same xs)
 position_map : {X Y : Type 0} (q : Y → Bool) (p : X → Bool) (f : X → Y) → ((x : X) → q (f x) ≡ p x) → (xs : List X) → position q (map f xs) ≡ position p xs
 position_map q p f same xs = rw (length_map f xs, prefix_len_map (λ y. not (q y)) (λ x. not (p x)) f (λ x. ap not (same x)) xs) refl
 
-labels_of : (c : Case) → (case_of c).0 ≡ c.labels.items
+pub labels_of : (c : Case) → (case_of c).0 ≡ c.labels.items
 labels_of c = ap (λ (x : Branch). x.0) (fold_out-Case Kind Branch (List ℕ × Kind) kind_step case_step member_step c)
 
-default_of : (c : Case) → (case_of c).1 ≡ c.is_default
+pub default_of : (c : Case) → (case_of c).1 ≡ c.is_default
 default_of c = ap (λ (x : Branch). x.1) (fold_out-Case Kind Branch (List ℕ × Kind) kind_step case_step member_step c)
 
 at_labels : (z : ℤ) (cs : List Case) → position (λ (b : Branch). has_label z b.0) (branches (cases_of (cases_view cs))) ≡ position (λ (c : Case). has_label z c.labels.items) cs

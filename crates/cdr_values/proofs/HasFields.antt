@@ -8,9 +8,12 @@ use Rattle.std.specs.Int.{w32}
 use Rattle.cdr_values.specs.Trees.{Scalar, boolean, char, unsigned, signed, enumeration, Kind, scalar, words, sequence, array, structure, union, Members, no_members, member, Cases, no_cases, case, Value, truth, number, letter, text, items, chosen, label, Values, no_values, value, values_of, values_len, cases_of}
 use Rattle.cdr_values.specs.Numerals.{numeral, numeral_of, plain_field}
 use Rattle.cdr_values.specs.Spelling.{is_text, is_count, behind, both, one_field, number_field, tag_field, fields_of, fields_each, fields_members, fields_chosen}
-use Rattle.cdr_values.specs.Choice.{nth_kind, kind_at}
+use Rattle.cdr_values.specs.Choice.{choose, nth_kind, kind_at}
 use Rattle.cdr_values.specs.Kinds.{cases_view}
+use Rattle.cdr_values.specs.Values.{value_of, values_view}
 use Rattle.cdr_values.specs.declared.kind.Case.{Case}
+use Rattle.cdr_values.specs.declared.value.IdlValue.{IdlValue}
+use Rattle.std.proofs.lemmas.List.{length-map}
 
 -- the fields of a value of a scalar type are the field of its number
 pub plain_is : (s : Scalar) (v : Value) → one_field (plain_field (scalar s) v) ≡ fields_of v (scalar s)
@@ -72,6 +75,10 @@ pub len_of : (vs : List Value) → values_len (values_of vs) ≡ length vs
 len_of [] = refl
 len_of (v ∷ vs) = ap suc (len_of vs)
 
+-- as many elements as there are values
+pub so_many : (vs : List IdlValue) → values_len (values_of (values_view vs)) ≡ length vs
+so_many vs = len_of (values_view vs) ∙ length-map vs value_of
+
 behind_some : (front : List Field) (o : Option (List Field)) → is_some (behind front o) ≡ is_some o
 behind_some front (Some fs) = refl
 behind_some front None = refl
@@ -80,17 +87,22 @@ pub both_some : (a b : Option (List Field)) → is_some (both a b) ≡ (is_some 
 both_some None b = refl
 both_some (Some fs) b = behind_some fs b
 
-pub counted_fits : (vs : List Value) (k : Kind) (bound n : ℕ) → n ≡ length vs → is_count bound n ≡ true → is_some (fields_each (values_of vs) k) ≡ is_some (fields_of (items (values_of vs)) (sequence k bound))
-counted_fits vs k bound n len ok = rw (len_of vs, ← len, ok) (sym (behind_some (core.number w32 n ∷ []) (fields_each (values_of vs) k)))
+pub counted_fits : (vs : List IdlValue) (k : Kind) (bound : ℕ) → is_count bound (length vs) ≡ true
+    → is_some (fields_each (values_of (values_view vs)) k) ≡ is_some (fields_of (items (values_of (values_view vs))) (sequence k bound))
+counted_fits vs k bound ok =
+    rw (so_many vs, ok) (sym (behind_some (core.number w32 (length vs) ∷ []) (fields_each (values_of (values_view vs)) k)))
 
-pub uncounted : (vs : List Value) (k : Kind) (bound n : ℕ) → n ≡ length vs → is_count bound n ≡ false → false ≡ is_some (fields_of (items (values_of vs)) (sequence k bound))
-uncounted vs k bound n len bad = rw (len_of vs, ← len, bad) refl
+pub uncounted : (vs : List IdlValue) (k : Kind) (bound : ℕ) → is_count bound (length vs) ≡ false
+    → false ≡ is_some (fields_of (items (values_of (values_view vs))) (sequence k bound))
+uncounted vs k bound bad = rw (so_many vs, bad) refl
 
-pub full_fits : (vs : List Value) (k : Kind) (n : ℕ) → length vs ≡ n → is_some (fields_each (values_of vs) k) ≡ is_some (fields_of (items (values_of vs)) (array k n))
-full_fits vs k n len = rw (len_of vs, len, eq-eqb n n refl) refl
+pub full_fits : (vs : List IdlValue) (k : Kind) (n : ℕ) → length vs ≡ n
+    → is_some (fields_each (values_of (values_view vs)) k) ≡ is_some (fields_of (items (values_of (values_view vs))) (array k n))
+full_fits vs k n len = rw (so_many vs, len, eq-eqb n n refl) refl
 
-pub unfull : (vs : List Value) (k : Kind) (n : ℕ) → eqb (length vs) n ≡ false → false ≡ is_some (fields_of (items (values_of vs)) (array k n))
-unfull vs k n bad = rw (len_of vs, bad) refl
+pub unfull : (vs : List IdlValue) (k : Kind) (n : ℕ) → eqb (length vs) n ≡ false
+    → false ≡ is_some (fields_of (items (values_of (values_view vs))) (array k n))
+unfull vs k n bad = rw (so_many vs, bad) refl
 
 no_kind : (a : Option (List Field)) (o : Option Kind) → is_some (both a (fields_chosen no_values o)) ≡ (is_some a && is_none o)
 no_kind None o = refl
@@ -100,11 +112,33 @@ no_kind (Some fs) None = refl
 pub bare_fits : (f : Option Field) (o : Option Kind) → (is_some f && is_none o) ≡ is_some (both (one_field f) (fields_chosen no_values o))
 bare_fits f o = sym (no_kind (one_field f) o ∙ ap (λ (b : Bool). b && is_none o) (sym (one_some f)))
 
-pub untagged : (f : Option Field) (more : Option (List Field)) → is_some f ≡ false → false ≡ is_some (both (one_field f) more)
-untagged f more bad = rw (both_some (one_field f) more, ← one_some f, bad) refl
+-- a union's value without a member, whose number is one of its discriminator
+pub bare_number : (d : Kind) (cs : Cases) (z y : ℤ) (i : Option ℕ) (n r : Bool) → y ≡ z → n ≡ is_some (tag_field d y) → n ≡ true → i ≡ choose y cs
+    → r ≡ is_none (kind_at i cs) → r ≡ is_some (both (one_field (tag_field d z)) (fields_chosen no_values (kind_at (choose z cs) cs)))
+bare_number d cs z y i n r same tag ok index told =
+    let o = kind_at (choose z cs) cs in
+    let some : is_some (tag_field d z) ≡ true = rw (← same) (sym tag ∙ ok) in
+    let is : is_none o ≡ is_some (both (one_field (tag_field d z)) (fields_chosen no_values o))
+    = ap (λ (b : Bool). b && is_none o) (sym some) ∙ bare_fits (tag_field d z) o in
+    told ∙ rw (index, same) is
 
 pub tagged_fits : (f : Option Field) (more : Option (List Field)) → is_some f ≡ true → is_some more ≡ is_some (both (one_field f) more)
 tagged_fits f more ok = rw (both_some (one_field f) more, ← one_some f, ok) refl
+
+-- a union's value with a member, whose number is one of its discriminator
+pub with_number : (d : Kind) (cs : Cases) (v : Value) (z y : ℤ) (i : Option ℕ) (n r : Bool) → y ≡ z → n ≡ is_some (tag_field d y) → n ≡ true → i ≡ choose y cs
+    → r ≡ is_some (fields_chosen (value v no_values) (kind_at i cs)) → r ≡ is_some (both (one_field (tag_field d z)) (fields_chosen (value v no_values) (kind_at (choose z cs) cs)))
+with_number d cs v z y i n r same tag ok index told =
+    let some : is_some (tag_field d z) ≡ true = rw (← same) (sym tag ∙ ok) in
+    told ∙ rw (index, same) (tagged_fits (tag_field d z) (fields_chosen (value v no_values) (kind_at (choose z cs) cs)) some)
+
+pub untagged : (f : Option Field) (more : Option (List Field)) → is_some f ≡ false → false ≡ is_some (both (one_field f) more)
+untagged f more bad = rw (both_some (one_field f) more, ← one_some f, bad) refl
+
+-- whether a union's value fits is told of its number and its member
+pub union_fits : (name : List ℕ) (d : Kind) (cs : Cases) (z y : ℤ) (v : Value) (vs : Values) (r : Bool) → y ≡ z → v ≡ chosen z vs
+    → r ≡ is_some (both (one_field (tag_field d y)) (fields_chosen vs (kind_at (choose y cs) cs))) → r ≡ is_some (fields_of v (union name d cs))
+union_fits name d cs z y v vs r same is told = told ∙ rw (is, same) refl
 
 nth_there : (cs : List Case) (i : ℕ) → i < length cs → is_none (nth_kind i (cases_of (cases_view cs))) ≡ false
 nth_there [] i lt = absurd (omega arith)

@@ -5,5 +5,15 @@ pub mod Loops
 pub mod Members
 pub mod HasFields
 pub mod Taking
+pub mod Refused
+pub mod FitLoops
+pub mod Fitted
+pub mod Growing
+pub mod ReadBack
+pub mod Refusing
+pub mod LawfulLoops
+pub mod LawProofs
 pub mod Decoded
 pub mod OneMember
+pub mod Wrote
+pub mod Endings

@@ -1,5 +1,5 @@
--- The tree of a union's value with a member.
-use Rattle.std.proofs.Common.{◌≡◌, ℤ, Some, sym, ap, ◌∙◌, Box, Global}
+-- The trees of a union's values.
+use Rattle.std.proofs.Common.{◌≡◌, ℤ, Some, None, sym, ap, ◌∙◌, Box, Global}
 use Rattle.cdr_values.specs.declared.value.IdlValue.{IdlValue}
 use Rattle.cdr_values.specs.declared.value.IdlValue.TheViews.{Chosen}
 use Rattle.cdr_values.specs.declared.value.IdlValue.TheVariants.{rolls-Chosen}
@@ -10,3 +10,6 @@ use Rattle.cdr_values.specs.Values.{value_of, value_step}
 
 pub one_member : (z : ℤ) (b : Box IdlValue Global) → value_of (Chosen z (Some b)) ≡ chosen z (value (value_of b.value) no_values)
 one_member z b = ap value_of (sym (rolls-Chosen z (Some b))) ∙ fold-roll-IdlValue Value value_step (IdlValue-F.Chosen z (Some b))
+
+pub bare_tree : (z : ℤ) → value_of (Chosen z None) ≡ chosen z no_values
+bare_tree z = ap value_of (sym (rolls-Chosen z None)) ∙ fold-roll-IdlValue Value value_step (IdlValue-F.Chosen z None)

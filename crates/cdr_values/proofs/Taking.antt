@@ -20,14 +20,9 @@ use Rattle.cdr_values.specs.Numerals.{numeral, plain_field}
 use Rattle.cdr_values.proofs.Labels.{in_range}
 use Rattle.cdr_values.proofs.HasFields.{plain_is}
 use Rattle.cdr_values.specs.Choice.{choose, nth_kind, kind_at}
+use Rattle.cdr_values.specs.Passing.{Passed}
 use Rattle.cdr_values.specs.Spelling.{lowest, is_above, is_text, is_count, behind, both, one_field, number_field, tag_field, fields_of, fields_each, fields_members, fields_chosen}
 use Rattle.cdr_values.specs.Reading.{as_read, label_at, scalar_at, value_at, tag_at, text_at, bounded_count_at, then_values, times, counted, then_member, read, read_members, read_chosen}
-
--- from a to b stand the fields that are asked for
-pub record Passed (a b : Cursor) (asked : Option (List Field)) : Type 0 where
-  pub fields : List Field
-  pub asks : asked ≡ Some fields
-  pub spans : Spans a b fields
 
 pub bytes_behind : (c d : Cursor) (fields : List Field) → Spans c d fields → AreBytes c.rest → AreBytes d.rest
 bytes_behind c d fields p h = λ i.
@@ -38,14 +33,14 @@ pub as_ok : {A B : Type 0} (f : A → B) (r : Reads A) (y : B × Cursor) → as_
 as_ok f (Ok x) y e = let k = ok_is (f x.0, x.1) y e in (x.0, ap (λ (d : Cursor). Ok (x.0, d)) (ap (λ (z : _ × Cursor). z.1) k), ap (λ (z : _ × Cursor). z.0) k)
 as_ok f (Err d) y e = absurd cc
 
-passed_both : (a b c : Cursor) (p q : Option (List Field)) → Passed a b p → Passed b c q → Passed a c (both p q)
+pub passed_both : (a b c : Cursor) (p q : Option (List Field)) → Passed a b p → Passed b c q → Passed a c (both p q)
 passed_both a b c p q x y = record { fields = x.fields ++ y.fields; asks = rw (x.asks, y.asks) refl; spans = spans_then a b c x.fields y.fields x.spans y.spans }
 
-spans_none : (a : Cursor) → Spans a a []
+pub spans_none : (a : Cursor) → Spans a a []
 spans_none a = record { spelling = []; parts = refl; spelled = refl; order = refl; place = omega arith }
 
 -- every value that a reading gives stands before the cursor behind it
-abbrev Sound : (Cursor → Reads Value) → Kind → Type 0
+abbrev pub Sound : (Cursor → Reads Value) → Kind → Type 0
 Sound one k = (c : Cursor) (v : Value) (d : Cursor) → AreBytes c.rest → one c ≡ Ok (v, d) → Passed c d (fields_of v k)
 
 pub len_of : (vs : List Value) → values_len (values_of vs) ≡ length vs
@@ -68,7 +63,7 @@ times_takes one k sound (suc n) c vs d fits e =
 
 -- ---- counts and texts
 
-counted_takes : (bound : ℕ) (c : Cursor) (n : ℕ) (d : Cursor) → AreBytes c.rest → bounded_count_at bound c ≡ Ok (n, d)
+pub counted_takes : (bound : ℕ) (c : Cursor) (n : ℕ) (d : Cursor) → AreBytes c.rest → bounded_count_at bound c ≡ Ok (n, d)
     → Spans c d (core.number w32 n ∷ []) × (is_count bound n ≡ true)
 unfolding bounded_count_at
 counted_takes bound c n d fits e =
@@ -98,13 +93,13 @@ pub record Scaled (s : Scalar) (c d : Cursor) (z : ℤ) : Type 0 where
   pub asks : number_field s z ≡ Some field
   pub spans : Spans c d (field ∷ [])
 
-small : (s : Size) → byte_len (wide s) ≤ 8
+pub small : (s : Size) → byte_len (wide s) ≤ 8
 small size1 = omega arith
 small size2 = omega arith
 small size4 = omega arith
 small size8 = omega arith
 
-unsigned_in : (s : Size) (n : ℕ) → n < 2 ^ (8 * byte_len (wide s)) → number_field (unsigned s) (pos n) ≡ Some (core.number (wide s) n)
+pub unsigned_in : (s : Size) (n : ℕ) → n < 2 ^ (8 * byte_len (wide s)) → number_field (unsigned s) (pos n) ≡ Some (core.number (wide s) n)
 unsigned_in s n lt = rw (le-leb 0 n (omega arith), lt-ltb n (2 ^ (8 * byte_len (wide s))) lt) refl
 
 abbrev Signed : Size → ℕ → Type 0
@@ -164,13 +159,13 @@ signed_in size2 n lt = signed_size2 n lt
 signed_in size4 n lt = signed_size4 n lt
 signed_in size8 n lt = signed_size8 n lt
 
-labelled_in : (name : List ℕ) (labels : List (List ℕ)) (n : ℕ) → n < 2 ^ 32 → n < length labels → number_field (enumeration name labels) (pos n) ≡ Some (core.number w32 n)
+pub labelled_in : (name : List ℕ) (labels : List (List ℕ)) (n : ℕ) → n < 2 ^ 32 → n < length labels → number_field (enumeration name labels) (pos n) ≡ Some (core.number w32 n)
 labelled_in name labels n a b = rw (le-leb 0 n (omega arith), in_range n (length labels) a b) refl
 
-letter_in : (n : ℕ) → n < 2 ^ 8 → number_field char (pos n) ≡ Some (core.number w8 n)
+pub letter_in : (n : ℕ) → n < 2 ^ 8 → number_field char (pos n) ≡ Some (core.number w8 n)
 letter_in n lt = rw (le-leb 0 n (omega arith), lt-ltb n 256 lt) refl
 
-truth_in : (b : Bool) → number_field boolean (pos (from_bool b)) ≡ Some (core.number w8 (from_bool b))
+pub truth_in : (b : Bool) → number_field boolean (pos (from_bool b)) ≡ Some (core.number w8 (from_bool b))
 truth_in true = refl
 truth_in false = refl
 
@@ -210,7 +205,7 @@ scalar_takes (enumeration name labels) c z d fits e =
     let t = label_takes (length labels) c a.0 d fits a.1 in
     subst (λ y. Scaled (enumeration name labels) c d y) a.2 (record { field = core.number w32 a.0; asks = labelled_in name labels a.0 t.2 t.1; spans = t.0 })
 
-tag_takes : (k : Kind) (c : Cursor) (z : ℤ) (d : Cursor) → AreBytes c.rest → tag_at k c ≡ Ok (z, d) → Passed c d (one_field (tag_field k z))
+pub tag_takes : (k : Kind) (c : Cursor) (z : ℤ) (d : Cursor) → AreBytes c.rest → tag_at k c ≡ Ok (z, d) → Passed c d (one_field (tag_field k z))
 unfolding tag_at
 tag_takes (scalar s) c z d fits e = let h = scalar_takes s c z d fits e in record { fields = h.field ∷ []; asks = ap one_field h.asks; spans = h.spans }
 tag_takes (words bound) c z d fits e = absurd cc

@@ -44,7 +44,7 @@ fn default_case(cases: &[Case]) -> Option<usize>
     cases.iter().position(|case| case.is_default)
 }
 
-fn is_among(tag: i128, labels: &[i128]) -> bool
+pub(crate) fn is_among(tag: i128, labels: &[i128]) -> bool
     ensures { result ≡ has_label tag labels.now }
 {
     labels.iter().any(|label| *label == tag)

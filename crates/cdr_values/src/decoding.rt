@@ -1,6 +1,8 @@
 //! Values of a type, taken from bytes.
-ghost use Rattle.std.specs.Prelude.{◌≤◌, length, take, Some, IfOk};
+ghost use Rattle.std.specs.Prelude.{◌≤◌, length, take, Some, IfOk, IfErr};
+ghost use Rattle.cdr_core.specs.Cursor.{cursor};
 ghost use Rattle.cdr_values.specs.Gives.{Gives, Decodes};
+ghost use Rattle.cdr_values.specs.Laws.{IsFirst, AnswersOnly, TellsFirst};
 ghost use Rattle.cdr_values.specs.Kinds.{kind_of, members_view, cases_view};
 ghost use Rattle.cdr_values.specs.Reading.{bounded_count_at, text_at, times, read, read_members, read_chosen};
 ghost use Rattle.cdr_values.specs.Trees.{Name, enumeration, size1, size2, size4, size8, boolean, char, signed, unsigned, scalar, words, sequence, array, structure, union, members_of, cases_of};
@@ -21,9 +23,8 @@ use orb_base::{List, Order, Text};
 use std::alloc::Global;
 
 /// Takes a value of a type from the front of the bytes, the first of which is at the place `at`; answers it with how
-/// many bytes it took. Work and memory grow with the bytes taken, and a count takes no room ahead of its elements. The
-/// stack grows with the depth of the type.
-#[tactic(auto, using(crate::proofs::Decoded::stops))]
+/// many bytes it took. Work and memory grow with the bytes taken, and at each union with its labels, and a count takes no
+/// room ahead of its elements. The stack grows with the depth of the type.
 pub fn decode(
     alloc: Global,
     order: Order,
@@ -34,7 +35,27 @@ pub fn decode(
     requires { at ≤ MAX_MESSAGE }
     ensures found { IfOk result (λ x. Cdr order at (kind_of kind.now) (value_of x.0) (take x.1 bytes.now)) }
     ensures within { IfOk result (λ x. x.1 ≤ length bytes.now) }
-    // The value of the reading and how many bytes it took, or its first fault.
+    ensures first { IfErr result (λ e. IsFirst e (kind_of kind.now) (cursor order at bytes.now)) }
+    // Of a lawful type no other value and length, and no other fault, is ever the answer.
+    ensures only { AnswersOnly result order at (kind_of kind.now) bytes.now }
+    ensures told { TellsFirst result order at (kind_of kind.now) bytes.now }
+    // The same of the reading, of any type.
+    ensures exact { Decodes result order at (kind_of kind.now) bytes.now }
+{
+    decode_front(alloc, order, at, kind, bytes)
+}
+
+#[tactic(auto, using(crate::proofs::Decoded::stops))]
+fn decode_front(
+    alloc: Global,
+    order: Order,
+    at: usize,
+    kind: &IdlType,
+    bytes: &[u8],
+) -> Result<(IdlValue, usize), DecodeFault>
+    requires { at ≤ MAX_MESSAGE }
+    ensures found { IfOk result (λ x. Cdr order at (kind_of kind.now) (value_of x.0) (take x.1 bytes.now)) }
+    ensures within { IfOk result (λ x. x.1 ≤ length bytes.now) }
     ensures exact { Decodes result order at (kind_of kind.now) bytes.now }
 {
     let mut reader = Reader::new(order, at, bytes);

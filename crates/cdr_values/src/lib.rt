@@ -7,15 +7,24 @@
 mod choice;
 mod copying;
 mod decoding;
+mod encoding;
 mod fault;
+mod fitting;
 mod kind;
+mod lawful;
+mod laws;
 mod number;
+mod spelled;
 mod value;
 
 pub use copying::{copy_members, copy_type, copy_value};
 pub use decoding::decode;
+pub use encoding::encode;
 pub use fault::DecodeFault;
+pub use fitting::fits;
 pub use kind::{Case, IdlType, Member};
+pub use lawful::is_lawful;
+pub use laws::{reads_back, reads_exactly, reads_one_way};
 pub use value::IdlValue;
 
 #[cfg(test)]
