@@ -16,5 +16,6 @@ abbrev before : List ℕ → Option ℕ → List ℕ
 before bytes None = bytes
 before bytes (Some end) = take end bytes
 
+-- the bytes up to the first NUL, or all
 abbrev pub up_to_nul : List ℕ → List ℕ
 up_to_nul bytes = before bytes (nul_at bytes)

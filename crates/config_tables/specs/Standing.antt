@@ -23,11 +23,12 @@ pub data Standing : Type 0 where
   is_free : Standing
   is_excluded : Standing
 
--- a key that has to be there exactly where something holds, and one that has to be there at least where it holds
+-- a key that has to be there exactly where something holds
 abbrev pub due_exactly : Bool → Standing
 due_exactly true = is_due
 due_exactly false = is_excluded
 
+-- a key that has to be there at least where something holds
 abbrev pub due_at_least : Bool → Standing
 due_at_least true = is_due
 due_at_least false = is_free
