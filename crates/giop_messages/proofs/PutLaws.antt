@@ -65,8 +65,7 @@ pub each_in_room : {X : Type 0} (P Fit : X → Type 0) (fields : X → List Fiel
     → (place : ℕ) (xs : List X) → All P xs → fields_end place (flat_map fields xs) < 2 ^ 32 → AllByRecursion Fit xs
 each_in_room P Fit fields one place [] each room = tt
 each_in_room P Fit fields one place (x ∷ xs) each room =
-    let whole : fields_end place (fields x ++ flat_map fields xs) < 2 ^ 32 = subst (λ (fs : List Field). fields_end place fs < 2 ^ 32) (flat_map-cons fields x xs) room in
-    (
+    let whole : fields_end place (fields x ++ flat_map fields xs) < 2 ^ 32 = subst (λ (fs : List Field). fields_end place fs < 2 ^ 32) (flat_map-cons fields x xs) room in (
       one place x (each 0 x (omega arith)) (room_first place (fields x) (flat_map fields xs) whole),
       each_in_room P Fit fields one (fields_end place (fields x)) xs (λ k d h. each (suc k) d (omega (arith, h))) (room_after place (fields x) (flat_map fields xs) whole),
     )
@@ -75,8 +74,7 @@ each_in_room P Fit fields one place (x ∷ xs) each room =
 pub profiles_counted : (place : ℕ) (xs : List Tagged) → fields_end place (profiles_fields xs) < 2 ^ 32 → AreCounted item_of_tagged xs
 profiles_counted place xs room =
     let count : List Field = number w32 (length xs) ∷ [] in
-    let list : fields_end (fields_end place count) (flat_map tagged_fields xs) < 2 ^ 32 = room_after place count (flat_map tagged_fields xs) room in
-    (
+    let list : fields_end (fields_end place count) (flat_map tagged_fields xs) < 2 ^ 32 = room_after place count (flat_map tagged_fields xs) room in (
       omega (arith, list, few_tagged (fields_end place count) xs),
       each_in_room (λ (x : Tagged). Unit {0}) (λ x. length x.bytes < 2 ^ 32) tagged_fields (λ p x t r. omega (arith, r)) (fields_end place count) xs (λ k d h. tt) list,
     )
@@ -84,8 +82,7 @@ profiles_counted place xs room =
 pub contexts_counted : (place : ℕ) (xs : List Context) → fields_end place (contexts_fields xs) < 2 ^ 32 → AreCounted item_of_context xs
 contexts_counted place xs room =
     let count : List Field = number w32 (length xs) ∷ [] in
-    let list : fields_end (fields_end place count) (flat_map context_fields xs) < 2 ^ 32 = room_after place count (flat_map context_fields xs) room in
-    (
+    let list : fields_end (fields_end place count) (flat_map context_fields xs) < 2 ^ 32 = room_after place count (flat_map context_fields xs) room in (
       omega (arith, list, few_contexts (fields_end place count) xs),
       each_in_room (λ (x : Context). Unit {0}) (λ x. length x.bytes < 2 ^ 32) context_fields (λ p x t r. omega (arith, r)) (fields_end place count) xs (λ k d h. tt) list,
     )

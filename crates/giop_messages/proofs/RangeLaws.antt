@@ -40,8 +40,7 @@ context_fits place c h room = (h, omega (arith, room))
 contexts_fit : (place : ℕ) (xs : List Context) → All HasId xs → fields_end place (contexts_fields xs) < 2 ^ 32 → FitContexts xs
 contexts_fit place xs each room =
     let count : List Field = number w32 (length xs) ∷ [] in
-    let list : fields_end (fields_end place count) (flat_map context_fields xs) < 2 ^ 32 = room_after place count (flat_map context_fields xs) room in
-    (
+    let list : fields_end (fields_end place count) (flat_map context_fields xs) < 2 ^ 32 = room_after place count (flat_map context_fields xs) room in (
       omega (arith, list, few_contexts (fields_end place count) xs),
       each_in_room HasId FitsContext context_fields context_fits (fields_end place count) xs each list,
     )
@@ -52,8 +51,7 @@ target_fits place (profile t) h room = tagged_fits (fields_end place (number w16
 target_fits place (addressing index type_id profiles) h room =
     let form : List Field = number w16 2 ∷ number w32 index ∷ [] in
     let front : List Field = form ++ string_fields type_id ++ number w32 (length profiles) ∷ [] in
-    let list : fields_end (fields_end place front) (flat_map tagged_fields profiles) < 2 ^ 32 = room_after place front (flat_map tagged_fields profiles) room in
-    (
+    let list : fields_end (fields_end place front) (flat_map tagged_fields profiles) < 2 ^ 32 = room_after place front (flat_map tagged_fields profiles) room in (
       h.0,
       record { no_nul = h.1; short = text_fits place form type_id (profiles_fields profiles) room },
       omega (arith, list, few_tagged (fields_end place front) profiles),
