@@ -79,7 +79,7 @@ pub record SlotMarked (per_slot slot : ℕ) (mine : History) : Type 0 where
   pub few_ends : ends mine ≤ per_slot
   pub few_marks : marks mine ≤ 2 * ends mine + one (closed_now per_slot slot mine) + one (has_leave mine)
 
-closed_push : (conn : ConnId) (mine : History) (e : One) → was_closed conn (mine ++ e ∷ []) ≡ (was_closed conn mine || (is_heard conn e.call && is_closing e.reply || false))
+pub closed_push : (conn : ConnId) (mine : History) (e : One) → was_closed conn (mine ++ e ∷ []) ≡ (was_closed conn mine || (is_heard conn e.call && is_closing e.reply || false))
 closed_push conn mine e = list_any-append (λ (x : One). is_heard conn x.call && is_closing x.reply) mine (e ∷ [])
 
 -- a heard call
@@ -146,7 +146,7 @@ cancel_marks waiting conn id a b reply.Nothing m = refl
 cancel_marks waiting conn id a b reply.Closing m = refl
 cancel_marks waiting conn id a b r m = absurd m
 
-same_self : (conn : ConnId) → same_conn conn conn ≡ true
+pub same_self : (conn : ConnId) → same_conn conn conn ≡ true
 same_self conn = and_from (eqb conn.slot conn.slot) (eqb conn.nth conn.nth) (eq-eqb conn.slot conn.slot refl) (eq-eqb conn.nth conn.nth refl)
 
 heard_call : (s0 : State) (slot : ℕ) (mine : History) (e : One) (conn : ConnId) → conn.slot ≡ slot → IsReading s0 mine conn → was_closed conn mine ≡ false → is_end e.call ≡ false → is_heard conn e.call ≡ true → is_mark e.reply ≡ is_closing e.reply
