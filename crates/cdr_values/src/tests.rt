@@ -92,12 +92,12 @@ fn spell(
 
 /// The bytes in the big order from place 8 on, and one byte behind them, are read and spelled again; so is the value from
 /// each place on in each order.
-fn again(rt: &impl Abort, alloc: Global, kind: &IdlType, bytes: &[u8]) -> Result<(), Fail> {
+fn again(rt: &impl Abort, alloc: Global, kind: IdlType, bytes: &[u8]) -> Result<(), Fail> {
     let mut more = Vec::from_slice(alloc, bytes)?;
     more.push(9)?;
-    let (value, len) = decode(alloc, Order::Big, 8, kind, more.as_slice())?;
+    let (value, len) = decode(alloc, Order::Big, 8, &kind, more.as_slice())?;
     assert_eq!(rt; len, bytes.len());
-    let kind = copy_type(alloc, kind)?;
+    let kind = copy_type(alloc, &kind)?;
     let value = copy_value(alloc, &value)?;
     for at in 0..8_usize {
         for order in [Order::Big, Order::Little] {
@@ -114,56 +114,92 @@ fn again(rt: &impl Abort, alloc: Global, kind: &IdlType, bytes: &[u8]) -> Result
 #[test]
 fn numbers_are_read_and_spelled_again(rt: HostRuntime) -> Result<(), Fail> {
     let alloc = rt.alloc();
-    again(&rt, alloc, &IdlType::Boolean, b"\x01")?;
-    again(&rt, alloc, &IdlType::Octet, b"\xc8")?;
-    again(&rt, alloc, &IdlType::Char, b"A")?;
-    again(&rt, alloc, &IdlType::Short, b"\xff\xfe")?;
-    again(&rt, alloc, &IdlType::UShort, b"\xff\xfe")?;
-    again(&rt, alloc, &IdlType::Long, b"\x80\0\0\0")?;
-    again(&rt, alloc, &IdlType::ULong, b"\x80\0\0\x01")?;
+    again(&rt, alloc, IdlType::Boolean, b"\x01")?;
+    again(&rt, alloc, IdlType::Octet, b"\xc8")?;
+    again(&rt, alloc, IdlType::Char, b"A")?;
+    again(&rt, alloc, IdlType::Short, b"\xff\xfe")?;
+    again(&rt, alloc, IdlType::UShort, b"\xff\xfe")?;
+    again(&rt, alloc, IdlType::Long, b"\x80\0\0\0")?;
+    again(&rt, alloc, IdlType::ULong, b"\x80\0\0\x01")?;
     again(
         &rt,
         alloc,
-        &IdlType::LongLong,
+        IdlType::LongLong,
         b"\xff\xff\xff\xff\xff\xff\xff\xfd",
     )?;
     again(
         &rt,
         alloc,
-        &IdlType::ULongLong,
+        IdlType::ULongLong,
         b"\x01\x02\x03\x04\x05\x06\x07\x08",
     )?;
-    let kind = colour(alloc, b"red", b"green")?;
-    again(&rt, alloc, &kind, b"\0\0\0\x01")
+    again(&rt, alloc, colour(alloc, b"red", b"green")?, b"\0\0\0\x01")
 }
 
 #[test]
 fn texts_and_rows_are_read_and_spelled_again(rt: HostRuntime) -> Result<(), Fail> {
     let alloc = rt.alloc();
-    again(&rt, alloc, &IdlType::Words(0), b"\0\0\0\x03hi\0")?;
-    again(&rt, alloc, &IdlType::Words(2), b"\0\0\0\x03hi\0")?;
-    let kind = seq(alloc, IdlType::Octet, 0)?;
-    again(&rt, alloc, &kind, b"\0\0\0\x03\x07\x08\x09")?;
-    let kind = seq(alloc, IdlType::UShort, 2)?;
-    again(&rt, alloc, &kind, b"\0\0\0\x02\0\x07\0\x08")?;
-    let kind = array(alloc, array(alloc, IdlType::Short, 1)?, 2)?;
-    again(&rt, alloc, &kind, b"\xff\xff\0\x01")?;
-    let kind = pair(alloc, b"y", IdlType::LongLong)?;
-    again(&rt, alloc, &kind, b"\x05\0\0\0\0\0\0\0\0\0\0\0\0\0\0\x09")
+    again(&rt, alloc, IdlType::Words(0), b"\0\0\0\x03hi\0")?;
+    again(&rt, alloc, IdlType::Words(2), b"\0\0\0\x03hi\0")?;
+    again(
+        &rt,
+        alloc,
+        seq(alloc, IdlType::Octet, 0)?,
+        b"\0\0\0\x03\x07\x08\x09",
+    )?;
+    again(
+        &rt,
+        alloc,
+        seq(alloc, IdlType::UShort, 2)?,
+        b"\0\0\0\x02\0\x07\0\x08",
+    )?;
+    again(
+        &rt,
+        alloc,
+        array(alloc, array(alloc, IdlType::Short, 1)?, 2)?,
+        b"\xff\xff\0\x01",
+    )?;
+    again(
+        &rt,
+        alloc,
+        pair(alloc, b"y", IdlType::LongLong)?,
+        b"\x05\0\0\0\0\0\0\0\0\0\0\0\0\0\0\x09",
+    )
 }
 
 #[test]
 fn unions_are_read_and_spelled_again(rt: HostRuntime) -> Result<(), Fail> {
     let alloc = rt.alloc();
-    let kind = union(alloc, IdlType::Long, &[1, 2], &[5])?;
-    again(&rt, alloc, &kind, b"\0\0\0\x02\x01")?;
-    again(&rt, alloc, &kind, b"\0\0\0\x05\0\x07")?;
-    again(&rt, alloc, &kind, b"\0\0\0\x06")?;
-    let kind = union(alloc, IdlType::Short, &[1], &[])?;
-    again(&rt, alloc, &kind, b"\0\x01\x01")?;
-    again(&rt, alloc, &kind, b"\xff\xff\0\x07")?;
-    let kind = union(alloc, IdlType::Boolean, &[0], &[1])?;
-    again(&rt, alloc, &kind, b"\x01\0\0\x07")
+    again(
+        &rt,
+        alloc,
+        union(alloc, IdlType::Long, &[1, 2], &[5])?,
+        b"\0\0\0\x02\x01",
+    )?;
+    again(
+        &rt,
+        alloc,
+        union(alloc, IdlType::Long, &[1, 2], &[5])?,
+        b"\0\0\0\x05\0\x07",
+    )?;
+    again(
+        &rt,
+        alloc,
+        union(alloc, IdlType::Long, &[1, 2], &[5])?,
+        b"\0\0\0\x06",
+    )?;
+    again(
+        &rt,
+        alloc,
+        union(alloc, IdlType::Short, &[1], &[])?,
+        b"\xff\xff\0\x07",
+    )?;
+    again(
+        &rt,
+        alloc,
+        union(alloc, IdlType::Boolean, &[0], &[1])?,
+        b"\x01\0\0\x07",
+    )
 }
 
 #[test]
@@ -172,38 +208,37 @@ fn each_type_of_numbers_discriminates(rt: HostRuntime) -> Result<(), Fail> {
     again(
         &rt,
         alloc,
-        &union(alloc, IdlType::Char, &[65], &[])?,
+        union(alloc, IdlType::Char, &[65], &[])?,
         b"A\x01",
     )?;
     again(
         &rt,
         alloc,
-        &union(alloc, IdlType::UShort, &[65535], &[])?,
+        union(alloc, IdlType::UShort, &[65535], &[])?,
         b"\xff\xff\x01",
     )?;
     again(
         &rt,
         alloc,
-        &union(alloc, IdlType::ULong, &[3], &[])?,
+        union(alloc, IdlType::ULong, &[3], &[])?,
         b"\0\0\0\x03\x01",
     )?;
     again(
         &rt,
         alloc,
-        &union(alloc, IdlType::LongLong, &[-1], &[])?,
+        union(alloc, IdlType::LongLong, &[-1], &[])?,
         b"\xff\xff\xff\xff\xff\xff\xff\xff\x01",
     )?;
     again(
         &rt,
         alloc,
-        &union(alloc, IdlType::ULongLong, &[3], &[])?,
+        union(alloc, IdlType::ULongLong, &[3], &[])?,
         b"\0\0\0\0\0\0\0\x03\x01",
     )?;
-    let tag = colour(alloc, b"red", b"green")?;
     again(
         &rt,
         alloc,
-        &union(alloc, tag, &[1], &[])?,
+        union(alloc, colour(alloc, b"red", b"green")?, &[1], &[])?,
         b"\0\0\0\x01\x01",
     )
 }
@@ -212,15 +247,14 @@ fn each_type_of_numbers_discriminates(rt: HostRuntime) -> Result<(), Fail> {
 fn refused(
     rt: &impl Abort,
     alloc: Global,
-    kind: &IdlType,
+    kind: IdlType,
     bytes: &[u8],
     cause: CdrCause,
     place: usize,
 ) {
-    match decode(alloc, Order::Big, 1, kind, bytes) {
-        Err(DecodeFault::Cdr(fault)) => assert_eq!(rt; fault, CdrFault { cause, place }),
-        _ => assert!(rt; false),
-    }
+    let result = decode(alloc, Order::Big, 1, &kind, bytes);
+    let fault = CdrFault { cause, place };
+    assert!(rt; matches!(result, Err(DecodeFault::Cdr(found)) if found == fault));
 }
 
 #[test]
@@ -229,16 +263,16 @@ fn each_fault_is_told_at_its_place(rt: HostRuntime) -> Result<(), Fail> {
     refused(
         &rt,
         alloc,
-        &IdlType::Long,
+        IdlType::Long,
         b"\0\0\0\0\0\0",
         CdrCause::Short,
         4,
     );
-    refused(&rt, alloc, &IdlType::Boolean, b"\x02", CdrCause::BadBool, 1);
+    refused(&rt, alloc, IdlType::Boolean, b"\x02", CdrCause::BadBool, 1);
     refused(
         &rt,
         alloc,
-        &IdlType::Words(0),
+        IdlType::Words(0),
         b"\0\0\0\0\0\0\x02a",
         CdrCause::TooMany,
         4,
@@ -246,7 +280,7 @@ fn each_fault_is_told_at_its_place(rt: HostRuntime) -> Result<(), Fail> {
     refused(
         &rt,
         alloc,
-        &IdlType::Words(0),
+        IdlType::Words(0),
         b"\0\0\0\0\0\0\x02ab",
         CdrCause::BadString,
         4,
@@ -254,29 +288,39 @@ fn each_fault_is_told_at_its_place(rt: HostRuntime) -> Result<(), Fail> {
     refused(
         &rt,
         alloc,
-        &IdlType::Words(1),
+        IdlType::Words(1),
         b"\0\0\0\0\0\0\x03ab\0",
         CdrCause::OverBound,
         4,
     );
-    let kind = pair(alloc, b"y", IdlType::Boolean)?;
-    refused(&rt, alloc, &kind, b"\x05\x02", CdrCause::BadBool, 2);
-    let kind = seq(alloc, IdlType::Octet, 1)?;
     refused(
         &rt,
         alloc,
-        &kind,
+        pair(alloc, b"y", IdlType::Boolean)?,
+        b"\x05\x02",
+        CdrCause::BadBool,
+        2,
+    );
+    refused(
+        &rt,
+        alloc,
+        seq(alloc, IdlType::Octet, 1)?,
         b"\0\0\0\0\0\0\x02ab",
         CdrCause::OverBound,
         4,
     );
-    let kind = colour(alloc, b"red", b"green")?;
-    refused(&rt, alloc, &kind, b"\0\0\0\0\0\0\x02", CdrCause::BadEnum, 4);
-    let kind = union(alloc, IdlType::Long, &[1, 2], &[])?;
     refused(
         &rt,
         alloc,
-        &kind,
+        colour(alloc, b"red", b"green")?,
+        b"\0\0\0\0\0\0\x02",
+        CdrCause::BadEnum,
+        4,
+    );
+    refused(
+        &rt,
+        alloc,
+        union(alloc, IdlType::Long, &[1], &[])?,
         b"\0\0\0\0\0\0\x01\x02",
         CdrCause::BadBool,
         8,
@@ -320,41 +364,55 @@ fn bodies_of_twice_are_spelled(rt: HostRuntime) -> Result<(), Fail> {
     Ok(())
 }
 
+fn fits_type(kind: IdlType, value: IdlValue) -> bool {
+    fits(&kind, &value)
+}
+
 #[test]
 fn values_of_other_types_do_not_fit(rt: HostRuntime) -> Result<(), Fail> {
     let alloc = rt.alloc();
-    assert!(rt; !fits(&IdlType::Octet, &IdlValue::Number(256)));
-    assert!(rt; !fits(&IdlType::Short, &IdlValue::Number(0x8000)));
-    assert!(rt; fits(&IdlType::Short, &IdlValue::Number(-0x8000)));
-    assert!(rt; !fits(&IdlType::Char, &IdlValue::Number(65)));
-    let kind = union(alloc, IdlType::Long, &[1, 2], &[5])?;
-    assert!(rt; fits(&kind, &IdlValue::Chosen(6, None)));
-    assert!(rt; !fits(&kind, &IdlValue::Chosen(1, None)));
-    let kind = union(alloc, IdlType::Long, &[1, 2], &[])?;
-    assert!(rt; !fits(&kind, &IdlValue::Chosen(6, None)));
+    assert!(rt; !fits_type(IdlType::Octet, IdlValue::Number(256)));
+    assert!(rt; !fits_type(IdlType::Short, IdlValue::Number(0x8000)));
+    assert!(rt; !fits_type(IdlType::Char, IdlValue::Number(65)));
+    assert!(rt;
+        !fits_type(
+            union(alloc, IdlType::Long, &[1], &[5])?,
+            IdlValue::Chosen(1, None)
+        )
+    );
+    assert!(rt;
+        !fits_type(
+            union(alloc, IdlType::Long, &[1], &[])?,
+            IdlValue::Chosen(6, None)
+        )
+    );
     Ok(())
+}
+
+fn is_lawful_type(kind: IdlType) -> bool {
+    is_lawful(&kind)
 }
 
 #[test]
 fn unlawful_types_are_told(rt: HostRuntime) -> Result<(), Fail> {
     let alloc = rt.alloc();
-    assert!(rt; !is_lawful(&IdlType::Struct(text(alloc, b"S")?, Vec::new(alloc))));
-    assert!(rt; !is_lawful(&seq(alloc, array(alloc, IdlType::Octet, 0)?, 0)?));
-    assert!(rt; !is_lawful(&pair(alloc, b"x", IdlType::Octet)?));
-    assert!(rt; is_lawful(&pair(alloc, b"y", IdlType::Octet)?));
-    assert!(rt; !is_lawful(&colour(alloc, b"red", b"red")?));
-    assert!(rt; is_lawful(&colour(alloc, b"red", b"green")?));
+    assert!(rt; !is_lawful_type(IdlType::Struct(text(alloc, b"S")?, Vec::new(alloc))));
+    assert!(rt; !is_lawful_type(seq(alloc, array(alloc, IdlType::Octet, 0)?, 0)?));
+    assert!(rt; !is_lawful_type(pair(alloc, b"x", IdlType::Octet)?));
+    assert!(rt; is_lawful_type(pair(alloc, b"y", IdlType::Octet)?));
+    assert!(rt; !is_lawful_type(colour(alloc, b"red", b"red")?));
+    assert!(rt; is_lawful_type(colour(alloc, b"red", b"green")?));
     Ok(())
 }
 
 #[test]
 fn unlawful_unions_are_told(rt: HostRuntime) -> Result<(), Fail> {
     let alloc = rt.alloc();
-    assert!(rt; !is_lawful(&union(alloc, IdlType::Long, &[1, 2, 1], &[])?));
-    assert!(rt; !is_lawful(&union(alloc, IdlType::Long, &[1, 2], &[3, 2])?));
-    assert!(rt; !is_lawful(&union(alloc, IdlType::Long, &[], &[])?));
-    assert!(rt; !is_lawful(&union(alloc, IdlType::Octet, &[1], &[])?));
-    assert!(rt; !is_lawful(&union(alloc, IdlType::Words(0), &[1], &[])?));
-    assert!(rt; is_lawful(&union(alloc, IdlType::Long, &[1, 2], &[])?));
+    assert!(rt; !is_lawful_type(union(alloc, IdlType::Long, &[1, 2, 1], &[])?));
+    assert!(rt; !is_lawful_type(union(alloc, IdlType::Long, &[1, 2], &[3, 2])?));
+    assert!(rt; !is_lawful_type(union(alloc, IdlType::Long, &[], &[])?));
+    assert!(rt; !is_lawful_type(union(alloc, IdlType::Octet, &[1], &[])?));
+    assert!(rt; !is_lawful_type(union(alloc, IdlType::Words(0), &[1], &[])?));
+    assert!(rt; is_lawful_type(union(alloc, IdlType::Long, &[1, 2], &[])?));
     Ok(())
 }
