@@ -45,4 +45,3 @@ risen before rows i made all same whole =
     let rise : rows_rise None rows ≡ true = sym same ∙ rw none refl in
     let is : made ≡ map row_made rows = rw append-nil at (rw none at whole) in
     (rise, is, subst (λ (m : List MapRow). Rises m) (sym is) (rises_made None rows rise))
-

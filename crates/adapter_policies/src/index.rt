@@ -52,11 +52,7 @@ fn keep_number(
 }
 
 /// Keeps a number for a key.
-fn put_number(
-    numbers: &mut HashMap<Vec<u8>, u16>,
-    key: Vec<u8>,
-    n: u16,
-) -> Result<(), NoMemory>
+fn put_number(numbers: &mut HashMap<Vec<u8>, u16>, key: Vec<u8>, n: u16) -> Result<(), NoMemory>
     ensures { OnOk result (Keeps key.items n numbers.old numbers.new) }
 {
     numbers.insert(key, n)?;

@@ -115,7 +115,9 @@ fn judge_pool_natives(alloc: Global, map: &Map, pool: &PoolTable) -> Result<(), 
 fn first_lane_without(map: &Map, lanes: &[LaneTable]) -> Option<usize>
     ensures { result ≡ position (λ l. not (has_native map.now l.priority)) lanes.now }
 {
-    lanes.iter().position(|lane| !has_native(map, lane.priority))
+    lanes
+        .iter()
+        .position(|lane| !has_native(map, lane.priority))
 }
 
 /// The number of the first adapter whose priority has no native one.
@@ -129,7 +131,9 @@ fn first_adapter_without(map: &Map, adapters: &[AdapterTable]) -> Option<usize>
 fn first_object_without(map: &Map, objects: &[ObjectTable]) -> Option<usize>
     ensures { result ≡ position (λ o. not (own_meets (has_native map.now) o.priority)) objects.now }
 {
-    objects.iter().position(|o| !own_has_native(map, o.priority))
+    objects
+        .iter()
+        .position(|o| !own_has_native(map, o.priority))
 }
 
 /// Whether an adapter's priority has a native one.
