@@ -1,9 +1,10 @@
 //! Values of constants.
-ghost use Rattle.std.specs.Prelude.{◌≡◌, pos};
+ghost use Rattle.std.specs.Prelude.{◌≡◌, pos, IfOk};
 ghost use Rattle.idl_constants.specs.ConstValues.{label_of};
 ghost use Rattle.idl_constants.specs.Views.{value_of};
 
-use orb_base::Text;
+use orb_base::{NoMemory, Text};
+use std::alloc::Global;
 
 /// What a literal or a constant's name stands for.
 #[derive(Debug, Drop)]
@@ -29,6 +30,19 @@ impl ConstValue {
             ConstValue::Truth(true) => 1,
             ConstValue::Truth(false) => 0,
             ConstValue::Choice(_, n) => i128::from(*n),
+        }
+    }
+
+    /// An equal value.
+    pub fn copy(&self, alloc: Global) -> Result<ConstValue, NoMemory>
+        ensures { IfOk result (λ v. value_of v ≡ value_of self.now) }
+    {
+        match self {
+            ConstValue::Number(z) => Ok(ConstValue::Number(*z)),
+            ConstValue::Character(c) => Ok(ConstValue::Character(*c)),
+            ConstValue::Text(text) => Ok(ConstValue::Text(text.copy(alloc)?)),
+            ConstValue::Truth(b) => Ok(ConstValue::Truth(*b)),
+            ConstValue::Choice(id, n) => Ok(ConstValue::Choice(id.copy(alloc)?, *n)),
         }
     }
 }
