@@ -22,6 +22,7 @@ bands_fault cause find n (a ∷ more) = first_of (entry_fault (bands_path n) cau
 abbrev pub is_reversed : BandTable → Bool
 is_reversed b = nat_lt b.high b.low
 
+-- the first band whose ends are reversed
 abbrev pub band_empty_fault : List AdapterSaid → Option Fault
 band_empty_fault adapters = bands_fault BandEmpty (position is_reversed) 0 adapters
 
@@ -29,6 +30,7 @@ band_empty_fault adapters = bands_fault BandEmpty (position is_reversed) 0 adapt
 abbrev pub share_one : BandTable → BandTable → Bool
 share_one a b = nat_le a.low b.high && nat_le b.low a.high
 
+-- the first band that shares a priority with an earlier one of its adapter
 abbrev pub overlap_fault : List AdapterSaid → Option Fault
 overlap_fault adapters = bands_fault BandOverlap (first_clash share_one [] 0) 0 adapters
 
@@ -36,8 +38,10 @@ overlap_fault adapters = bands_fault BandOverlap (first_clash share_one [] 0) 0 
 abbrev pub holds_lane : PoolSaid → BandTable → Bool
 holds_lane pool b = list_any (λ l. nat_le b.low l.priority && nat_le l.priority b.high) pool.lanes
 
+-- the number of the first of these bands that holds no lane's priority
 abbrev pub without_lane : PoolSaid → List BandTable → Option ℕ
 without_lane pool bands = if pool.laned then position (λ b. not (holds_lane pool b)) bands else None
 
+-- the first band that holds no lane's priority
 abbrev pub band_without_lane_fault : PoolSaid → List AdapterSaid → Option Fault
 band_without_lane_fault pool adapters = bands_fault BandWithoutLane (without_lane pool) 0 adapters

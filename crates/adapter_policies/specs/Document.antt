@@ -40,6 +40,7 @@ pub record DocumentSaid : Type 0 where
   pub adapters : List AdapterSaid
   pub objects : List ObjectTable
 
+-- what the tables of a document say, all together
 abbrev pub document_of : Members → DocumentSaid
 document_of ms = record {
   idl = where_there text_of (get_member (codes "idl") ms);

@@ -23,6 +23,7 @@ rows_rise before (row ∷ rows) = is_above before row.low && (nat_le row.low row
 abbrev pub is_lawful : MapSaid → Bool
 is_lawful m = if m.linear then ends_ordered m else rows_rise None m.rows
 
+-- a map that isn't lawful is at fault; where there is none, nothing is
 abbrev pub map_fault : Option MapSaid → Option Fault
 map_fault None = None
 map_fault (Some m) = fault_where (not (is_lawful m)) (codes "map") BadMap
@@ -39,6 +40,7 @@ row_made row = record { band = record { low = row.low; high = row.high }; native
 abbrev pub described : MapSaid → PriorityMap
 described m = if m.linear then linear (linear_of m) else table (map row_made m.rows)
 
+-- the map that is described, and without one each priority's own number
 abbrev pub priority_map : Option MapSaid → PriorityMap
 priority_map None = linear identity
 priority_map (Some m) = described m

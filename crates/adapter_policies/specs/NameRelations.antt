@@ -14,6 +14,7 @@ use Rattle.adapter_policies.specs.declared.object.ObjectTable.{ObjectTable}
 abbrev pub same_name : AdapterSaid → AdapterSaid → Bool
 same_name a b = same_text a.name b.name
 
+-- two objects have one key
 abbrev pub same_key : ObjectTable → ObjectTable → Bool
 same_key a b = same_text a.key b.key
 
@@ -31,6 +32,7 @@ is_named name a = same_text a.name name
 abbrev pub is_stray : List AdapterSaid → ObjectTable → Bool
 is_stray adapters o = not (list_any (is_named o.adapter) adapters)
 
+-- the first object whose adapter isn't there
 abbrev pub unknown_adapter_fault : List AdapterSaid → List ObjectTable → Option Fault
 unknown_adapter_fault adapters objects =
     entry_key_fault (codes "object") (codes "adapter") UnknownAdapter (position (is_stray adapters) objects)

@@ -45,6 +45,7 @@ abbrev pub slots_of : Option ServerTable → ℕ
 slots_of None = 4
 slots_of (Some server) = unwrap_or server.slots 4
 
+-- the connections of a slot; without the key 128 over the slots, rounded down
 abbrev pub per_slot_of : Option ServerTable → ℕ
 per_slot_of None = 32
 per_slot_of (Some server) = unwrap_or server.per_slot (128 / slots_of (Some server))

@@ -25,6 +25,7 @@ unmet_fault cause test adapters objects =
 abbrev pub has_lane : PoolSaid → ℕ → Bool
 has_lane pool p = not pool.laned || list_any (λ l. l.priority == p) pool.lanes
 
+-- the first priority of an adapter or object that is no lane's
 unfoldable pub not_a_lane_fault : PoolSaid → List AdapterSaid → List ObjectTable → Option Fault
 not_a_lane_fault pool adapters objects = unmet_fault PriorityNotALane (has_lane pool) adapters objects
 

@@ -22,9 +22,11 @@ threads = number 0 64
 abbrev pub row_rules : List (Rule Scalar)
 row_rules = key_of (codes "low") due priority ∷ key_of (codes "high") due priority ∷ key_of (codes "native") due native ∷ []
 
+-- a lane
 abbrev pub lane_rules : List (Rule Scalar)
 lane_rules = key_of (codes "priority") due priority ∷ key_of (codes "static") due threads ∷ key_of (codes "dynamic") due threads ∷ []
 
+-- a band
 abbrev pub band_rules : List (Rule Scalar)
 band_rules = key_of (codes "low") due priority ∷ key_of (codes "high") due priority ∷ []
 
@@ -44,9 +46,11 @@ top_rules =
 abbrev pub if_linear : Need
 if_linear = exactly_where (says (codes "kind") (codes "linear"))
 
+-- a key of a table map alone
 abbrev pub if_table : Need
 if_table = exactly_where (says (codes "kind") (codes "table"))
 
+-- the keys of the map
 abbrev pub map_rules : List (Rule Kind)
 map_rules =
     key_of (codes "kind") due (one (word (codes "linear" ∷ codes "table" ∷ [])))
@@ -61,9 +65,11 @@ map_rules =
 abbrev pub if_buffering : Need
 if_buffering = exactly_where (is_on (codes "buffering"))
 
+-- a key of a pool without lanes alone
 abbrev pub if_unlaned : Need
 if_unlaned = exactly_where (lacks (codes "lanes"))
 
+-- the keys of the pool
 abbrev pub pool_rules : List (Rule Kind)
 pool_rules =
     key_of (codes "borrowing") free (one truth)
@@ -76,6 +82,7 @@ pool_rules =
     ∷ key_of (codes "default_priority") if_unlaned (one priority)
     ∷ []
 
+-- the keys of the server
 abbrev pub server_rules : List (Rule Kind)
 server_rules =
     key_of (codes "slots") free (one (number 1 16))
@@ -84,6 +91,7 @@ server_rules =
     ∷ key_of (codes "max_bytes") free (one (number 1 67108864))
     ∷ []
 
+-- the keys of an adapter
 abbrev pub adapter_rules : List (Rule Kind)
 adapter_rules =
     key_of (codes "name") due (one any_text)
@@ -92,6 +100,7 @@ adapter_rules =
     ∷ key_of (codes "bands") free (entries 1 16 band_rules)
     ∷ []
 
+-- the keys of an object
 abbrev pub object_rules : List (Rule Kind)
 object_rules =
     key_of (codes "key") due (one (text 1 64))

@@ -50,6 +50,7 @@ abbrev pub run_calls_of : Option ServerTable → ℕ
 run_calls_of None = 65536
 run_calls_of (Some server) = unwrap_or server.max_calls 65536
 
+-- the bytes that a run takes, and without the key the most that there can be
 abbrev pub run_bytes_of : Option ServerTable → ℕ
 run_bytes_of None = 67108864
 run_bytes_of (Some server) = unwrap_or server.max_bytes 67108864

@@ -27,6 +27,7 @@ pub record MapSaid : Type 0 where
   pub native_high : ℤ
   pub rows : List RowTable
 
+-- what the table of the map says
 abbrev pub map_of : Members → MapSaid
 map_of ms = record {
   linear = holds (says (codes "kind") (codes "linear")) ms;
@@ -53,6 +54,7 @@ pub record PoolSaid : Type 0 where
   pub dynamics : ℕ
   pub priority : ℕ
 
+-- what the table of the pool says
 abbrev pub pool_of : Members → PoolSaid
 pool_of ms = record {
   borrowing = truth_at (codes "borrowing") ms;
@@ -99,6 +101,7 @@ pub record AdapterSaid : Type 0 where
   pub priority : ℕ
   pub bands : List BandTable
 
+-- what the table of an adapter says
 abbrev pub adapter_of : Members → AdapterSaid
 adapter_of ms = record {
   name = text_at (codes "name") ms;

@@ -14,14 +14,17 @@ Fit = Result (Unit {0}) Misfit
 abbrev pub between : ℤ → ℤ → ℤ → Fit
 between low high z = if int_le low z && int_le z high then Ok tt else Err OutOfRange
 
+-- a number within these ends; any other value is of another kind
 abbrev pub fit_number : ℤ → ℤ → Value → Fit
 fit_number low high (number z) = between low high z
 fit_number low high value = Err WrongKind
 
+-- TRUE or FALSE
 abbrev pub fit_truth : Value → Fit
 fit_truth (truth b) = Ok tt
 fit_truth value = Err WrongKind
 
+-- one character
 abbrev pub fit_character : Value → Fit
 fit_character (character c) = Ok tt
 fit_character value = Err WrongKind
@@ -30,6 +33,7 @@ fit_character value = Err WrongKind
 abbrev pub within : ℕ → ℕ → Fit
 within bound len = if bound == 0 || nat_le len bound then Ok tt else Err OutOfRange
 
+-- a text of at most so many bytes
 abbrev pub fit_text : ℕ → Value → Fit
 fit_text bound (text t) = within bound (length t)
 fit_text bound value = Err WrongKind
@@ -38,6 +42,7 @@ fit_text bound value = Err WrongKind
 abbrev pub same_enum : List ℕ → List ℕ → Fit
 same_enum id of = if bytes_eq id of then Ok tt else Err WrongKind
 
+-- an enumerator of the enum with this id
 abbrev pub fit_choice : List ℕ → Value → Fit
 fit_choice id (choice of n) = same_enum id of
 fit_choice id value = Err WrongKind
@@ -56,6 +61,7 @@ fit_scalar (signed size4) value = fit_number (negsuc 2147483647) (pos 2147483647
 fit_scalar (signed size8) value = fit_number (negsuc 9223372036854775807) (pos 9223372036854775807) value
 fit_scalar (enumeration id labels) value = fit_choice id value
 
+-- the values of a scalar, or texts within a bound; no other type has constants
 abbrev pub fit : Kind → Value → Fit
 fit (scalar k) value = fit_scalar k value
 fit (words bound) value = fit_text bound value

@@ -27,6 +27,7 @@ abbrev pub behind_0 : List ℕ → ℕ
 behind_0 [] = 0
 behind_0 (c ∷ cs) = if nat_eq c 120 then number 16 cs else number 8 (c ∷ cs)
 
+-- the number of an integer literal, and 0 of no text
 abbrev pub integer_of : List ℕ → ℕ
 integer_of [] = 0
 integer_of (c ∷ cs) = if nat_eq c 48 then behind_0 cs else number 10 (c ∷ cs)

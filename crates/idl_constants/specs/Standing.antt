@@ -7,6 +7,7 @@ abbrev pub may_switch_scalar : Scalar → Bool
 may_switch_scalar (unsigned size1) = false
 may_switch_scalar k = true
 
+-- only a scalar may stand behind `switch`
 abbrev pub may_switch : Kind → Bool
 may_switch (scalar k) = may_switch_scalar k
 may_switch kind = false
@@ -16,6 +17,7 @@ abbrev pub may_be_constant_scalar : Scalar → Bool
 may_be_constant_scalar (enumeration id labels) = false
 may_be_constant_scalar k = true
 
+-- only such a scalar or a string may stand behind `const`
 abbrev pub may_be_constant : Kind → Bool
 may_be_constant (scalar k) = may_be_constant_scalar k
 may_be_constant (words bound) = true

@@ -3,6 +3,7 @@ use Rattle.idl_constants.specs.ConstValues.{Value, number, character, text, trut
 use Rattle.idl_constants.specs.declared.value.ConstValue.{ConstValue}
 use Rattle.idl_constants.specs.declared.value.ConstValue.TheVariants as v
 
+-- a value of the program
 abbrev pub value_of : ConstValue → Value
 value_of (v.Number z) = number z
 value_of (v.Character c) = character c

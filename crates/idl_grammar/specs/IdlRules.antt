@@ -30,6 +30,7 @@ word_result =
     or (one token.Short (l.Refuse cause.BadOneway) or (one token.Long (l.Refuse cause.BadOneway) or (one token.Unsigned (l.Refuse cause.BadOneway)
     or (one token.String (l.Refuse cause.BadOneway) or one token.DoubleColon (l.Refuse cause.BadOneway)))))))
 
+-- a result behind "oneway" that begins with a name
 abbrev pub name_result : IdlRule
 name_result = one token.Name l.NamePart then (maybe (one token.DoubleColon l.LongResultName) then does l.ResultName)
 

@@ -31,11 +31,13 @@ scoped = maybe (one token.DoubleColon l.Rooted) then chained (one token.Name l.N
 abbrev pub signed : IdlRule
 signed = (one token.Minus l.Sign then one token.Integer l.Minus) or (one token.Plus l.Sign then one token.Integer l.Plus)
 
+-- a value that is no name
 abbrev pub literal : IdlRule
 literal =
     one token.Integer l.Number or (signed or (one token.Character l.Character or (one token.Quoted l.Text
     or (one token.True (l.Truth true) or one token.False (l.Truth false)))))
 
+-- a literal, or the name of a constant or of an enumerator
 abbrev pub value : IdlRule
 value = literal or (scoped then does l.UseConst)
 
@@ -43,6 +45,7 @@ value = literal or (scoped then does l.UseConst)
 abbrev pub signed_type : IdlRule
 signed_type = one token.Short (l.Basic basic.Short) or (one token.Long (l.Basic basic.Long) then maybe (one token.Long (l.Basic basic.LongLong)))
 
+-- "unsigned" ( "short" | "long" [ "long" ] )
 abbrev pub unsigned_type : IdlRule
 unsigned_type =
     word token.Unsigned
@@ -54,9 +57,11 @@ switch_type =
     one token.Boolean (l.Basic basic.Boolean) or (one token.Char (l.Basic basic.Char)
     or (signed_type or (unsigned_type or (scoped then does l.UseType))))
 
+-- "string" [ "<" value ">" ]
 abbrev pub text_type : IdlRule
 text_type = one token.String l.AnyText then maybe (nested token.Less l.Skip inner.TextBound token.Greater l.BoundedText)
 
+-- all of them
 abbrev pub plain : IdlRule
 plain = one token.Octet (l.Basic basic.Octet) or (text_type or switch_type)
 

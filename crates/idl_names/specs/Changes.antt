@@ -18,12 +18,15 @@ use Rattle.idl_names.specs.State.{Thing, nothing, no_parts, Built}
 abbrev pub Done : Type 0
 Done = Result Built IdlFault
 
+-- where a token stands
 abbrev pub place_of : Placed Kind → Place
 place_of t = record { line = t.line; column = t.column }
 
+-- a cause at a place
 abbrev pub fault : IdlCause → Place → IdlFault
 fault c p = record { cause = c; line = p.line; column = p.column }
 
+-- what is built ends with this fault
 abbrev pub refused : IdlCause → Place → Done
 refused c p = Err (fault c p)
 
@@ -35,6 +38,7 @@ unless b c p s = if b then refused c p else Ok s
 abbrev pub newest : Built → ℕ
 newest s = length s.scopes.declared - 1
 
+-- the declaration whose body is open
 abbrev pub opened : Built → ℕ
 opened s = s.here - 1
 
@@ -43,12 +47,15 @@ abbrev pub thing_in : Option Thing → Thing
 thing_in None = nothing
 thing_in (Some thing) = thing
 
+-- what the declaration with this number stands for
 abbrev pub thing_at : Built → ℕ → Thing
 thing_at s i = thing_in (slice_get s.things i)
 
+-- where its name stands
 abbrev pub place_at : Built → ℕ → Place
 place_at s i = scopes.place_at s.scopes i
 
+-- its name
 abbrev pub name_at : Built → ℕ → List ℕ
 name_at s i = scopes.name_at s.scopes i
 
@@ -56,9 +63,11 @@ name_at s i = scopes.name_at s.scopes i
 abbrev pub with_name : ℕ → Sort → Thing → Placed Kind → Built → Built
 with_name scope sort thing t s = record s { scopes = added scope t.text (place_of t) sort s.scopes; things = s.things ++ thing ∷ [] }
 
+-- a token's text is declared there, or clashes at the token
 abbrev pub declare_in : ℕ → Sort → Thing → Placed Kind → Built → Done
 declare_in scope sort thing t s = unless (is_taken s.scopes t.text scope) cause.Clash (place_of t) s >>= (λ s. Ok (with_name scope sort thing t s))
 
+-- it is declared in the open scope, and isn't found before its end
 abbrev pub declare : Placed Kind → Built → Done
 declare t s = declare_in s.here unfinished nothing t s
 
@@ -74,6 +83,7 @@ become i sort thing s = record s { scopes = finished s.scopes i sort; things = s
 abbrev pub leave : Built → Built
 leave s = record s { here = scopes.outer s.scopes s.here; parts = no_parts }
 
+-- the open declaration becomes this, and its body ends
 abbrev pub ends : Sort → Thing → Built → Done
 ends sort thing s = Ok (leave (become (opened s) sort thing s))
 

@@ -32,10 +32,12 @@ abbrev pub operations_in : Thing → List ℕ
 operations_in (interface bases os) = os
 operations_in thing = []
 
+-- those that so many bases add to others
 abbrev pub operations_from : Built → List ℕ → List ℕ → List ℕ
 operations_from s so_far [] = so_far
 operations_from s so_far (base ∷ bases) = operations_from s (joined_to so_far (operations_in (thing_at s base))) bases
 
+-- those of all bases so far
 abbrev pub inherited : Built → List ℕ
 inherited s = operations_from s [] s.parts.bases
 
@@ -44,9 +46,11 @@ abbrev pub operation_leaves : Thing → ℕ
 operation_leaves (operations os n) = n
 operation_leaves thing = 0
 
+-- they are counted with the file's leaves
 abbrev pub inherit : Built → Done
 inherit s = counted (sum_by (λ i. operation_leaves (thing_at s i)) (inherited s)) (place_at s (newest s)) s
 
+-- the interface is known with its bases, and its body opens
 abbrev pub open_interface : Built → Done
 open_interface s = enter (record (become (newest s) (table.interface (base_scopes s)) (interface s.parts.bases (inherited s)) s) { parts = no_parts })
 
@@ -55,6 +59,7 @@ abbrev pub and_operation : ℕ → Thing → Thing
 and_operation i (interface bases os) = interface bases (os ++ i ∷ [])
 and_operation i thing = thing
 
+-- the interface of this scope has one operation more
 abbrev pub with_operation : ℕ → ℕ → Built → Built
 with_operation scope i s = record s { things = set s.things (scope - 1) (and_operation i (thing_at s (scope - 1))) }
 
@@ -62,16 +67,20 @@ with_operation scope i s = record s { things = set s.things (scope - 1) (and_ope
 abbrev pub result : Built → Done
 result s = Ok (record s { parts = with_part s.type (record s.parts { result = Some s.type.kind }) })
 
+-- the way of a parameter that only goes in
 abbrev pub is_input : Way → Bool
 is_input input = true
 is_input way = false
 
+-- the way of the next parameter; a oneway has only those that go in
 abbrev pub goes : Way → Placed Kind → Built → Done
 goes way t s = unless (s.parts.oneway && not (is_input way)) cause.BadOneway (place_of t) s >>= (λ s. Ok (record s { parts = record s.parts { way = way } }))
 
+-- one more parameter, in the way that was read
 abbrev pub with_param : List ℕ → Sized → Parts → Parts
 with_param name k p = with_part k (record p { params = p.params ++ record { way = p.way; name = name; kind = k.kind } ∷ [] })
 
+-- the newest type and this name are a parameter, unless the name is taken in the operation
 abbrev pub param : Placed Kind → Built → Done
 param t s =
     unless (is_taken_part s.scopes t.text s.here) cause.Clash (place_of t) s
@@ -82,6 +91,7 @@ abbrev pub raised : Thing → Built → Done
 raised (exception members) s = Ok (renewed (record s { parts = record s.parts { raises = s.parts.raises ++ id_of s.scopes (meant s) ∷ [] } }))
 raised thing s = wrong s
 
+-- an operation of this name, with the parts that were read
 abbrev pub operation_of : List ℕ → Parts → Operation
 operation_of name p = record { name = name; oneway = p.oneway; result = p.result; params = p.params; raises = p.raises }
 
@@ -95,13 +105,16 @@ end_operation s =
 abbrev pub getter : List ℕ → trees.Kind → Operation
 getter name kind = record { name = codes "_get_" ++ name; oneway = false; result = Some kind; params = []; raises = [] }
 
+-- the operation that takes an attribute
 abbrev pub setter : List ℕ → trees.Kind → Operation
 setter name kind = record { name = codes "_set_" ++ name; oneway = false; result = None; params = record { way = input; name = name; kind = kind } ∷ []; raises = [] }
 
+-- the operations of an attribute, and their leaves
 abbrev pub attribute_of : Bool → List ℕ → Sized → Thing
 attribute_of true name k = operations (getter name k.kind ∷ []) (plus k.leaves 1)
 attribute_of false name k = operations (getter name k.kind ∷ setter name k.kind ∷ []) (times 2 (plus k.leaves 1))
 
+-- this name is an attribute of the newest type: it is declared and counted, and its interface has it
 abbrev pub attribute : Placed Kind → Built → Done
 attribute t s =
     declare_in s.here table.operation (attribute_of s.parts.readonly t.text s.type) t s

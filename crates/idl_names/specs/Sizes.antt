@@ -14,9 +14,11 @@ pub record Sized : Type 0 where
 abbrev pub most : ℕ
 most = 1048577
 
+-- a sum, counted no further than that
 abbrev pub plus : ℕ → ℕ → ℕ
 plus m n = min (m + n) most
 
+-- a product, counted no further than that
 abbrev pub times : ℕ → ℕ → ℕ
 times m n = min (m * n) most
 

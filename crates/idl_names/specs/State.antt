@@ -10,11 +10,13 @@ use Rattle.idl_names.specs.Sizes.{Sized, leaf}
 pub data Way : Type 0 where
   input output both : Way
 
+-- a parameter of an operation
 pub record Parameter : Type 0 where
   pub way : Way
   pub name : List ℕ
   pub kind : Kind
 
+-- an operation: its name, its parameters, and the ids of the exceptions that it raises
 pub record Operation : Type 0 where
   pub name : List ℕ
   pub oneway : Bool
@@ -68,6 +70,7 @@ pub record Parts : Type 0 where
   pub leaves : ℕ
   pub levels : ℕ
 
+-- what is known of a text up to a token
 pub record Built : Type 0 where
   pub scopes : Table
   -- what the declarations stand for, in their order
@@ -86,9 +89,11 @@ pub record Built : Type 0 where
   pub lengths : List ℕ
   pub parts : Parts
 
+-- where nothing was read
 abbrev pub no_place : Place
 no_place = record { line = 0; column = 0 }
 
+-- no declaration is read
 abbrev pub no_parts : Parts
 no_parts = record { bases = []; members = []; enumerators = []; discriminator = scalar (unsigned size1); cases = []; labels = []; is_default = false; readonly = false; oneway = false; way = input; result = None; params = []; raises = []; leaves = 0; levels = 0 }
 

@@ -28,9 +28,11 @@ behind_sign z t s = Ok (record s { value = record { value = number z; at = s.val
 abbrev pub number_of : Placed Kind → ℤ
 number_of t = pos (min (integer_of t.text) (2 ^ 64))
 
+-- the value of a character literal: the byte between its quotes
 abbrev pub character_of : Placed Kind → Value
 character_of t = character (slice_index t.text 1)
 
+-- the value of a text literal
 abbrev pub text_of : Placed Kind → Value
 text_of t = text (unquoted t.text)
 
@@ -44,15 +46,19 @@ fitting (Err OutOfRange) s = refused cause.OutOfRange s.value.literal
 abbrev pub natural : ℤ → ℕ
 natural z = elim z [ pos n ↦ n | negsuc n ↦ 0 ]
 
+-- the newest value as a bound or a length
 abbrev pub size_of : Built → ℕ
 size_of s = natural (label_of s.value.value)
 
+-- it is a number from 1 to 65,536
 abbrev pub measuring : Built → Done
 measuring s = fitting (fit_number (pos 1) (pos 65536) s.value.value) s
 
+-- the newest value is a bound
 abbrev pub bound : Built → Done
 bound s = measuring s >>= (λ s. Ok (record s { bound = size_of s }))
 
+-- the newest value is one more length of an array
 abbrev pub array_length : Built → Done
 array_length s = measuring s >>= (λ s. Ok (record s { lengths = size_of s ∷ s.lengths }))
 
@@ -60,6 +66,7 @@ array_length s = measuring s >>= (λ s. Ok (record s { lengths = size_of s ∷ s
 abbrev pub bounded_text : Built → Done
 bounded_text s = Ok (record s { type = leaf (words s.bound); bound = 0 })
 
+-- the newest type is a sequence of what it was
 abbrev pub sequenced : Built → Done
 sequenced s = Ok (record s { type = sequence_of s.bound s.type; bound = 0 })
 
@@ -67,5 +74,6 @@ sequenced s = Ok (record s { type = sequence_of s.bound s.type; bound = 0 })
 abbrev pub const_type : Built → Done
 const_type s = unless (not (may_be_constant s.type.kind)) cause.WrongKind s.last s
 
+-- the value fits the type, a constant is one leaf, and the newest name stands for it
 abbrev pub end_const : Built → Done
 end_const s = fitting (fit s.type.kind s.value.value) s >>= counted 1 (place_at s (newest s)) >>= (λ s. Ok (become (newest s) other (constant s.type.kind s.value.value) s))

@@ -15,6 +15,7 @@ abbrev pub finished_in : List Declared → ℕ → Sort → Option Declared → 
 finished_in ds i sort None = ds
 finished_in ds i sort (Some d) = set ds i (record d { sort = sort })
 
+-- the declaration with this number becomes such, in the table
 abbrev pub finished : Table → ℕ → Sort → Table
 finished t i sort = record t { declared = finished_in t.declared i sort (slice_get t.declared i) }
 

@@ -14,27 +14,34 @@ abbrev pub sort_in : Option Declared → Sort
 sort_in None = unfinished
 sort_in (Some d) = d.sort
 
+-- the scope that it is declared in, and the file's where nothing stands
 abbrev pub scope_in : Option Declared → ℕ
 scope_in None = 0
 scope_in (Some d) = d.scope
 
+-- its name, and none where nothing stands
 abbrev pub name_in : Option Declared → List ℕ
 name_in None = []
 name_in (Some d) = d.name
 
+-- where its name stands in the text
 abbrev pub place_of : Option Declared → Place
 place_of None = record { line = 0; column = 0 }
 place_of (Some d) = d.place
 
+-- what the declaration with this number is
 abbrev pub sort_at : Table → ℕ → Sort
 sort_at t i = sort_in (slice_get t.declared i)
 
+-- the scope that it is declared in
 abbrev pub scope_at : Table → ℕ → ℕ
 scope_at t i = scope_in (slice_get t.declared i)
 
+-- its name
 abbrev pub name_at : Table → ℕ → List ℕ
 name_at t i = name_in (slice_get t.declared i)
 
+-- where its name stands
 abbrev pub place_at : Table → ℕ → Place
 place_at t i = place_of (slice_get t.declared i)
 
@@ -47,10 +54,12 @@ abbrev pub is_finished : Sort → Bool
 is_finished unfinished = false
 is_finished sort = true
 
+-- it is a module
 abbrev pub is_module : Sort → Bool
 is_module module_ = true
 is_module sort = false
 
+-- it is an operation or attribute
 abbrev pub is_operation : Sort → Bool
 is_operation operation = true
 is_operation sort = false
@@ -72,10 +81,12 @@ place_in t name scope = position (is_at scope (lowered name)) t.keys
 abbrev pub is_spelled : List ℕ → Declared → Bool
 is_spelled name d = bytes_eq d.name name && is_finished d.sort
 
+-- something stands there, spelled so and found
 abbrev pub is_spelled_in : List ℕ → Option Declared → Bool
 is_spelled_in name None = false
 is_spelled_in name (Some d) = is_spelled name d
 
+-- the declaration with this number, if it is spelled so and found
 abbrev pub if_spelled : Table → List ℕ → Option ℕ → Option ℕ
 if_spelled t name None = None
 if_spelled t name (Some i) = if is_spelled_in name (slice_get t.declared i) then Some i else None
@@ -84,10 +95,12 @@ if_spelled t name (Some i) = if is_spelled_in name (slice_get t.declared i) then
 abbrev pub own : Table → List ℕ → ℕ → Option ℕ
 own t name scope = if_spelled t name (place_in t name scope)
 
+-- the one, and where there is none the other
 abbrev pub or_else : Option ℕ → Option ℕ → Option ℕ
 or_else (Some i) other = Some i
 or_else None other = other
 
+-- the first of these scopes in which the name is found tells
 abbrev pub among : Table → List ℕ → List ℕ → Option ℕ
 among t name [] = None
 among t name (scope ∷ scopes) = or_else (own t name scope) (among t name scopes)
@@ -96,6 +109,7 @@ among t name (scope ∷ scopes) = or_else (own t name scope) (among t name scope
 abbrev pub above : Table → ℕ → List ℕ
 above t scope = if scope == 0 then [] else inherited (sort_at t (scope - 1))
 
+-- in a scope, and then in what it inherits
 abbrev pub inside : Table → List ℕ → ℕ → Option ℕ
 inside t name scope = among t name (scope ∷ above t scope)
 
@@ -121,5 +135,6 @@ abbrev pub if_module : Table → Option ℕ → Option ℕ
 if_module t None = None
 if_module t (Some i) = if is_module (sort_at t i) then Some i else None
 
+-- the module of this name in a scope
 abbrev pub module_in : Table → List ℕ → ℕ → Option ℕ
 module_in t name scope = if_module t (own t name scope)

@@ -18,6 +18,7 @@ is_taken_part t name scope = is_keyword (lowered name) || is_in t name scope
 abbrev pub is_named : List ℕ → Declared → Bool
 is_named name d = str_eq_ignore_ascii_case d.name name
 
+-- something stands there, and has this name
 abbrev pub is_named_in : List ℕ → Option Declared → Bool
 is_named_in name None = false
 is_named_in name (Some d) = is_named name d
@@ -31,6 +32,7 @@ abbrev pub is_operation_there : Table → Option ℕ → Bool
 is_operation_there t None = false
 is_operation_there t (Some i) = is_operation (sort_at t i)
 
+-- the scope has an operation or attribute of this name
 abbrev pub is_operation_in : Table → List ℕ → ℕ → Bool
 is_operation_in t name scope = is_operation_there t (place_in t name scope)
 

@@ -7,6 +7,7 @@ use Rattle.idl_scopes.specs.declared.known.Known.{Known}
 use Rattle.idl_scopes.specs.declared.scopes.Declared.{Declared}
 use Rattle.idl_scopes.specs.declared.scopes.Scopes.{Scopes}
 
+-- what a declaration is
 abbrev pub sort_of : Sort → t.Sort
 sort_of v.Unfinished = t.unfinished
 sort_of v.Module = t.module_
@@ -14,6 +15,7 @@ sort_of (v.Interface scopes) = t.interface scopes.items
 sort_of v.Operation = t.operation
 sort_of v.Other = t.other
 
+-- a declaration
 abbrev pub declared_of : Declared → t.Declared
 declared_of d = record { scope = d.scope; name = d.name.items; place = d.place; sort = sort_of d.sort }
 

@@ -1,9 +1,6 @@
 -- Which replies each call can get.
-use Rattle.std.proofs.Common.{◌≡◌, ℕ, Bool, true, false, List, [], ◌∷◌, ◌++◌, sym, refl, ap, ◌∙◌, subst}
-use Rattle.std.specs.Prelude.{nat_eq}
-use Rattle.std.proofs.lemmas.Bool.{and_from, eq-eqb}
+use Rattle.std.proofs.Common.{◌≡◌, ℕ, true, List, [], ◌∷◌, ◌++◌, refl, ap, ◌∙◌, subst}
 use Rattle.orb_base.specs.Conn.{same_conn}
-use Rattle.orb_base.specs.declared.answer.Answer.{Answer}
 use Rattle.orb_base.specs.declared.conn_id.ConnId.{ConnId}
 use Rattle.orb_base.specs.declared.item.Item.{Item}
 use Rattle.orb_base.specs.declared.item.Item.TheVariants as item
@@ -12,7 +9,6 @@ use Rattle.orb_base.specs.declared.notice.Notice.{Notice}
 use Rattle.turn_cell.specs.Seats.{CellView}
 use Rattle.turn_cell.specs.Calls.{Calls}
 use Rattle.turn_cell.specs.Good.{entry}
-use Rattle.request_buffer.specs.Kept.{may_cancel}
 use Rattle.lane_machine.specs.State.{State, Opens}
 use Rattle.lane_machine.specs.Machine.{step, is_over}
 use Rattle.lane_machine.specs.Readiness.{is_ready, IsSound}
@@ -20,11 +16,12 @@ use Rattle.lane_machine.specs.Callers.{IsFit, is_heard}
 use Rattle.lane_machine.specs.Entries.{One}
 use Rattle.lane_machine.specs.Histories.{History, replay, IsLegal}
 use Rattle.lane_machine.specs.declared.call.LaneCall.{LaneCall}
-use Rattle.lane_machine.specs.declared.call.LaneCall.TheVariants.{Offer, Post, Cancel, Take, Finish, Collect, End, Leave}
+use Rattle.lane_machine.specs.declared.call.LaneCall.TheVariants.{Offer, Post, Cancel, Take, Collect}
 use Rattle.lane_machine.specs.declared.call.LaneReply.{LaneReply}
 use Rattle.lane_machine.specs.declared.call.LaneReply.TheVariants as reply
 use Rattle.lane_machine.proofs.Weighs.{weigh, OfferMoves, PostMoves, CancelMoves, TakeMoves, CollectMoves, offer_moves, post_moves, cancel_moves, take_moves, collect_moves}
 use Rattle.lane_machine.proofs.Bounds.{owing}
+use Rattle.lane_laws.proofs.Marks.{same_self}
 use Rattle.lane_pool.specs.Pass.{Sitting}
 use Rattle.lane_pool.specs.Replies.{IsAnswer, is_offered, is_posting, is_cancelling, is_taken, is_collected}
 
@@ -87,9 +84,6 @@ pub collect_is : (conn : ConnId) (r : LaneReply) → IsAnswer (Collect conn) r �
 collect_is conn r a = let s = a.0 in ap is_collected a.1 ∙ collect_kinds conn (weigh (owing conn) s) (weigh (owing conn) (step s (Collect conn)).0) (step s (Collect conn)).1 (collect_moves (owing conn) s conn)
 
 -- calls of the connection are heard of it
-same_self : (conn : ConnId) → same_conn conn conn ≡ true
-same_self conn = and_from (nat_eq conn.slot conn.slot) (nat_eq conn.nth conn.nth) (eq-eqb conn.slot conn.slot refl) (eq-eqb conn.nth conn.nth refl)
-
 pub hears_offer : (job : Job) (conn : ConnId) → job.conn ≡ conn → is_heard conn (Offer job) ≡ true
 hears_offer job conn e = subst (λ (c : ConnId). same_conn job.conn c ≡ true) e (same_self job.conn)
 

@@ -1,23 +1,18 @@
 -- Whether a call of a connection was answered Closing, behind one more call.
-use Rattle.std.proofs.Common.{◌≡◌, ℕ, ◌+◌, ◌<◌, ◌≤◌, Bool, true, false, cond, eqb, ◌&&◌, ◌||◌, List, [], ◌∷◌, ◌++◌, sym, refl, ap, ◌∙◌, subst, arith, ne_eqb}
+use Rattle.std.proofs.Common.{◌≡◌, ℕ, Bool, true, false, eqb, ◌&&◌, ◌||◌, [], ◌∷◌, ◌++◌, sym, refl, ap, ◌∙◌, ne_eqb}
 use Rattle.std.proofs.Math.Bool.{or-false}
-use Rattle.std.specs.List.{list_any}
 use Rattle.std.proofs.lemmas.Bool.{and_parts, eqb-true}
-use Rattle.std.proofs.lemmas.List.Folds.{list_any-append}
 use Rattle.turn_cell.specs.Good.{entry}
 use Rattle.orb_base.specs.Conn.{same_conn}
 use Rattle.orb_base.specs.declared.conn_id.ConnId.{ConnId}
 use Rattle.lane_machine.specs.Callers.{is_heard, is_closing, was_closed}
 use Rattle.lane_machine.specs.Entries.{One}
 use Rattle.lane_machine.specs.Histories.{History}
+use Rattle.lane_laws.proofs.Marks.{closed_push}
 use Rattle.lane_machine.specs.declared.call.How.{How}
 use Rattle.lane_machine.specs.declared.call.LaneCall.{LaneCall}
 use Rattle.lane_machine.specs.declared.call.LaneCall.TheVariants.{Offer, Post, Cancel, Take, Finish, Collect, End, Leave}
 use Rattle.lane_machine.specs.declared.call.LaneReply.{LaneReply}
-
--- one more entry
-closed_push : (conn : ConnId) (mine : History) (e : One) → was_closed conn (mine ++ e ∷ []) ≡ (was_closed conn mine || (is_heard conn e.call && is_closing e.reply || false))
-closed_push conn mine e = list_any-append (λ (x : One). is_heard conn x.call && is_closing x.reply) mine (e ∷ [])
 
 -- that is heard of the connection
 pub closed_heard : (conn : ConnId) (mine new : History) (n : ℕ) (call : LaneCall) (r : LaneReply) (closed : Bool) → closed ≡ was_closed conn mine → is_heard conn call ≡ true

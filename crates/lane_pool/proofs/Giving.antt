@@ -1,5 +1,5 @@
 -- Passes that come back one after another.
-use Rattle.std.proofs.Common.{◌≡◌, ◌+◌, ℕ, List, [], ◌∷◌, ◌++◌, length, append-nil, append_assoc, subst, sym, ap, ◌∙◌, refl, arith}
+use Rattle.std.proofs.Common.{◌≡◌, List, [], ◌∷◌, ◌++◌, append-nil, append_assoc, subst, sym, ap, ◌∙◌, refl}
 use Rattle.turn_cell.specs.Seats.{CellView}
 use Rattle.turn_cell.specs.Calls.{IsOf, IsJoined, gone}
 use Rattle.turn_cell.specs.History.{StartsWith}

@@ -1,8 +1,8 @@
 -- Fresh passes, one after another.
-use Rattle.std.proofs.Common.{◌≡◌, ◌+◌, ℕ, List, [], ◌∷◌, ◌++◌, length, subst, sym, ap, arith}
+use Rattle.std.proofs.Common.{◌≡◌, ◌+◌, ℕ, List, [], ◌∷◌, ◌++◌, length, subst, arith}
 use Rattle.turn_cell.specs.Seats.{CellView}
 use Rattle.lane_machine.specs.State.{State}
-use Rattle.lane_pool.specs.Pass.{Pass, Sitting}
+use Rattle.lane_pool.specs.Pass.{Pass}
 use Rattle.lane_pool.specs.Passes.{IsFresh, AreFrom}
 
 grows_at : (cell : CellView State) (first who : ℕ) (ps : List Pass) (p : Pass) → AreFrom cell first who ps → IsFresh cell (first + (who + length ps)) (who + length ps) p → AreFrom cell first who (ps ++ p ∷ [])

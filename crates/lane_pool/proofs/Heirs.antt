@@ -1,8 +1,7 @@
 -- The seats that are split from the first one, and from a slot's.
-use Rattle.std.proofs.Common.{◌≡◌, ℕ, zero, suc, ◌+◌, ◌*◌, ◌-◌, ◌<◌, ◌≤◌, Bool, true, cond, ◌&&◌, Option, Some, None, sym, refl, ap, ◌∙◌, subst, arith, add-one}
+use Rattle.std.proofs.Common.{◌≡◌, ℕ, ◌+◌, ◌*◌, ◌<◌, Bool, cond, Some, None, ap, ◌∙◌, add-one}
 use Rattle.std.specs.Prelude.{nat_lt}
 use Rattle.std.proofs.lemmas.Bool.{lt-ltb, and_from}
-use Rattle.orb_base.specs.declared.conn_id.ConnId.{ConnId}
 use Rattle.lane_machine.specs.Callers.{heir, writer_seat}
 
 pub heir_of_first : (n k : ℕ) → n ≡ 0 → k < 80 → heir n k ≡ Some (k + 1)

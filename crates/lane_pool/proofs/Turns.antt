@@ -1,5 +1,5 @@
 -- A call by a pass leads from one turn to the next, and what a turn asks is that the call is fit.
-use Rattle.std.proofs.Common.{◌≡◌, ℕ, ◌+◌, ◌*◌, ◌<◌, ◌≤◌, Bool, true, false, cond, ◌&&◌, ◌||◌, List, [], ◌∷◌, ◌++◌, length, Option, Some, None, inl, inr, sym, refl, ap, ◌∙◌, subst, arith}
+use Rattle.std.proofs.Common.{◌≡◌, ℕ, ◌+◌, ◌<◌, ◌≤◌, Bool, true, false, cond, ◌&&◌, ◌||◌, [], ◌∷◌, ◌++◌, Some, None, inl, inr, sym, refl, ap, ◌∙◌, subst, arith}
 use Rattle.std.specs.Prelude.{slice_get, Result, Ok, Err, IfOk}
 use Rattle.std.proofs.lemmas.Bool.{cases_Bool}
 use Rattle.std.proofs.lemmas.List.Sums.{sum_by_push, sum_by-cons}
@@ -28,9 +28,9 @@ use Rattle.lane_pool.specs.declared.answers.Taken.TheVariants as taken
 use Rattle.lane_pool.specs.declared.answers.Collected.{Collected}
 use Rattle.lane_pool.specs.declared.answers.Collected.TheVariants as collected
 use Rattle.lane_pool.specs.Pass.{Pass, Sitting, conn_of}
-use Rattle.lane_pool.specs.Passes.{IsIn, MayMake, Makes, IsLinked, IsUnlinked}
+use Rattle.lane_pool.specs.Passes.{MayMake, Makes, IsLinked, IsUnlinked}
 use Rattle.lane_pool.specs.Replies.{taken_reply, collected_reply}
-use Rattle.lane_pool.specs.Turns.{NoneHeard, heard_by, IsServing, Reads, Listens, HasEnded, Rests, GoesOn, FitsLane, Works, CanTake, Carries, Writes, HasTaken, HasCollected}
+use Rattle.lane_pool.specs.Turns.{heard_by, IsServing, Reads, Listens, HasEnded, Rests, GoesOn, FitsLane, Works, CanTake, Carries, Writes, HasTaken, HasCollected}
 use Rattle.lane_pool.proofs.Closed.{closed_heard, other_heard}
 
 -- the counts behind one more entry
@@ -184,6 +184,18 @@ listens_ok cell old (Err back) s room u = tt
 pub writes_ok : (cell : CellView State) (old : Pass) (r : Result (Pass × Pass) Pass) → Rests cell old → old.nth < cell.terms.opening.per_slot → IfOk r (λ p. IsLinked old p.0 p.1) → IfOk r (λ p. Writes cell p.1)
 writes_ok cell old (Ok p) s room u = writes cell old p.0 p.1 s room u
 writes_ok cell old (Err back) s room u = tt
+
+unheard : (cell : CellView State) (old reader writer : Pass) → Rests cell old → IsLinked old reader writer → heard_by reader ≡ 0
+unheard cell old reader writer s u =
+    ap (λ (z : ConnId). heard_calls z reader.seat.mine) (same_conn_of old reader u.reader_who u.reader_nth) ∙ (ap (heard_calls (conn_of old)) u.seats.4 ∙ s.later old.nth (omega arith))
+
+pub unheard_ok : (cell : CellView State) (old : Pass) (r : Result (Pass × Pass) Pass) → Rests cell old → IfOk r (λ p. IsLinked old p.0 p.1) → IfOk r (λ p. heard_by p.0 ≡ 0)
+unheard_ok cell old (Ok p) s u = unheard cell old p.0 p.1 s u
+unheard_ok cell old (Err back) s u = tt
+
+-- behind a call that was not answered Closing more may come
+pub listens_on : (cell : CellView State) (closing : Bool) (old new : Pass) → GoesOn cell closing old new → closing ≡ false → Listens cell new
+listens_on cell closing old new g e = record { reads = g.reads; is_open = g.is_open e }
 
 -- fit calls
 reading : (cell : CellView State) (pass : Pass) → Reads cell pass → IsReading cell.terms.opening pass.seat.mine (conn_of pass)

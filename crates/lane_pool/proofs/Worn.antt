@@ -1,5 +1,5 @@
 -- The history has room for each fit call.
-use Rattle.std.proofs.Common.{◌≡◌, ℕ, ◌<◌, List, length, sym, ap, ◌∙◌, subst, arith}
+use Rattle.std.proofs.Common.{◌≡◌, ℕ, length, sym, ◌∙◌, subst, arith}
 use Rattle.turn_cell.specs.Seats.{CellView}
 use Rattle.turn_cell.specs.Calls.{WornOut}
 use Rattle.lane_machine.specs.State.{State, Opens}

@@ -2,7 +2,7 @@
 ghost use Rattle.std.specs.Prelude.{◌≡◌, ◌<◌, ◌++◌, [], IfOk, IfErr};
 ghost use Rattle.turn_cell.specs.Calls.{IsOf, IsJoined};
 ghost use Rattle.lane_pool.specs.Passes.{IsIn, IsLinked, IsUnlinked};
-ghost use Rattle.lane_pool.specs.Turns.{Rests, Listens, Writes, HasEnded};
+ghost use Rattle.lane_pool.specs.Turns.{Rests, Listens, Writes, HasEnded, heard_by};
 ghost use Rattle.lane_pool.specs.Returning.{AreIn, AreSeen, left_by, AllBack, IsHistory, TakesIn};
 
 use crate::passes::{ReaderPass, RootPass, SlotPass, WorkerPass, WriterPass};
@@ -20,6 +20,7 @@ impl LanePool {
         requires room { pass.nth < self.now.cell.terms.opening.per_slot }
         ensures ok { IfOk result (λ p. IsLinked pass p.0 p.1) }
         ensures reader { IfOk result (λ p. Listens self.now.cell p.0) }
+        ensures unheard { IfOk result (λ p. heard_by p.0 ≡ 0) }
         ensures writer { IfOk result (λ p. Writes self.now.cell p.1) }
         ensures err { IfErr result (λ back. back ≡ pass) }
     {

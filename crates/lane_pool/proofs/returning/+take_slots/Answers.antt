@@ -1,4 +1,4 @@
-use Rattle.lane_pool.proofs.Giving.{given_none, given_more, in_front, in_last}
+use Rattle.lane_pool.proofs.Giving.{given_more}
 use Rattle.lane_pool.proofs.returning.+take_slots.Goals as goal
 
 pub returns-in-Some : goal.returns-in-Some

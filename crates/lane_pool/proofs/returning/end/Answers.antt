@@ -1,10 +1,9 @@
-use Rattle.std.proofs.Common.{◌≡◌, ◌++◌, ℕ, List, [], sym, subst}
+use Rattle.std.proofs.Common.{◌≡◌, ℕ, List, [], sym, subst}
 use Rattle.turn_cell.specs.Numbers.{Each, Has, IsWhole}
 use Rattle.turn_cell.specs.Whole.{numbers}
 use Rattle.turn_cell.specs.History.{of}
 use Rattle.lane_machine.specs.Callers.{heir}
 use Rattle.lane_pool.specs.Pass.{Leaving}
-use Rattle.lane_pool.specs.Returning.{left_by}
 use Rattle.lane_pool.proofs.Giving.{seen_on, all_left, all_splits, all_number}
 use Rattle.lane_pool.proofs.returning.end.Goals as goal
 
