@@ -1,11 +1,12 @@
 -- The case of a union that a number chooses, in the tree of its type.
 use Rattle.std.proofs.Common.{◌≡◌, ℕ, ℤ, suc, ◌+◌, Bool, true, false, not, cond, ltb, List, [], ◌∷◌, map, length, Option, Some, None, refl, sym, ap, ◌∙◌}
+use Rattle.std.specs.Option.{option_or}
 use Rattle.std.specs.List.{position, prefix_len}
 use Rattle.cdr_values.specs.declared.kind.Case.{Case}
 use Rattle.cdr_values.specs.declared.kind.IdlType.TheFolds.{fold_out-Case}
 use Rattle.cdr_values.specs.Trees.{Kind, Branch, cases_of}
 use Rattle.cdr_values.specs.Kinds.{kind_step, case_step, member_step, case_of, cases_view}
-use Rattle.cdr_values.specs.Choice.{has_label, branches, or_else, choose}
+use Rattle.cdr_values.specs.Choice.{has_label, branches, choose}
 
 pub branches_back : (bs : List Branch) → branches (cases_of bs) ≡ bs
 branches_back [] = refl
@@ -35,5 +36,5 @@ at_default : (cs : List Case) → position (λ (b : Branch). b.1) (branches (cas
 at_default cs = rw (branches_back (cases_view cs)) (position_map (λ (b : Branch). b.1) (λ (c : Case). c.is_default) case_of default_of cs)
 
 pub chooses : (z : ℤ) (cs : List Case) (a b : Option ℕ) → a ≡ position (λ (c : Case). has_label z c.labels.items) cs → b ≡ position (λ (c : Case). c.is_default) cs
-    → or_else a b ≡ choose z (cases_of (cases_view cs))
+    → option_or a b ≡ choose z (cases_of (cases_view cs))
 chooses z cs a b e d = rw (at_labels z cs, at_default cs, ← e, ← d) refl

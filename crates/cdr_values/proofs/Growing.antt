@@ -1,5 +1,6 @@
 -- A value of a lawful type has a byte, so a count never counts more of them than there are bytes.
 use Rattle.std.proofs.Common.{◌≡◌, ℕ, ℤ, zero, suc, ◌+◌, ◌<◌, ◌≤◌, Bool, true, false, not, ◌&&◌, cond, eqb, List, [], ◌∷◌, ◌++◌, length, Option, Some, None, refl, sym, subst, ◌∙◌, arith, length-append}
+use Rattle.std.proofs.lemmas.Option.{same_Some}
 use Rattle.std.specs.Prelude.{IsTrue, option_and_then, int_le, int_lt}
 use Rattle.std.specs.Int.{Width, w32, byte_len, cast_unsigned}
 use Rattle.std.proofs.lemmas.Bool.{and_parts, not-true, eqb-true, eq-eqb}
@@ -17,15 +18,12 @@ use Rattle.cdr_values.proofs.HasFields.{plain_is}
 
 -- ---- what fields that are asked for are made of
 
-pub some_is : {A : Type 0} (x y : A) → ◌≡◌ {A = Option A} (Some x) (Some y) → x ≡ y
-some_is x y e = cc
-
 pub test_parts : {A : Type 0} (b : Bool) (o : Option A) (x : A) → cond b o None ≡ Some x → (b ≡ true) × (o ≡ Some x)
 test_parts true o x e = (refl, e)
 test_parts false o x e = absurd cc
 
 pub one_parts : (o : Option Field) (fs : List Field) → one_field o ≡ Some fs → (f : Field) × (o ≡ Some f) × (fs ≡ f ∷ [])
-one_parts (Some f) fs e = (f, refl, sym (some_is (f ∷ []) fs e))
+one_parts (Some f) fs e = (f, refl, sym (same_Some (f ∷ []) fs e))
 one_parts None fs e = absurd cc
 
 pub then_parts : (g : ℤ → Option Field) (o : Option ℤ) (f : Field) → option_and_then g o ≡ Some f → (z : ℤ) × (o ≡ Some z) × (g z ≡ Some f)
@@ -33,7 +31,7 @@ then_parts g (Some z) f e = (z, refl, e)
 then_parts g None f e = absurd cc
 
 pub behind_parts : (front : List Field) (o : Option (List Field)) (fs : List Field) → behind front o ≡ Some fs → (gs : List Field) × (o ≡ Some gs) × (fs ≡ front ++ gs)
-behind_parts front (Some gs) fs e = (gs, refl, sym (some_is (front ++ gs) fs e))
+behind_parts front (Some gs) fs e = (gs, refl, sym (same_Some (front ++ gs) fs e))
 behind_parts front None fs e = absurd cc
 
 -- one value's fields and those behind them
@@ -82,7 +80,7 @@ scalar_grows s z f fs e =
     let n : ℕ = cast_unsigned (width_of s) z in
     let here : Field = core.number (width_of s) n in
     let t = test_parts (int_le (lowest s) z && int_lt z (limit s)) (Some here) f e in
-    subst (λ (g : Field). Grows (g ∷ fs)) (some_is here f t.1) (number_grows (width_of s) n fs (width_some s))
+    subst (λ (g : Field). Grows (g ∷ fs)) (same_Some here f t.1) (number_grows (width_of s) n fs (width_some s))
 
 tag_grows : (k : Kind) (z : ℤ) (fs : List Field) → one_field (tag_field k z) ≡ Some fs → Grows fs
 tag_grows (scalar s) z fs e = let a = one_parts (number_field s z) fs e in subst Grows (sym a.2) (scalar_grows s z a.0 [] a.1)
@@ -112,7 +110,7 @@ mutual
   type_grows (scalar s) l v fs e = plain_grows s v fs e
   type_grows (words bound) l (text t) fs e =
       let h = test_parts (is_text bound t) (Some (string_fields t)) fs e in
-      subst Grows (some_is (string_fields t) fs h.1) (number_grows w32 (length t + 1) (core.run 1 (t ++ 0 ∷ []) ∷ []) (omega arith))
+      subst Grows (same_Some (string_fields t) fs h.1) (number_grows w32 (length t + 1) (core.run 1 (t ++ 0 ∷ []) ∷ []) (omega arith))
   type_grows (words bound) l v fs e = absurd cc
   type_grows (sequence k bound) l (items vs) fs e =
       let h = test_parts (is_count bound (values_len vs)) (behind (core.number w32 (values_len vs) ∷ []) (fields_each vs k)) fs e in

@@ -1,5 +1,6 @@
 -- What is spelled is read back.
 use Rattle.std.proofs.Common.{◌≡◌, ℕ, ℤ, zero, suc, pos, negsuc, ◌+◌, ◌*◌, ◌-◌, ◌^◌, ◌<◌, ◌≤◌, Bool, true, false, not, ◌&&◌, cond, ltb, leb, eqb, List, [], ◌∷◌, ◌++◌, length, Option, Some, None, Result, Ok, Err, refl, sym, ap, subst, ◌∙◌, arith, inl, inr}
+use Rattle.std.proofs.lemmas.Option.{same_Some}
 use Rattle.std.specs.Prelude.{IsTrue, is_none}
 use Rattle.std.specs.Int.{Width, w8, w16, w32, w64, byte_len, cast_signed, cast_unsigned}
 use Rattle.std.specs.Ordering.{int_eq}
@@ -24,7 +25,7 @@ use Rattle.cdr_values.proofs.HasFields.{plain_is}
 use Rattle.cdr_values.proofs.Labels.{out_of_range, too_great}
 use Rattle.cdr_values.proofs.Members.{chosen_read}
 use Rattle.cdr_values.proofs.Taking.{small, unsigned_in, labelled_in, letter_in, truth_in}
-use Rattle.cdr_values.proofs.Growing.{some_is, test_parts, one_parts, then_parts, behind_parts, halves, type_grows, each_room}
+use Rattle.cdr_values.proofs.Growing.{test_parts, one_parts, then_parts, behind_parts, halves, type_grows, each_room}
 
 -- ---- numbers
 
@@ -32,7 +33,7 @@ not_out : (o : Option Field) (f : Field) → o ≡ Some f → o ≡ None → ⊥
 not_out o f e n = cc
 
 in_field : (o : Option Field) (g f : Field) (c d : Cursor) → o ≡ Some g → o ≡ Some f → Spans c d (f ∷ []) → Spans c d (g ∷ [])
-in_field o g f c d a b p = let same : f ≡ g = some_is f g (sym b ∙ a) in subst (λ (x : Field). Spans c d (x ∷ [])) same p
+in_field o g f c d a b p = let same : f ≡ g = same_Some f g (sym b ∙ a) in subst (λ (x : Field). Spans c d (x ∷ [])) same p
 
 -- a signed number of a width: its bits, and back
 record Signs (w : Width) (z : ℤ) (o : Option Field) : Type 0 where
@@ -157,16 +158,16 @@ tag_reads (union name k cs) z fs c d e p = absurd cc
 
 -- a value is told by its number
 value_back : (s : Scalar) (v : Value) (z : ℤ) → numeral s v ≡ Some z → value_at s z ≡ v
-value_back boolean (truth true) z e = subst (λ (y : ℤ). value_at boolean y ≡ truth true) (some_is (pos 1) z e) refl
-value_back boolean (truth false) z e = subst (λ (y : ℤ). value_at boolean y ≡ truth false) (some_is (pos 0) z e) refl
+value_back boolean (truth true) z e = subst (λ (y : ℤ). value_at boolean y ≡ truth true) (same_Some (pos 1) z e) refl
+value_back boolean (truth false) z e = subst (λ (y : ℤ). value_at boolean y ≡ truth false) (same_Some (pos 0) z e) refl
 value_back boolean v z e = absurd cc
-value_back char (letter n) z e = subst (λ (y : ℤ). value_at char y ≡ letter n) (some_is (pos n) z e) refl
+value_back char (letter n) z e = subst (λ (y : ℤ). value_at char y ≡ letter n) (same_Some (pos n) z e) refl
 value_back char v z e = absurd cc
-value_back (unsigned s) (number y) z e = ap number (sym (some_is y z e))
+value_back (unsigned s) (number y) z e = ap number (sym (same_Some y z e))
 value_back (unsigned s) v z e = absurd cc
-value_back (signed s) (number y) z e = ap number (sym (some_is y z e))
+value_back (signed s) (number y) z e = ap number (sym (same_Some y z e))
 value_back (signed s) v z e = absurd cc
-value_back (enumeration name labels) (label n) z e = subst (λ (y : ℤ). value_at (enumeration name labels) y ≡ label n) (some_is (pos n) z e) refl
+value_back (enumeration name labels) (label n) z e = subst (λ (y : ℤ). value_at (enumeration name labels) y ≡ label n) (same_Some (pos n) z e) refl
 value_back (enumeration name labels) v z e = absurd cc
 
 plain_reads : (s : Scalar) (v : Value) (fs : List Field) (c d : Cursor) → fields_of v (scalar s) ≡ Some fs → Spans c d fs → read (scalar s) c ≡ Ok (v, d)
@@ -190,7 +191,7 @@ text_reads bound t fs c d e p =
     let a = and_parts (is_none (nul_at t)) (not (is_above bound (length t)) && ltb (length t + 1) (2 ^ 32)) h.0 in
     let b = and_parts (not (is_above bound (length t))) (ltb (length t + 1) (2 ^ 32)) a.1 in
     let few : length t + 1 < 2 ^ 32 = grind (arith, b.1) in
-    let q : Spans c d (string_fields t) = subst (λ (gs : List Field). Spans c d gs) (sym (some_is (string_fields t) fs h.1)) p in
+    let q : Spans c d (string_fields t) = subst (λ (gs : List Field). Spans c d gs) (sym (same_Some (string_fields t) fs h.1)) p in
     rw (string_reads c d t (none_is (nul_at t) a.0) few q, not-true (is_above bound (length t)) b.0) refl
 
 pub bounded_reads : (bound n : ℕ) (c d : Cursor) → is_count bound n ≡ true → n ≤ length d.rest → Spans c d (core.number w32 n ∷ []) → bounded_count_at bound c ≡ Ok (n, d)
@@ -218,7 +219,7 @@ Again one k = (v : Value) (fs : List Field) (c d : Cursor) → fields_of v k ≡
 
 -- between no fields one stands where one stood
 pub no_fields : (fs : List Field) (c d : Cursor) → ◌≡◌ {A = Option (List Field)} (Some []) (Some fs) → Spans c d fs → c ≡ d
-no_fields fs c d e p = same_cursor c d (subst (λ (gs : List Field). Spans c d gs) (sym (some_is [] fs e)) p)
+no_fields fs c d e p = same_cursor c d (subst (λ (gs : List Field). Spans c d gs) (sym (same_Some [] fs e)) p)
 
 pub each_reads : (one : Cursor → Reads Value) (k : Kind) → Again one k → (vs : Values) (fs : List Field) (c d : Cursor) → fields_each vs k ≡ Some fs → Spans c d fs
     → times one (values_len vs) c ≡ Ok (list_of vs, d)

@@ -1,5 +1,6 @@
 -- Which member of a union a number chooses: CORBA 3.0.3, section 3.11.2.2.
 use Rattle.std.specs.Prelude.{ℕ, ℤ, zero, suc, Bool, List, [], ◌∷◌, Option, Some, None, position}
+use Rattle.std.specs.Option.{option_or}
 use Rattle.std.specs.List.{list_any}
 use Rattle.std.specs.Ordering.{int_eq}
 use Rattle.cdr_values.specs.Trees.{Kind, Cases, no_cases, case, Branch}
@@ -13,14 +14,9 @@ abbrev pub branches : Cases → List Branch
 branches no_cases = []
 branches (case labels is_default name k cs) = (labels, is_default, name, k) ∷ branches cs
 
--- the first, or else the second
-abbrev pub or_else : Option ℕ → Option ℕ → Option ℕ
-or_else (Some i) other = Some i
-or_else None other = other
-
 -- the index of the first case with the number among its labels, or else of the first default; None where there is none
 abbrev pub choose : ℤ → Cases → Option ℕ
-choose z cs = or_else (position (λ c. has_label z c.0) (branches cs)) (position (λ c. c.1) (branches cs))
+choose z cs = option_or (position (λ c. has_label z c.0) (branches cs)) (position (λ c. c.1) (branches cs))
 
 -- the type of the member of the case at an index
 abbrev pub nth_kind : ℕ → Cases → Option Kind

@@ -88,5 +88,6 @@ abbrev mutual
 abbrev pub is_lawful_struct : Members → Bool
 is_lawful_struct ms = is_lawful (structure [] ms)
 
+-- the same of a union
 abbrev pub is_lawful_union : Kind → Cases → Bool
 is_lawful_union d cs = is_lawful (union [] d cs)

@@ -5,19 +5,22 @@ use Rattle.cdr_core.specs.Field.{Field}
 use Rattle.cdr_values.specs.Trees.{Scalar, boolean, char, unsigned, signed, enumeration, Kind, scalar, Value, truth, number, letter, label}
 use Rattle.cdr_values.specs.Spelling.{tag_field}
 
--- the number of a boolean, of a char, of an octet or integer, and of an enumerator
+-- the number of a boolean
 abbrev pub truth_of : Value → Option ℤ
 truth_of (truth b) = Some (pos (from_bool b))
 truth_of _ = None
 
+-- that of a char
 abbrev pub letter_of : Value → Option ℤ
 letter_of (letter n) = Some (pos n)
 letter_of _ = None
 
+-- that of an octet or an integer
 abbrev pub integer_of : Value → Option ℤ
 integer_of (number z) = Some z
 integer_of _ = None
 
+-- that of an enumerator
 abbrev pub label_of : Value → Option ℤ
 label_of (label n) = Some (pos n)
 label_of _ = None

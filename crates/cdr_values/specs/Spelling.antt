@@ -67,24 +67,28 @@ is_text bound bytes = is_none (nul_at bytes) && (not (is_above bound (length byt
 abbrev pub is_count : ℕ → ℕ → Bool
 is_count bound n = not (is_above bound n) && nat_lt n (2 ^ 32)
 
--- the fields of a boolean, of an octet or integer, of a char, of an enumerator, and of a string
+-- the fields of a boolean
 abbrev pub truth_fields : Bool → Kind → Option (List Field)
 truth_fields b (scalar boolean) = one_field (number_field boolean (pos (from_bool b)))
 truth_fields b _ = None
 
+-- those of an octet or an integer
 abbrev pub integer_fields : ℤ → Kind → Option (List Field)
 integer_fields z (scalar (unsigned s)) = one_field (number_field (unsigned s) z)
 integer_fields z (scalar (signed s)) = one_field (number_field (signed s) z)
 integer_fields z _ = None
 
+-- those of a char
 abbrev pub letter_fields : ℕ → Kind → Option (List Field)
 letter_fields n (scalar char) = one_field (number_field char (pos n))
 letter_fields n _ = None
 
+-- those of an enumerator
 abbrev pub label_fields : ℕ → Kind → Option (List Field)
 label_fields n (scalar (enumeration name labels)) = one_field (number_field (enumeration name labels) (pos n))
 label_fields n _ = None
 
+-- those of a string
 abbrev pub text_fields : List ℕ → Kind → Option (List Field)
 text_fields bytes (words bound) = if is_text bound bytes then Some (string_fields bytes) else None
 text_fields bytes _ = None

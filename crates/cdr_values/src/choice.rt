@@ -4,7 +4,8 @@ ghost use Rattle.std.specs.List.{list_any};
 ghost use Rattle.std.specs.Ordering.{int_eq};
 ghost use Rattle.cdr_values.specs.Kinds.{cases_view};
 ghost use Rattle.cdr_values.specs.Trees.{cases_of};
-ghost use Rattle.cdr_values.specs.Choice.{choose, has_label, or_else};
+ghost use Rattle.std.specs.Option.{option_or};
+ghost use Rattle.cdr_values.specs.Choice.{choose, has_label};
 
 use crate::kind::Case;
 
@@ -20,7 +21,7 @@ pub(crate) fn chosen_case(tag: i128, cases: &[Case]) -> Option<usize>
 }
 
 fn first_of(first: Option<usize>, other: Option<usize>) -> Option<usize>
-    ensures { result ≡ or_else first other }
+    ensures { result ≡ option_or first other }
 {
     match first {
         Some(index) => Some(index),

@@ -4,13 +4,15 @@ use Rattle.std.specs.Prelude.{codes, true, take}
 use Rattle.std.specs.Fmt.{digits}
 use Rattle.cdr_core.specs.Field.{number_bytes}
 use Rattle.cdr_core.specs.Reading.{piece_at, number_of, number_at, count_at, octets_at, text_before_nul, string_at}
+use Rattle.cdr_core.specs.Sequence.{times}
+use Rattle.cdr_core.specs.Lists.{list_at}
 use Rattle.giop_frames.specs.Pieces.{order_of, has_more, kind_of, piece_len, id_of, is_whole, cut}
 use Rattle.giop_frames.specs.Messages.{is_fragment, opens, continues, cancels, ends, unfinished, sealed, completed}
 use Rattle.giop_frames.specs.Kinds.{kind_by, comes_whole}
 use Rattle.giop_frames.specs.Headers.{has_magic, has_version, header_at}
 use Rattle.giop_frames.specs.Stream.{header_cause, same_order, fragment_cause, first_cause, piece_cause, tail_rest, rest_with, said_behind, stream}
 use Rattle.giop_messages.specs.declared.refused.Fault.TheVariants.{Cut}
-use Rattle.giop_messages.specs.MessageReading.{times, context_at, contexts_at, key_at, form_at, target_at, reserved_at, asked_at, request_at, located_at, kind_at, message_at}
+use Rattle.giop_messages.specs.MessageReading.{contexts_at, key_at, form_at, target_at, reserved_at, asked_at, request_at, located_at, kind_at, message_at}
 use Rattle.giop_dump.specs.declared.dump_end.DumpEnd.TheVariants.{Done, Refused}
 use Rattle.text_streams.specs.Shown.{is_plain, shown_octet, shown}
 use Rattle.giop_dump.specs.Ending.{refusal, first_refusal, lines_before, dump_text, dump_ending}
@@ -23,12 +25,12 @@ ping =
 
 -- its line
 ping_line : dump_text ping ≡ codes "0 Request big 48 id 1 flags 3 key ping op current contexts 0 body 0\n"
-unfolding ping digits piece_at number_of number_at count_at octets_at text_before_nul string_at order_of has_more kind_of piece_len is_whole cut is_fragment completed has_magic has_version kind_by header_at header_cause comes_whole piece_cause said_behind stream times context_at contexts_at key_at form_at target_at reserved_at asked_at request_at kind_at message_at is_plain shown_octet shown lines_before dump_text
+unfolding ping digits piece_at number_of number_at count_at octets_at text_before_nul string_at order_of has_more kind_of piece_len is_whole cut is_fragment completed has_magic has_version kind_by header_at header_cause comes_whole piece_cause said_behind stream times list_at contexts_at key_at form_at target_at reserved_at asked_at request_at kind_at message_at is_plain shown_octet shown lines_before dump_text
 ping_line = refl
 
 -- it ends as all input that is read to its end
 ping_ends : dump_ending ping true ≡ Some Done
-unfolding ping piece_at number_of number_at count_at octets_at text_before_nul string_at order_of has_more kind_of piece_len is_whole cut is_fragment opens unfinished completed has_magic has_version kind_by header_at header_cause comes_whole piece_cause tail_rest rest_with said_behind stream times context_at contexts_at key_at form_at target_at reserved_at asked_at request_at kind_at message_at first_refusal dump_ending
+unfolding ping piece_at number_of number_at count_at octets_at text_before_nul string_at order_of has_more kind_of piece_len is_whole cut is_fragment opens unfinished completed has_magic has_version kind_by header_at header_cause comes_whole piece_cause tail_rest rest_with said_behind stream times list_at contexts_at key_at form_at target_at reserved_at asked_at request_at kind_at message_at first_refusal dump_ending
 ping_ends = refl
 
 -- its first 11 octets are cut
@@ -53,5 +55,5 @@ interleaved =
 
 -- their lines, at the offsets of the pieces that complete them
 interleaved_lines : dump_text interleaved ≡ codes "24 Request big 48 id 2 flags 3 key ping op current contexts 0 body 0\n104 Request big 48 id 1 flags 3 key ping op current contexts 0 body 0\n"
-unfolding interleaved digits number_bytes piece_at number_of number_at count_at octets_at text_before_nul string_at order_of has_more kind_of piece_len id_of is_whole cut is_fragment opens continues cancels ends unfinished sealed completed has_magic has_version kind_by header_at header_cause comes_whole same_order fragment_cause first_cause piece_cause said_behind stream times context_at contexts_at key_at form_at target_at reserved_at asked_at request_at kind_at message_at is_plain shown_octet shown lines_before dump_text
+unfolding interleaved digits number_bytes piece_at number_of number_at count_at octets_at text_before_nul string_at order_of has_more kind_of piece_len id_of is_whole cut is_fragment opens continues cancels ends unfinished sealed completed has_magic has_version kind_by header_at header_cause comes_whole same_order fragment_cause first_cause piece_cause said_behind stream times list_at contexts_at key_at form_at target_at reserved_at asked_at request_at kind_at message_at is_plain shown_octet shown lines_before dump_text
 interleaved_lines = refl

@@ -19,7 +19,7 @@ use Rattle.giop_frames.specs.Running.{stepped, run, run_cut, ahead}
 at_front : (a b : List ℕ) (n : ℕ) → n < 12 → 12 ≤ length a → get_or (a ++ b) n 0 ≡ get_or a n 0
 at_front a b n lt h = get_or_append_left a b 0 n (omega arith)
 
-order_front : (a b : List ℕ) → 12 ≤ length a → order_of (a ++ b) ≡ order_of a
+pub order_front : (a b : List ℕ) → 12 ≤ length a → order_of (a ++ b) ≡ order_of a
 unfolding order_of
 order_front a b h = rw (at_front a b 6 (omega arith) h) refl
 
@@ -39,7 +39,7 @@ pub piece_len_front : (a b : List ℕ) → 12 ≤ length a → piece_len (a ++ b
 unfolding piece_len
 piece_len_front a b h = ap (λ (n : ℕ). 12 + n) (head_size_front a b h)
 
-magic_front : (a b : List ℕ) → 12 ≤ length a → has_magic (a ++ b) ≡ has_magic a
+pub magic_front : (a b : List ℕ) → 12 ≤ length a → has_magic (a ++ b) ≡ has_magic a
 unfolding has_magic
 magic_front [] b h = absurd (omega arith)
 magic_front (w ∷ []) b h = absurd (omega arith)
@@ -47,11 +47,11 @@ magic_front (w ∷ x ∷ []) b h = absurd (omega arith)
 magic_front (w ∷ x ∷ y ∷ []) b h = absurd (omega arith)
 magic_front (w ∷ x ∷ y ∷ z ∷ a) b h = refl
 
-version_front : (a b : List ℕ) → 12 ≤ length a → has_version (a ++ b) ≡ has_version a
+pub version_front : (a b : List ℕ) → 12 ≤ length a → has_version (a ++ b) ≡ has_version a
 unfolding has_version
 version_front a b h = rw (at_front a b 4 (omega arith) h, at_front a b 5 (omega arith) h) refl
 
-more_front : (a b : List ℕ) → 12 ≤ length a → has_more (a ++ b) ≡ has_more a
+pub more_front : (a b : List ℕ) → 12 ≤ length a → has_more (a ++ b) ≡ has_more a
 unfolding has_more
 more_front a b h = rw (at_front a b 6 (omega arith) h) refl
 

@@ -1,4 +1,3 @@
-pub mod Walks
 pub mod Growing
 pub mod Places
 pub mod Heads

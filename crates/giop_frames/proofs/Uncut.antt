@@ -1,9 +1,9 @@
 -- Messages that can be cut, by their headers.
-use Rattle.std.proofs.Common.{◌≡◌, ℕ, ◌+◌, ◌≤◌, Bool, true, false, List, length, Result, Ok, Err, refl, ap, sym, ◌∙◌, subst, arith}
+use Rattle.std.proofs.Common.{◌≡◌, ℕ, ◌+◌, ◌≤◌, Bool, true, false, List, length, Ok, Err, ap, sym, ◌∙◌, subst, arith}
 use Rattle.std.specs.Prelude.{IsTrue, ◌↔◌}
 use Rattle.giop_frames.specs.declared.fault.FrameCause.{FrameCause}
 use Rattle.giop_frames.specs.declared.header.Header.{Header}
-use Rattle.giop_frames.specs.Kinds.{number, is_long_kind}
+use Rattle.giop_frames.specs.Kinds.{is_long_kind}
 use Rattle.giop_frames.specs.Pieces.{kind_of, piece_len}
 use Rattle.giop_frames.specs.Headers.{header_at}
 use Rattle.giop_frames.specs.Splitting.{IsUncut, CountsUncut}

@@ -1,14 +1,12 @@
 //! A whole message cut into pieces (CORBA 3.0.3, section 15.4.9).
 ghost use Rattle.std.specs.Prelude.{◌≡◌, ◌≤◌, ◌<◌, ◌+◌, ◌-◌, ◌%◌, ◌^◌, ◌∷◌, ◌++◌, [], length, take, drop, slice_index, true, false, IfOk, OnOk, if◌then◌else◌, IsTrue, ◌↔◌};
-ghost use Rattle.std.specs.Int.{w32};
-ghost use Rattle.cdr_core.specs.Field.{number_bytes};
-ghost use Rattle.giop_frames.specs.Pieces.{order_of as order_in, has_more as has_more_in};
+ghost use Rattle.giop_frames.specs.Pieces.{has_more as has_more_in};
 ghost use Rattle.giop_frames.specs.Splitting as Spec;
 ghost use Rattle.giop_frames.specs.Splitting.{IsUncut, CountsUncut, ArePiecesOf, AreFull, ReadsAs, piece_of};
 
 use crate::header::{HEADER, Header, kind_of, order_of};
 use crate::kind::Kind;
-use crate::partials::long_of;
+use cdr_core::bytes_of_u32;
 use orb_base::{List, NoMemory, Octets};
 use std::alloc::Global;
 
@@ -45,7 +43,7 @@ fn piece(
     all.reserve(HEADER + ID + bytes.len())?;
     all.append(&message[..6])?;
     all.append(&[flags, kind])?;
-    all.append(&long_of(order_of(message), size))?;
+    all.append(&bytes_of_u32(order_of(message), size))?;
     all.append(&message[HEADER..HEADER + ID])?;
     all.append(bytes)?;
     Ok(all)

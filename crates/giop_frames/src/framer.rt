@@ -4,10 +4,9 @@ ghost use Rattle.giop_frames.specs.Feeds.{said, Tells, Lasts};
 
 use crate::fault::FeedFault;
 use crate::joiner::Joiner;
-use crate::told::Told;
 use crate::whole::Whole;
 use orb_base::limits::MAX_MESSAGE;
-use orb_base::{List, NoMemory};
+use orb_base::{List, NoMemory, Told};
 use std::alloc::Global;
 use std::marker::Model;
 

@@ -1,7 +1,5 @@
 //! The header of a piece: CORBA 3.0.3, section 15.4.1.
 ghost use Rattle.std.specs.Prelude.{◌≡◌, ◌≤◌, ◌+◌, length, Some, None, Ok, IfOk, IfErr};
-ghost use Rattle.std.specs.Int.{w32};
-ghost use Rattle.cdr_core.specs.Reading.{number_of};
 ghost use Rattle.giop_frames.specs.Kinds.{number, is_kind};
 ghost use Rattle.giop_frames.specs.Pieces as Spec;
 ghost use Rattle.giop_frames.specs.Headers as Rule;
@@ -10,6 +8,7 @@ ghost use Rattle.giop_frames.specs.Stream.{header_cause};
 
 use crate::fault::FrameCause;
 use crate::kind::Kind;
+use cdr_core::u32_of;
 use orb_base::Order;
 
 /// The length of a header in bytes.
@@ -130,19 +129,6 @@ pub(crate) fn kind_of(bytes: &[u8]) -> u8
     ensures { result ≡ Spec.kind_of bytes.now }
 {
     bytes[7]
-}
-
-/// The number of 4 bytes.
-#[tactic(auto, unfolding(cdr_core::specs::Reading::number_of))]
-fn u32_of(order: Order, bytes: &[u8]) -> u32
-    requires { length bytes.now ≡ 4 }
-    ensures { result ≡ number_of order w32 bytes.now }
-{
-    let b = [bytes[0], bytes[1], bytes[2], bytes[3]];
-    match order {
-        Order::Big => u32::from_be_bytes(b),
-        Order::Little => u32::from_le_bytes(b),
-    }
 }
 
 /// How many bytes stand behind the header.

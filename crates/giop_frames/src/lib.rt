@@ -11,7 +11,6 @@ pub mod laws;
 mod partials;
 mod rules;
 mod stream;
-mod told;
 mod unfinished;
 mod whole;
 

@@ -1,7 +1,5 @@
 //! What a whole piece does to the unfinished messages.
 ghost use Rattle.std.specs.Prelude.{◌≡◌, ◌≤◌, ◌<◌, ◌+◌, ◌-◌, ◌^◌, [], ◌∷◌, ◌++◌, length, slice_index, true, false, OnOk, OnErr, IfOk};
-ghost use Rattle.std.specs.Int.{w32};
-ghost use Rattle.cdr_core.specs.Field.{number_bytes};
 ghost use Rattle.giop_frames.specs.Pieces.{has_more as has_more_of};
 ghost use Rattle.giop_frames.specs.Headers.{BeginsWith};
 ghost use Rattle.giop_frames.specs.Messages.{is_fragment as is_fragment_of, opens, sealed, joined};
@@ -12,6 +10,7 @@ use crate::header::{HEADER, Header, kind_of};
 use crate::kind::Kind;
 use crate::unfinished::{Unfinished, place_of};
 use crate::whole::Whole;
+use cdr_core::bytes_of_u32;
 use orb_base::{List, NoMemory, Octets, Order};
 
 fn give(whole: &mut List<Whole>, message: Whole) -> Result<(), NoMemory>
@@ -68,16 +67,6 @@ fn go_on(partials: &mut Vec<Unfinished>, header: Header, bytes: &[u8]) -> Result
     }
 }
 
-#[tactic(auto, unfolding(cdr_core::specs::Field::number_bytes))]
-pub(crate) fn long_of(order: Order, n: u32) -> [u8; 4]
-    ensures { result ≡ number_bytes order w32 n }
-{
-    match order {
-        Order::Big => n.to_be_bytes(),
-        Order::Little => n.to_le_bytes(),
-    }
-}
-
 /// Clears the fragment bit of a header and writes its size.
 fn write_header(all: &mut [u8], size: [u8; 4])
     requires { 12 ≤ length all.old }
@@ -98,7 +87,7 @@ fn seal(order: Order, bytes: Octets) -> Octets
     ensures { result.items ≡ sealed order bytes.items }
 {
     let mut all = bytes.into_vec();
-    let size = long_of(order, (all.len() - HEADER) as u32);
+    let size = bytes_of_u32(order, (all.len() - HEADER) as u32);
     write_header(&mut all, size);
     List::from_vec(all)
 }

@@ -1,135 +1,77 @@
 -- The first fault of a header is told.
-use Rattle.std.proofs.Common.{◌≡◌, ℕ, zero, suc, ◌-◌, ◌<◌, ◌≤◌, false, eqb, List, [], ◌∷◌, ◌++◌, length, Result, Ok, Err, inl, inr, refl, sym, ap, subst, ◌∙◌, arith}
-use Rattle.std.specs.List.{AllByRecursion, flat_map}
+use Rattle.std.proofs.Common.{◌≡◌, ℕ, ◌-◌, ◌<◌, ◌≤◌, false, eqb, List, Result, Ok, Err, inl, inr, refl, sym, ap, ◌∙◌, arith}
 use Rattle.std.specs.Int.{Width, w16, w32, byte_len}
-use Rattle.std.proofs.lemmas.List.Concat.{flat_map-cons}
-use Rattle.cdr_core.specs.Field.{Field}
-use Rattle.cdr_core.specs.Cursor.{Cursor}
-use Rattle.cdr_core.specs.Basic.{integer, octet_sequence, string, BasicValue, unsigned, truth, octets, text, type_of}
-use Rattle.cdr_core.specs.Passing.{Spans, Passes}
-use Rattle.cdr_core.specs.Reading.{number_at, count_at, octets_at, string_at}
-use Rattle.cdr_core.proofs.CallerLemmas.{spans_split, number_reads, number_refuses, count_reads, count_refuses, octets_reads, octets_refuse, string_reads, string_refuses}
+use Rattle.cdr_core.specs.declared.fault.CdrFault.{CdrFault}
+use Rattle.cdr_core.specs.Cursor.{Cursor, Reads}
+use Rattle.cdr_core.specs.Basic.{integer, octet_sequence, string, unsigned}
+use Rattle.cdr_core.specs.Passing.{Passes, Fails}
+use Rattle.cdr_core.specs.Reading.{number_at, octets_at, string_at}
+use Rattle.cdr_core.specs.FirstFault.{Stands, FailsIn, item, FailsList}
+use Rattle.cdr_core.specs.Lists.{item_at, made_at, list_at, tagged_of, tagged_fields, FitsTagged, context_of, context_fields, FitsContext}
+use Rattle.cdr_core.proofs.Rows as rows
+use Rattle.cdr_core.proofs.CallerLemmas.{number_reads, number_refuses, octets_refuse, string_refuses, short_len, long_len, items_are_exact, tagged_lists_are_exact, context_lists_are_exact}
 use Rattle.giop_messages.specs.declared.message_fault.MessageFault.{MessageFault}
 use Rattle.giop_messages.specs.declared.message_fault.MessageFault.TheVariants as faults
-use Rattle.giop_messages.specs.Message.{Target, FitsTagged, FitsContext}
-use Rattle.giop_messages.specs.Layout.{tagged_fields, context_fields}
-use Rattle.giop_messages.specs.MessageReading.{Parsed, ◌>>=◌, basic, times, tagged_at, profiles_at, context_at, contexts_at, key_at, profile_at, addressing_at, form_at, target_at}
-use Rattle.giop_messages.specs.Refusing.{Stands, FailsBasic, FailsIn, item, FailsAsCount, FailsList, FailsBehind, FailsReference, FailsTarget}
-use Rattle.giop_messages.proofs.MessageFound.{short_len, long_len}
-use Rattle.giop_messages.proofs.PartsAgain.{same_cursor, Again, tagged_again, context_again}
+use Rattle.giop_messages.specs.Message.{Target}
+use Rattle.giop_messages.specs.MessageReading.{basic, profiles_at, contexts_at, key_at, profile_at, addressing_at, form_at, target_at}
+use Rattle.giop_messages.specs.Refusing.{TellsCdr, FailsBasic, FailsBehind, FailsReference, FailsTarget}
 use Rattle.giop_messages.proofs.HeaderFault.{short_place}
 
 -- a reading that is refused with this fault
 abbrev pub fault_as : {A : Type 0} → MessageFault → Result A MessageFault
 fault_as e = Err e
 
+-- why a reading of the representation has no value is told
+cdr_told : {A : Type 0} (r : Reads A) (Bad : CdrFault → Type 0) (e : MessageFault) → ((f : CdrFault) → Bad f → r ≡ Err f) → TellsCdr Bad e → basic r ≡ Err e
+cdr_told r Bad e told h = ap basic (told h.0 h.1) ∙ ap Err (sym h.2)
+
 -- ---- basic types
 
 pub number_told : (w : Width) (c : Cursor) (e : MessageFault) → FailsBasic (integer w) c e → basic (number_at w c) ≡ Err e
-number_told w c e h = ap basic (number_refuses w c h.0 h.1) ∙ ap Err (sym h.2)
+number_told w c e h = cdr_told (number_at w c) (Fails c (integer w)) e (λ f k. number_refuses w c f k) h
 
 octets_told : (c : Cursor) (e : MessageFault) → FailsBasic octet_sequence c e → basic (octets_at c) ≡ Err e
-octets_told c e h = ap basic (octets_refuse c h.0 h.1) ∙ ap Err (sym h.2)
+octets_told c e h = cdr_told (octets_at c) (Fails c octet_sequence) e (λ f k. octets_refuse c f k) h
 
 pub text_told : (c : Cursor) (e : MessageFault) → FailsBasic string c e → basic (string_at c) ≡ Err e
-text_told c e h = ap basic (string_refuses c h.0 h.1) ∙ ap Err (sym h.2)
-
-count_told : (c : Cursor) (e : MessageFault) → FailsAsCount c e → basic (count_at c) ≡ Err e
-count_told c e h = ap basic (count_refuses c h.0 h.1) ∙ ap Err (sym h.2)
-
-same_width : (v w : Width) → integer v ≡ integer w → v ≡ w
-same_width v w e = cc
-
-number_of_value : (w : Width) (c d : Cursor) (v : BasicValue) → byte_len w ≤ 8 → type_of v ≡ integer w → Passes c d v → (n : ℕ) × (basic (number_at w c) ≡ Ok (n, d))
-number_of_value w c d (unsigned u n) s e p =
-    let same : u ≡ w = same_width u w e in
-    let q : Passes c d (unsigned w n) = subst (λ (x : Width). Passes c d (unsigned x n)) same p in
-    (n, ap basic (number_reads w c d n s q.fits q.spans))
-number_of_value w c d (truth b) s e p = absurd cc
-number_of_value w c d (octets b) s e p = absurd cc
-number_of_value w c d (text b) s e p = absurd cc
+text_told c e h = cdr_told (string_at c) (Fails c string) e (λ f k. string_refuses c f k) h
 
 pub number_there : (w : Width) (c d : Cursor) → byte_len w ≤ 8 → Stands (integer w) c d → (n : ℕ) × (basic (number_at w c) ≡ Ok (n, d))
-number_there w c d s h = number_of_value w c d h.0 s h.1 h.2
-
-octets_of_value : (c d : Cursor) (v : BasicValue) → type_of v ≡ octet_sequence → Passes c d v → (x : List ℕ) × (basic (octets_at c) ≡ Ok (x, d))
-octets_of_value c d (octets x) e p = (x, ap basic (octets_reads c d x p.fits p.spans))
-octets_of_value c d (unsigned u n) e p = absurd cc
-octets_of_value c d (truth b) e p = absurd cc
-octets_of_value c d (text b) e p = absurd cc
-
-octets_there : (c d : Cursor) → Stands octet_sequence c d → (x : List ℕ) × (basic (octets_at c) ≡ Ok (x, d))
-octets_there c d h = octets_of_value c d h.0 h.1 h.2
-
-text_of_value : (c d : Cursor) (v : BasicValue) → type_of v ≡ string → Passes c d v → (x : List ℕ) × (basic (string_at c) ≡ Ok (x, d))
-text_of_value c d (text x) e p = (x, ap basic (string_reads c d x p.fits.0 p.fits.1 p.spans))
-text_of_value c d (unsigned u n) e p = absurd cc
-text_of_value c d (truth b) e p = absurd cc
-text_of_value c d (octets b) e p = absurd cc
+number_there w c d s h = let n = rows.number_there w c d s h in (n.0, ap basic n.1)
 
 pub text_there : (c d : Cursor) → Stands string c d → (x : List ℕ) × (basic (string_at c) ≡ Ok (x, d))
-text_there c d h = text_of_value c d h.0 h.1 h.2
+text_there c d h = let x = rows.string_there c d h in (x.0, ap basic x.1)
 
 -- ---- items and lists of them
 
-tagged_told : (c : Cursor) (e : MessageFault) → FailsIn item c e → tagged_at c ≡ Err e
-unfolding tagged_at
-tagged_told c e (inl h) = rw (number_told w32 c e h) refl
-tagged_told c e (inr (d, s, inl h)) = let n = number_there w32 c d long_len s in rw (n.1, octets_told d e h) refl
-tagged_told c e (inr (d, s, inr (b, t, h))) = absurd h
+item_told : (c : Cursor) (e : MessageFault) → TellsCdr (FailsIn item c) e → basic (item_at c) ≡ Err e
+item_told c e h = cdr_told (item_at c) (FailsIn item c) e (λ f k. items_are_exact.told c f k) h
 
-context_told : (c : Cursor) (e : MessageFault) → FailsIn item c e → context_at c ≡ Err e
-unfolding context_at
-context_told c e (inl h) = rw (number_told w32 c e h) refl
-context_told c e (inr (d, s, inl h)) = let n = number_there w32 c d long_len s in rw (n.1, octets_told d e h) refl
-context_told c e (inr (d, s, inr (b, t, h))) = absurd h
-
--- a reading that tells the fault of an item
-abbrev Tells : {A : Type 0} → (Cursor → Parsed A) → Type 0
-Tells {A} one = (c : Cursor) (e : MessageFault) → FailsIn item c e → one c ≡ Err e
-
-times_told : {A : Type 0} (one : Cursor → Parsed A) (fields : A → List Field) (fit : A → Type 0) → Again one fields fit → Tells one → (n : ℕ) (before : List A) (c d : Cursor) (e : MessageFault)
-    → AllByRecursion fit before → length before < n → Spans c d (flat_map fields before) → FailsIn item d e → times one n c ≡ Err e
-unfolding times
-times_told {A} one fields fit each tells zero before c d e fits few p h = absurd (omega arith)
-times_told {A} one fields fit each tells (suc n) [] c d e fits few p h =
-    let there : FailsIn item c e = subst (λ (x : Cursor). FailsIn item x e) (sym (same_cursor c d p)) h in
-    rw (tells c e there) refl
-times_told {A} one fields fit each tells (suc n) (a ∷ before) c d e fits few p h =
-    let q : Spans c d (fields a ++ flat_map fields before) = subst (Spans c d) (flat_map-cons fields a before) p in
-    let s = spans_split c d (fields a) (flat_map fields before) q in
-    rw (each c s.middle a fits.0 s.first, times_told one fields fit each tells n before s.middle d e fits.1 (omega arith) s.others h) refl
-
-list_told : {A : Type 0} (one : Cursor → Parsed A) (fields : A → List Field) (fit : A → Type 0) → Again one fields fit → Tells one → (c : Cursor) (e : MessageFault) → FailsList fields fit c e
-    → (basic (count_at c) >>= λ x. times one x.0 x.1) ≡ Err e
-list_told {A} one fields fit each tells c e (inl h) = rw (count_told c e h) refl
-list_told {A} one fields fit each tells c e (inr (n, d, k, h)) =
-    rw (ap basic (count_reads c d n k.0.fits k.1 k.0.spans)) (times_told one fields fit each tells n h.before d h.behind e h.fit h.few h.spans h.fails)
-
-profiles_told : (c : Cursor) (e : MessageFault) → FailsList tagged_fields FitsTagged c e → profiles_at c ≡ Err e
+profiles_told : (c : Cursor) (e : MessageFault) → TellsCdr (FailsList tagged_fields FitsTagged (FailsIn item) c) e → profiles_at c ≡ Err e
 unfolding profiles_at
-profiles_told c e h = list_told tagged_at tagged_fields FitsTagged tagged_again tagged_told c e h
+profiles_told c e h =
+    cdr_told (list_at (made_at tagged_of) c) (FailsList tagged_fields FitsTagged (FailsIn item) c) e (λ f k. tagged_lists_are_exact.told c f k) h
 
-pub contexts_told : (c : Cursor) (e : MessageFault) → FailsList context_fields FitsContext c e → contexts_at c ≡ Err e
+pub contexts_told : (c : Cursor) (e : MessageFault) → TellsCdr (FailsList context_fields FitsContext (FailsIn item) c) e → contexts_at c ≡ Err e
 unfolding contexts_at
-contexts_told c e h = list_told context_at context_fields FitsContext context_again context_told c e h
+contexts_told c e h =
+    cdr_told (list_at (made_at context_of) c) (FailsList context_fields FitsContext (FailsIn item) c) e (λ f k. context_lists_are_exact.told c f k) h
 
 -- ---- targets
 
-key_told : (c : Cursor) (e : MessageFault) → FailsIn (octet_sequence ∷ []) c e → key_at c ≡ Err e
+key_told : (c : Cursor) (e : MessageFault) → FailsBasic octet_sequence c e → key_at c ≡ Err e
 unfolding key_at
-key_told c e (inl h) = rw (octets_told c e h) refl
-key_told c e (inr (d, s, h)) = absurd h
+key_told c e h = rw (octets_told c e h) refl
 
-profile_told : (c : Cursor) (e : MessageFault) → FailsIn item c e → profile_at c ≡ Err e
+profile_told : (c : Cursor) (e : MessageFault) → TellsCdr (FailsIn item c) e → profile_at c ≡ Err e
 unfolding profile_at
-profile_told c e h = rw (tagged_told c e h) refl
+profile_told c e h = rw (item_told c e h) refl
 
 addressing_told : (c : Cursor) (e : MessageFault) → FailsReference c e → addressing_at c ≡ Err e
 unfolding addressing_at
-addressing_told c e (inl (inl h)) = rw (number_told w32 c e h) refl
-addressing_told c e (inl (inr (d, s, inl h))) = let n = number_there w32 c d long_len s in rw (n.1, text_told d e h) refl
-addressing_told c e (inl (inr (d, s, inr (b, t, h)))) = absurd h
+addressing_told c e (inl (f, inl h, is)) = rw (number_told w32 c e (f, h, is)) refl
+addressing_told c e (inl (f, inr (d, s, inl h), is)) = let n = number_there w32 c d long_len s in rw (n.1, text_told d e (f, h, is)) refl
+addressing_told c e (inl (f, inr (d, s, inr (b, t, h)), is)) = absurd h
 addressing_told c e (inr (d, b, s, t, h)) =
     let n = number_there w32 c d long_len s in
     let x = text_there d b t in

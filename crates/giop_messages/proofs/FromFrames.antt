@@ -1,9 +1,9 @@
 -- The messages of a stream are such as can be read.
-use Rattle.std.proofs.Common.{◌≡◌, ℕ, ◌+◌, ◌-◌, ◌/◌, ◌%◌, ◌<◌, ◌≤◌, true, false, not, ◌==◌, cond, nat_lt, Bool, List, [], ◌∷◌, ◌++◌, length, get_or, map, filter, Option, Some, None, Result, Ok, Err, refl, sym, ap, ◌∙◌, subst, arith, length-append, length-drop}
+use Rattle.std.proofs.Common.{◌≡◌, ℕ, ◌+◌, ◌-◌, ◌/◌, ◌%◌, ◌≤◌, true, false, not, ◌==◌, cond, Bool, List, [], ◌∷◌, ◌++◌, length, map, filter, Option, Some, None, Result, Ok, Err, refl, sym, ap, ◌∙◌, subst, arith, length-append, length-drop}
 use Rattle.std.specs.Prelude.{option_to_list, option_map}
 use Rattle.std.specs.Int.{w32, byte_len}
 use Rattle.std.specs.List.{All}
-use Rattle.std.proofs.lemmas.List.{take_at, drop_at, append-nil, get_or_append_left}
+use Rattle.std.proofs.lemmas.List.{take_at, drop_at, append-nil}
 use Rattle.std.proofs.lemmas.List.Elements.{All-nil, All-head, All-tail, All-cons, All-append}
 use Rattle.orb_base.specs.declared.order.Order.{Order}
 use Rattle.orb_base.specs.declared.order.Order.TheVariants.{Big, Little}
@@ -23,6 +23,7 @@ use Rattle.giop_frames.specs.Feeds.{Feed, said, Adds, AddsFront, Tells}
 use Rattle.giop_frames.specs.Laws.{ArePieces}
 use Rattle.giop_frames.proofs.LawProofs.{cuts_exactly}
 use Rattle.giop_frames.proofs.Heads.{sound_head, head_is, head_few, header_within}
+use Rattle.giop_frames.proofs.Ahead.{magic_front, version_front, order_front, more_front, kind_front}
 use Rattle.giop_frames.proofs.Growing.{stream_is}
 use Rattle.giop_frames.proofs.Effects.{opens_is}
 use Rattle.giop_frames.proofs.Soundness.{fragment_fits, joins_within}
@@ -40,33 +41,6 @@ record IsBegun (order : Order) (more : Bool) (bytes : List ℕ) : Type 0 where
   pub order_is : order_of bytes ≡ order
   pub bit : has_more bytes ≡ more
   pub few_kinds : kind_of bytes ≤ 6
-
-at_front : (a b : List ℕ) (n : ℕ) → n < 12 → 12 ≤ length a → get_or (a ++ b) n 0 ≡ get_or a n 0
-at_front a b n lt h = get_or_append_left a b 0 n (omega arith)
-
-magic_front : (a b : List ℕ) → 12 ≤ length a → has_magic (a ++ b) ≡ has_magic a
-unfolding has_magic
-magic_front [] b h = absurd (omega arith)
-magic_front (w ∷ []) b h = absurd (omega arith)
-magic_front (w ∷ x ∷ []) b h = absurd (omega arith)
-magic_front (w ∷ x ∷ y ∷ []) b h = absurd (omega arith)
-magic_front (w ∷ x ∷ y ∷ z ∷ a) b h = refl
-
-version_front : (a b : List ℕ) → 12 ≤ length a → has_version (a ++ b) ≡ has_version a
-unfolding has_version
-version_front a b h = rw (at_front a b 4 (omega arith) h, at_front a b 5 (omega arith) h) refl
-
-order_front : (a b : List ℕ) → 12 ≤ length a → order_of (a ++ b) ≡ order_of a
-unfolding order_of
-order_front a b h = rw (at_front a b 6 (omega arith) h) refl
-
-more_front : (a b : List ℕ) → 12 ≤ length a → has_more (a ++ b) ≡ has_more a
-unfolding has_more
-more_front a b h = rw (at_front a b 6 (omega arith) h) refl
-
-kind_front : (a b : List ℕ) → 12 ≤ length a → kind_of (a ++ b) ≡ kind_of a
-unfolding kind_of
-kind_front a b h = at_front a b 7 (omega arith) h
 
 begun_more : (order : Order) (more : Bool) (a b : List ℕ) → IsBegun order more a → IsBegun order more (a ++ b)
 begun_more order more a b h = record {

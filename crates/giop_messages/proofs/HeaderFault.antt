@@ -8,7 +8,9 @@ use Rattle.cdr_core.specs.Cursor.{Cursor, cursor, aligned, AreBytes}
 use Rattle.cdr_core.specs.Basic.{integer, octet_sequence, string, unsigned}
 use Rattle.cdr_core.specs.Passing.{Spans, Passes}
 use Rattle.cdr_core.specs.Reading.{number_at, octets_at, string_at}
-use Rattle.cdr_core.proofs.CallerLemmas.{passes_of, length-spelled}
+use Rattle.cdr_core.specs.Lists.{item_at}
+use Rattle.cdr_core.specs.FirstFault.{FailsIn, item}
+use Rattle.cdr_core.proofs.CallerLemmas.{passes_of, length-spelled, bind_ok, bind_err, ok_is, octet_len, short_len, long_len}
 use Rattle.cdr_core.proofs.Parts.{AreBytes-drop}
 use Rattle.giop_frames.specs.Messages as Frames
 use Rattle.giop_messages.specs.declared.message.Message as program
@@ -16,27 +18,28 @@ use Rattle.giop_messages.specs.declared.message_fault.MessageFault.{MessageFault
 use Rattle.giop_messages.specs.declared.message_fault.MessageFault.TheVariants as faults
 use Rattle.giop_messages.specs.Message.{Target, Message, request, reply, cancel, locate, located, close, error}
 use Rattle.giop_messages.specs.Views.{message_of}
-use Rattle.giop_messages.specs.MessageReading.{basic, tagged_at, profiles_at, contexts_at, key_at, profile_at, addressing_at, form_at, target_at, reserved_at, status_at, asked_at, request_at, reply_at, cancel_at, locate_at, located_at, as_message, kind_at, message_at, Answers, Fails}
-use Rattle.giop_messages.specs.Refusing.{FailsIn, item, FailsBehind, FailsReference, FailsTarget, Part, basic as plain, target, status, contexts, StandsAs, FailsAs, FailsAmong, octet, long, request_parts, parts_of, Refuses}
-use Rattle.giop_messages.proofs.MessageFound.{bind_ok, done, ok_is, octet_len, short_len, long_len, number_found, text_found}
+use Rattle.giop_messages.specs.MessageReading.{basic, profiles_at, contexts_at, key_at, profile_at, addressing_at, form_at, target_at, reserved_at, status_at, asked_at, request_at, reply_at, cancel_at, locate_at, located_at, as_message, kind_at, message_at}
+use Rattle.giop_messages.specs.Answers.{Answers, Fails}
+use Rattle.giop_messages.specs.Refusing.{TellsCdr, FailsBasic, FailsBehind, FailsReference, FailsTarget, Part, basic as plain, target, status, contexts, StandsAs, FailsAs, FailsAmong, octet, long, request_parts, parts_of, Refuses}
+use Rattle.giop_messages.proofs.MessageFound.{done, number_found, text_found}
 use Rattle.giop_messages.proofs.KindFound.{either, target_found, reserved_found, status_found, asked_found}
-use Rattle.giop_messages.proofs.FirstFault.{bind_err, number_stands, text_stands, number_err, octets_err, text_err, tagged_err, profiles_err, contexts_err}
+use Rattle.giop_messages.proofs.FirstFault.{number_stands, text_stands, number_err, octets_err, text_err, item_err, profiles_err, contexts_err}
 
 -- ---- targets
 
-key_err : (c : Cursor) (e : MessageFault) → AreBytes c.rest → key_at c ≡ Err e → FailsIn (octet_sequence ∷ []) c e
+key_err : (c : Cursor) (e : MessageFault) → AreBytes c.rest → key_at c ≡ Err e → FailsBasic octet_sequence c e
 unfolding key_at
 key_err c e fits h =
     elim (bind_err (basic (octets_at c)) _ e h) [
-      | inl a ↦ inl (octets_err c e fits a)
+      | inl a ↦ octets_err c e fits a
       | inr a ↦ let no = a.2 in absurd cc
     ]
 
-profile_err : (c : Cursor) (e : MessageFault) → AreBytes c.rest → profile_at c ≡ Err e → FailsIn item c e
+profile_err : (c : Cursor) (e : MessageFault) → AreBytes c.rest → profile_at c ≡ Err e → TellsCdr (FailsIn item c) e
 unfolding profile_at
 profile_err c e fits h =
-    elim (bind_err (tagged_at c) _ e h) [
-      | inl a ↦ tagged_err c e fits a
+    elim (bind_err (basic (item_at c)) _ e h) [
+      | inl a ↦ item_err c e fits a
       | inr a ↦ let no = a.2 in absurd cc
     ]
 
@@ -44,12 +47,12 @@ addressing_err : (c : Cursor) (e : MessageFault) → AreBytes c.rest → address
 unfolding addressing_at
 addressing_err c e fits h =
     elim (bind_err (basic (number_at w32 c)) _ e h) [
-      | inl a ↦ inl (inl (number_err w32 c e a))
+      | inl a ↦ let n = number_err w32 c e a in inl (n.0, inl n.1, n.2)
       | inr a ↦
           let t = number_found w32 c a.0 long_len fits a.1 in
           let index = number_stands w32 c a.0 long_len fits a.1 in
           elim (bind_err (basic (string_at a.0.1)) _ e a.2) [
-            | inl b ↦ inl (inr (a.0.1, index, inl (text_err a.0.1 e t.0.bytes b)))
+            | inl b ↦ let n = text_err a.0.1 e t.0.bytes b in inl (n.0, inr (a.0.1, index, inl n.1), n.2)
             | inr b ↦
                 let u = text_found a.0.1 b.0 t.0.bytes b.1 in
                 elim (bind_err (profiles_at b.0.1) _ e b.2) [

@@ -1,18 +1,18 @@
 -- The messages that are read are those that the bytes mean.
 use Rattle.std.proofs.Common.{◌≡◌, ℕ, ◌-◌, ◌^◌, ◌<◌, ◌≤◌, Bool, true, false, cond, eqb, ltb, List, [], ◌∷◌, ◌++◌, length, drop, Ok, ◌⊎◌, inl, inr, refl, sym, subst, arith}
 use Rattle.std.specs.Int.{w8, w16, w32}
-use Rattle.std.specs.List.{flat_map}
 use Rattle.std.proofs.lemmas.Bool.{eqb-true, ltb-false}
 use Rattle.cdr_core.specs.Alignment.{pad_len}
 use Rattle.cdr_core.specs.Field.{Field, number, run, string_fields, octets_fields}
 use Rattle.cdr_core.specs.Cursor.{Cursor, AreBytes}
 use Rattle.cdr_core.specs.Passing.{Spans}
-use Rattle.cdr_core.proofs.CallerLemmas.{spelled_run, length-spelled}
+use Rattle.cdr_core.proofs.CallerLemmas.{spelled_run, length-spelled, bind_ok, ok_is, octet_len, short_len, long_len}
 use Rattle.giop_messages.specs.Message.{Target, key, profile, addressing, Request, Reply, Locate, Located, Message, request, reply, cancel, locate, located, kind_of, Fits, FitsTarget}
-use Rattle.giop_messages.specs.Layout.{tagged_fields, target_fields, contexts_fields, named_fields}
+use Rattle.cdr_core.specs.Lists.{tagged_of, tagged_fields}
+use Rattle.giop_messages.specs.Layout.{profiles_fields, target_fields, contexts_fields, named_fields}
 use Rattle.giop_messages.specs.Reading.{HasBody}
 use Rattle.giop_messages.specs.MessageReading.{body_from, key_at, profile_at, addressing_at, form_at, target_at, reserved_at, status_at, asked_at, request_at, reply_at, cancel_at, locate_at, located_at}
-use Rattle.giop_messages.proofs.MessageFound.{bind_ok, ok_is, Passed, passed_then, octet_len, short_len, long_len, number_found, octets_found, text_found, tagged_found, profiles_found, contexts_found}
+use Rattle.giop_messages.proofs.MessageFound.{Passed, passed_then, number_found, octets_found, text_found, item_found, profiles_found, contexts_found}
 
 -- one of two readings gave the value
 pub either : {R : Type 0} (b : Bool) (x y z : R) → cond b x y ≡ z → ((b ≡ true) × (x ≡ z)) ⊎ ((b ≡ false) × (y ≡ z))
@@ -31,7 +31,7 @@ form_of (addressing index type_id profiles) = 2
 abbrev pub form_fields : Target → List Field
 form_fields (key bytes) = octets_fields bytes
 form_fields (profile t) = tagged_fields t
-form_fields (addressing index type_id profiles) = number w32 index ∷ string_fields type_id ++ number w32 (length profiles) ∷ flat_map tagged_fields profiles
+form_fields (addressing index type_id profiles) = number w32 index ∷ string_fields type_id ++ profiles_fields profiles
 
 pub target_parts : (t : Target) → number w16 (form_of t) ∷ form_fields t ≡ target_fields t
 target_parts (key bytes) = refl
@@ -55,8 +55,8 @@ profile_found : (c : Cursor) (x : Target × Cursor) → AreBytes c.rest → prof
 unfolding profile_at
 profile_found c x fits e =
     let a = bind_ok _ _ x e in
-    let t = tagged_found c a.0 fits a.1 in
-    subst (Formed 1 c) (ok_is (profile a.0.0, a.0.1) x a.2) (record { passed = t.0; fits = t.1; is = refl })
+    let t = item_found c a.0 fits a.1 in
+    subst (Formed 1 c) (ok_is (profile (tagged_of a.0.0), a.0.1) x a.2) (record { passed = t.1; fits = t.0; is = refl })
 
 addressing_found : (c : Cursor) (x : Target × Cursor) → AreBytes c.rest → addressing_at c ≡ Ok x → Formed 2 c x
 unfolding addressing_at
@@ -68,8 +68,8 @@ addressing_found c x fits e =
     let t1 = text_found a.0.1 b.0 t0.0.bytes b.1 in
     let t2 = profiles_found b.0.1 d.0 t1.0.bytes d.1 in
     let front = passed_then c a.0.1 b.0.1 (number w32 a.0.0 ∷ []) (string_fields b.0.0) t0.0 t1.0 in
-    let all = passed_then c b.0.1 d.0.1 (number w32 a.0.0 ∷ string_fields b.0.0) (number w32 (length d.0.0) ∷ flat_map tagged_fields d.0.0) front t2.0 in
-    subst (Formed 2 c) (ok_is (addressing a.0.0 b.0.0 d.0.0, d.0.1) x d.2) (record { passed = all; fits = (t0.1, t1.1, t2.1, t2.2); is = refl })
+    let all = passed_then c b.0.1 d.0.1 (number w32 a.0.0 ∷ string_fields b.0.0) (profiles_fields d.0.0) front t2.1 in
+    subst (Formed 2 c) (ok_is (addressing a.0.0 b.0.0 d.0.0, d.0.1) x d.2) (record { passed = all; fits = (t0.1, t1.1, t2.0.0, t2.0.1); is = refl })
 
 form_found : (place form : ℕ) (c : Cursor) (x : Target × Cursor) → AreBytes c.rest → form_at place form c ≡ Ok x → Formed form c x
 unfolding form_at
@@ -195,7 +195,7 @@ request_found bytes c r fits e =
     let t2 = contexts_found o.0.1 s.0 t1.0.bytes s.1 in
     let first = number w32 a.0.0.0 ∷ number w8 a.0.0.1 ∷ run 1 t0.octets ∷ target_fields a.0.0.2 in
     let two = passed_then c a.0.1 o.0.1 first (string_fields o.0.0) t0.passed t1.0 in
-    let all = passed_then c o.0.1 s.0.1 (first ++ string_fields o.0.0) (contexts_fields s.0.0) two t2.0 in
+    let all = passed_then c o.0.1 s.0.1 (first ++ string_fields o.0.0) (contexts_fields s.0.0) two t2.1 in
     let made : Request = record { id = a.0.0.0; flags = a.0.0.1; target = a.0.0.2; operation = o.0.0; contexts = s.0.0; body = body_from s.0.1.place bytes } in
     subst (λ (q : Request). Meant 0 bytes c (request q)) (ok_is made r s.2) (record {
       behind = s.0.1;
@@ -204,7 +204,7 @@ request_found bytes c r fits e =
       spans = all.spans;
       is = refl;
       body = refl;
-      fits = record { id = t0.id; flags = t0.flags; target = t0.target; operation = t1.1; contexts = t2.1 };
+      fits = record { id = t0.id; flags = t0.flags; target = t0.target; operation = t1.1; contexts = t2.0 };
     })
 
 pub reply_found : (bytes : List ℕ) (c : Cursor) (r : Reply) → AreBytes c.rest → reply_at bytes c ≡ Ok r → Meant 1 bytes c (reply r)
@@ -217,7 +217,7 @@ reply_found bytes c r fits e =
     let t1 = status_found a.0.1 o.0 t0.0.bytes o.1 in
     let t2 = contexts_found o.0.1 s.0 t1.0.bytes s.1 in
     let two = passed_then c a.0.1 o.0.1 (number w32 a.0.0 ∷ []) (number w32 o.0.0 ∷ []) t0.0 t1.0 in
-    let all = passed_then c o.0.1 s.0.1 (number w32 a.0.0 ∷ number w32 o.0.0 ∷ []) (contexts_fields s.0.0) two t2.0 in
+    let all = passed_then c o.0.1 s.0.1 (number w32 a.0.0 ∷ number w32 o.0.0 ∷ []) (contexts_fields s.0.0) two t2.1 in
     let made : Reply = record { id = a.0.0; status = o.0.0; contexts = s.0.0; body = body_from s.0.1.place bytes } in
     subst (λ (q : Reply). Meant 1 bytes c (reply q)) (ok_is made r s.2) (record {
       behind = s.0.1;
@@ -226,7 +226,7 @@ reply_found bytes c r fits e =
       spans = all.spans;
       is = refl;
       body = refl;
-      fits = record { id = t0.1; status = t1.1; contexts = t2.1 };
+      fits = record { id = t0.1; status = t1.1; contexts = t2.0 };
     })
 
 pub cancel_found : (bytes : List ℕ) (c : Cursor) (n : ℕ) → AreBytes c.rest → cancel_at c ≡ Ok n → Meant 2 bytes c (cancel n)

@@ -8,13 +8,12 @@ use Rattle.orb_base.specs.declared.order.Order.{Order}
 use Rattle.cdr_core.specs.Alignment.{pad_len}
 use Rattle.cdr_core.specs.Field.{Field, number, run, fields_end, number_bytes}
 use Rattle.cdr_core.specs.Spelling.{fields_bytes}
-use Rattle.cdr_core.proofs.CallerLemmas.{fields_end-append, fields_end-is, length-number_bytes}
+use Rattle.cdr_core.proofs.CallerLemmas.{fields_more, all_of, fields_end-append, fields_end-is, length-number_bytes}
 use Rattle.cdr_core.proofs.Spelled.{pad_one}
 use Rattle.giop_messages.specs.Message.{Message, Locate, Located, cancel, locate, located, close, error}
 use Rattle.giop_messages.specs.Layout.{target_fields}
 use Rattle.giop_messages.specs.Spelling.{spelled, all_fields}
 use Rattle.giop_messages.specs.Lengths.{held, Ends}
-use Rattle.giop_messages.proofs.Pieces.{one_more, all_of}
 
 pub ends_then : (a b c : ℕ) (f g : List Field) → Ends a f b → Ends b g c → Ends a (f ++ g) c
 ends_then a b c f g p q place from = q (fields_end place f) (p place from) ∙ ap held (sym (fields_end-append place f g))
@@ -43,11 +42,11 @@ ends_nul a r text p place from =
 pub ends_next : {X : Type 0} (f : X → List Field) (a b c : ℕ) (xs : List X) (i : ℕ) (x : X) → i < length xs → x ≡ get_or xs i x
     → Ends a (flat_map f (take i xs)) b → Ends b (f x) c → Ends a (flat_map f (take (i + 1) xs)) c
 ends_next f a b c xs i x h is p q =
-    ends_same a c (flat_map f (take i xs) ++ f x) (flat_map f (take (i + 1) xs)) (sym (one_more f xs i x h is)) (ends_then a b c (flat_map f (take i xs)) (f x) p q)
+    ends_same a c (flat_map f (take i xs) ++ f x) (flat_map f (take (i + 1) xs)) (sym (fields_more f xs i x h is)) (ends_then a b c (flat_map f (take i xs)) (f x) p q)
 
 pub ends_all : {X : Type 0} (f : X → List Field) (a b : ℕ) (xs : List X) (i : ℕ) → length xs ≤ i → i ≤ length xs
     → Ends a (flat_map f (take i xs)) b → Ends a (flat_map f xs) b
-ends_all f a b xs i low high p = ends_same a b (flat_map f (take i xs)) (flat_map f xs) (all_of f xs i low high) p
+ends_all {X} f a b xs i low high p = ends_same a b (flat_map f (take i xs)) (flat_map f xs) (ap (λ (ys : List X). flat_map f ys) (all_of xs i low high)) p
 
 -- a whole message ends where its fields do
 pub length-spelled_message : (order : Order) (message : Message) → length (spelled order message) ≡ fields_end 12 (all_fields message)

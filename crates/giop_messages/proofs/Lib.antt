@@ -2,10 +2,9 @@ pub mod StandardFacts
 pub mod ReadingLaws
 pub mod WritingLaws
 pub mod OneReading
-pub mod Pieces
 pub mod LengthLaws
 pub mod PutLaws
-mod PartLoop
+mod RangeLaws
 mod MessageFound
 mod KindFound
 pub mod WholeFound

@@ -11,8 +11,9 @@ use Rattle.cdr_core.specs.Spelling.{IsSpelled}
 use Rattle.cdr_core.specs.Basic.{BasicValue, unsigned, octets, text, type_of, IsBasic, Fits, fields_of}
 use Rattle.cdr_core.proofs.LawProofs.{reads_one_way_law}
 use Rattle.cdr_core.proofs.CallerLemmas.{split, spelled_run_is, length-number_bytes}
-use Rattle.giop_messages.specs.Message.{Message, Target, key, profile, addressing, Request, Reply, Locate, Located, request, reply, cancel, locate, located, close, error, kind_of, FitsTagged, FitsText, FitsContext, FitsTarget, FitContexts, FitsRequest, FitsReply, FitsLocate, FitsLocated}
-use Rattle.giop_messages.specs.Layout.{header, order_flag, tagged_fields, target_fields, context_fields, contexts_fields, named_fields}
+use Rattle.giop_messages.specs.Message.{Message, Target, key, profile, addressing, Request, Reply, Locate, Located, request, reply, cancel, locate, located, close, error, kind_of, FitsText, FitsTarget, FitContexts, FitsRequest, FitsReply, FitsLocate, FitsLocated}
+use Rattle.cdr_core.specs.Lists.{tagged_fields, FitsTagged, context_fields, FitsContext}
+use Rattle.giop_messages.specs.Layout.{header, order_flag, target_fields, contexts_fields, named_fields}
 use Rattle.giop_messages.specs.Reading.{ReadsIn, Reads}
 
 -- two lists of fields that are spelled from one place on, with what stands behind each, by the same bytes
@@ -105,14 +106,14 @@ One {A} fields P =
 
 tagged_one : One tagged_fields FitsTagged
 tagged_one order a b fs gs bx by fa fb t =
-    let tag = number_one w32 a.tag b.tag (octets_fields a.bytes ++ fs) (octets_fields b.bytes ++ gs) (lit< tt) fa.tag fb.tag t in
-    let bytes = octets_one a.bytes b.bytes fs gs fa.bytes fb.bytes tag.1 in
+    let tag = number_one w32 a.tag b.tag (octets_fields a.bytes ++ fs) (octets_fields b.bytes ++ gs) (lit< tt) fa.0 fb.0 t in
+    let bytes = octets_one a.bytes b.bytes fs gs fa.1 fb.1 tag.1 in
     (λ i. record { tag = tag.0 i; bytes = bytes.0 i }, bytes.1)
 
 context_one : One context_fields FitsContext
 context_one order a b fs gs bx by fa fb t =
-    let id = number_one w32 a.id b.id (octets_fields a.bytes ++ fs) (octets_fields b.bytes ++ gs) (lit< tt) fa.id fb.id t in
-    let bytes = octets_one a.bytes b.bytes fs gs fa.bytes fb.bytes id.1 in
+    let id = number_one w32 a.id b.id (octets_fields a.bytes ++ fs) (octets_fields b.bytes ++ gs) (lit< tt) fa.0 fb.0 t in
+    let bytes = octets_one a.bytes b.bytes fs gs fa.1 fb.1 id.1 in
     (λ i. record { id = id.0 i; bytes = bytes.0 i }, bytes.1)
 
 items_one : {A : Type 0} (fields : A → List Field) (P : A → Type 0) → One fields P → (order : Order) (s r : List A) (fs gs : List Field) (bx by : List ℕ)
@@ -135,7 +136,7 @@ counted_one fields P one order s r fs gs bx by few_s few_r ps pr t =
 
 contexts_one : One contexts_fields FitContexts
 contexts_one order s r fs gs bx by fs_fit fr_fit t =
-    counted_one context_fields FitsContext context_one order s r fs gs bx by fs_fit.few fr_fit.few fs_fit.each fr_fit.each t
+    counted_one context_fields FitsContext context_one order s r fs gs bx by fs_fit.0 fr_fit.0 fs_fit.1 fr_fit.1 t
 
 -- ---- targets
 

@@ -1,32 +1,23 @@
 -- Parts put one behind the other, and the room that they want.
-use Rattle.std.proofs.Common.{◌≡◌, ℕ, ◌+◌, ◌^◌, ◌<◌, ◌≤◌, List, [], ◌∷◌, ◌++◌, length, take, drop, get_or, Result, Ok, Err, OnOk, OnErr, sym, ap, subst, ◌∙◌, ◌-◌, arith, length-append}
-use Rattle.std.specs.List.{flat_map}
+use Rattle.std.proofs.Common.{◌≡◌, ℕ, suc, ◌+◌, ◌^◌, ◌<◌, ◌≤◌, List, [], ◌∷◌, ◌++◌, length, Result, Ok, Err, OnOk, OnErr, sym, ap, subst, ◌∙◌, ◌-◌, arith, length-append}
+use Rattle.std.specs.List.{All, AllByRecursion, flat_map}
+use Rattle.std.proofs.lemmas.List.Concat.{flat_map-cons}
 use Rattle.std.proofs.lemmas.List.{append-nil}
 use Rattle.orb_base.specs.declared.no_memory.NoMemory.{NoMemory}
 use Rattle.std.specs.Int.{w32}
 use Rattle.orb_base.specs.declared.order.Order.{Order}
-use Rattle.cdr_core.specs.Field.{Field, field_end, fields_end, string_fields, number_bytes}
+use Rattle.cdr_core.specs.Field.{Field, number, field_end, fields_end, string_fields, number_bytes}
 use Rattle.cdr_core.specs.Spelling.{fields_bytes}
 use Rattle.cdr_core.specs.Writing.{Page, page, written, HasFront, Puts}
-use Rattle.cdr_core.proofs.CallerLemmas.{fields_end-append, written-then, puts_then, puts_first, length-number_bytes}
+use Rattle.cdr_core.proofs.CallerLemmas.{written_none, fields_end-append, puts_then, puts_first, length-number_bytes}
 use Rattle.orb_base.specs.Tagged.{Context, Tagged}
 use Rattle.giop_messages.specs.Message.{Message, kind_of}
-use Rattle.giop_messages.specs.Layout.{header_fields, tagged_fields, context_fields, body_fields}
+use Rattle.cdr_core.specs.Lists.{tagged_fields, item_of_tagged, context_fields, item_of_context, AreCounted}
+use Rattle.giop_messages.specs.Layout.{header_fields, profiles_fields, contexts_fields, body_fields}
 use Rattle.giop_messages.specs.Spelling.{all_fields, spelled}
 use Rattle.giop_messages.specs.Lengths.{held}
 use Rattle.giop_messages.specs.Front.{IsFront}
-use Rattle.giop_messages.proofs.Pieces.{one_more, around, all_of}
 use Rattle.giop_messages.proofs.LengthLaws.{length-spelled_message}
-
-pub written_none : (p : Page) → p ≡ written p []
-unfolding written
-written_none p = ap (λ (x : List ℕ). page p.order p.place x) (sym (append-nil p.bytes))
-
-pub written_both : (old mid new : Page) (a b : List Field) → mid ≡ written old a → new ≡ written mid b → new ≡ written old (a ++ b)
-written_both old mid new a b e f = f ∙ ap (λ (p : Page). written p b) e ∙ written-then old a b
-
-pub front_then : (e : NoMemory) (old mid new : Page) (a b rest : List Field) → mid ≡ written old a → HasFront mid new b → HasFront old new (a ++ b ++ rest)
-front_then e old mid new a b rest m h = puts_first old new (a ++ b) rest (puts_then (Err e) old mid new a b m h)
 
 place_of : (old mid : Page) (a : List Field) → mid ≡ written old a → mid.place ≡ fields_end old.place a
 unfolding written
@@ -52,31 +43,6 @@ room_then old mid a b e h =
 pub puts_nil : (r : Result (Unit {0}) NoMemory) (old new : Page) (a : List Field) → Puts r old new a → Puts r old new (a ++ [])
 puts_nil r old new a puts = let P : List Field → Type 0 = λ fs. Puts r old new fs in subst P (sym (append-nil a)) puts
 
--- ---- lists, item by item
-
-pub list_next : {X : Type 0} (f : X → List Field) (old mid new : Page) (xs : List X) (i : ℕ) (x : X) → i < length xs → x ≡ get_or xs i x
-    → mid ≡ written old (flat_map f (take i xs)) → new ≡ written mid (f x) → new ≡ written old (flat_map f (take (i + 1) xs))
-list_next f old mid new xs i x h is m n =
-    written_both old mid new (flat_map f (take i xs)) (f x) m n ∙ ap (λ (fs : List Field). written old fs) (sym (one_more f xs i x h is))
-
-pub list_front : {X : Type 0} (f : X → List Field) (e : NoMemory) (old mid new : Page) (xs : List X) (i : ℕ) (x : X) → i < length xs → x ≡ get_or xs i x
-    → mid ≡ written old (flat_map f (take i xs)) → HasFront mid new (f x) → HasFront old new (flat_map f xs)
-list_front f e old mid new xs i x h is m n =
-    let P : List Field → Type 0 = λ fs. HasFront old new fs in
-    subst P (sym (around f xs i x h is)) (front_then e old mid new (flat_map f (take i xs)) (f x) (flat_map f (drop (i + 1) xs)) m n)
-
-pub list_room : {X : Type 0} (f : X → List Field) (old mid : Page) (xs : List X) (i : ℕ) (x : X) → i < length xs → x ≡ get_or xs i x
-    → mid ≡ written old (flat_map f (take i xs)) → fields_end old.place (flat_map f xs) < 2 ^ 32 → fields_end mid.place (f x) < 2 ^ 32
-list_room f old mid xs i x h is m room =
-    let first = flat_map f (take i xs) in
-    let rest = flat_map f (drop (i + 1) xs) in
-    let P : List Field → Type 0 = λ fs. fields_end old.place fs < 2 ^ 32 in
-    room_then old mid first (f x) m (room_first old.place (first ++ f x) rest (subst P (around f xs i x h is) room))
-
-pub list_done : {X : Type 0} (f : X → List Field) (old new : Page) (xs : List X) (i : ℕ) → length xs ≤ i → i ≤ length xs
-    → new ≡ written old (flat_map f (take i xs)) → new ≡ written old (flat_map f xs)
-list_done f old new xs i low high e = e ∙ ap (λ (fs : List Field). written old fs) (all_of f xs i low high)
-
 -- each item takes a place at least, so that few stand in little room
 pub few_tagged : (place : ℕ) (xs : List Tagged) → length xs + place ≤ fields_end place (flat_map tagged_fields xs)
 few_tagged place [] = omega arith
@@ -89,6 +55,37 @@ few_contexts place [] = omega arith
 few_contexts place (x ∷ xs) =
     let next = fields_end place (context_fields x) in
     omega (arith, few_contexts next xs, fields_end-append place (context_fields x) (flat_map context_fields xs))
+
+-- room for the whole is room for what is behind its front
+pub room_after : (place : ℕ) (a b : List Field) → fields_end place (a ++ b) < 2 ^ 32 → fields_end (fields_end place a) b < 2 ^ 32
+room_after place a b room = subst (λ (n : ℕ). n < 2 ^ 32) (fields_end-append place a b) room
+
+-- what holds of each item that has room holds of all that have
+pub each_in_room : {X : Type 0} (P Fit : X → Type 0) (fields : X → List Field) → ((place : ℕ) (x : X) → P x → fields_end place (fields x) < 2 ^ 32 → Fit x)
+    → (place : ℕ) (xs : List X) → All P xs → fields_end place (flat_map fields xs) < 2 ^ 32 → AllByRecursion Fit xs
+each_in_room P Fit fields one place [] each room = tt
+each_in_room P Fit fields one place (x ∷ xs) each room =
+    let whole : fields_end place (fields x ++ flat_map fields xs) < 2 ^ 32 = subst (λ (fs : List Field). fields_end place fs < 2 ^ 32) (flat_map-cons fields x xs) room in (
+      one place x (each 0 x (omega arith)) (room_first place (fields x) (flat_map fields xs) whole),
+      each_in_room P Fit fields one (fields_end place (fields x)) xs (λ k d h. each (suc k) d (omega (arith, h))) (room_after place (fields x) (flat_map fields xs) whole),
+    )
+
+-- a list that is spelled in little room is counted
+pub profiles_counted : (place : ℕ) (xs : List Tagged) → fields_end place (profiles_fields xs) < 2 ^ 32 → AreCounted item_of_tagged xs
+profiles_counted place xs room =
+    let count : List Field = number w32 (length xs) ∷ [] in
+    let list : fields_end (fields_end place count) (flat_map tagged_fields xs) < 2 ^ 32 = room_after place count (flat_map tagged_fields xs) room in (
+      omega (arith, list, few_tagged (fields_end place count) xs),
+      each_in_room (λ (x : Tagged). Unit {0}) (λ x. length x.bytes < 2 ^ 32) tagged_fields (λ p x t r. omega (arith, r)) (fields_end place count) xs (λ k d h. tt) list,
+    )
+
+pub contexts_counted : (place : ℕ) (xs : List Context) → fields_end place (contexts_fields xs) < 2 ^ 32 → AreCounted item_of_context xs
+contexts_counted place xs room =
+    let count : List Field = number w32 (length xs) ∷ [] in
+    let list : fields_end (fields_end place count) (flat_map context_fields xs) < 2 ^ 32 = room_after place count (flat_map context_fields xs) room in (
+      omega (arith, list, few_contexts (fields_end place count) xs),
+      each_in_room (λ (x : Context). Unit {0}) (λ x. length x.bytes < 2 ^ 32) context_fields (λ p x t r. omega (arith, r)) (fields_end place count) xs (λ k d h. tt) list,
+    )
 
 pub room_between : (old mid : Page) (a b rest : List Field) → mid ≡ written old a → fields_end old.place (a ++ b ++ rest) < 2 ^ 32 → fields_end mid.place b < 2 ^ 32
 room_between old mid a b rest e h = room_then old mid a b e (room_first old.place (a ++ b) rest h)

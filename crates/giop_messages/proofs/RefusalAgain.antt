@@ -3,25 +3,26 @@ use Rattle.std.proofs.Common.{◌≡◌, ℕ, ◌≤◌, Bool, true, false, cond
 use Rattle.std.specs.Int.{Width, w8, w32, byte_len}
 use Rattle.std.proofs.lemmas.Bool.{lt-ltb}
 use Rattle.cdr_core.specs.Cursor.{Cursor, cursor}
+use Rattle.cdr_core.specs.Sequence.{Parsed, ◌>>=◌}
 use Rattle.cdr_core.specs.Basic.{integer, string}
 use Rattle.cdr_core.specs.Reading.{number_at, string_at}
-use Rattle.cdr_core.proofs.CallerLemmas.{number_reads}
+use Rattle.cdr_core.proofs.CallerLemmas.{number_reads, octet_len, long_len}
 use Rattle.giop_frames.specs.Messages as Frames
 use Rattle.giop_messages.specs.declared.message.Message as program
 use Rattle.giop_messages.specs.declared.message_fault.MessageFault.{MessageFault}
 use Rattle.giop_messages.specs.declared.message_fault.MessageFault.TheVariants as faults
 use Rattle.giop_messages.specs.Message.{Message, request, reply, cancel, locate, located}
 use Rattle.giop_messages.specs.Views.{message_of}
-use Rattle.giop_messages.specs.MessageReading.{Parsed, ◌>>=◌, basic, contexts_at, target_at, reserved_at, status_at, asked_at, request_at, reply_at, cancel_at, locate_at, located_at, as_message, kind_at, message_at, Answers}
+use Rattle.giop_messages.specs.MessageReading.{basic, contexts_at, target_at, reserved_at, status_at, asked_at, request_at, reply_at, cancel_at, locate_at, located_at, as_message, kind_at, message_at}
+use Rattle.giop_messages.specs.Answers.{Answers}
 use Rattle.giop_messages.specs.Refusing.{Part, basic as plain, target, status, contexts, FailsAs, FailsAmong, octet, long, request_parts, parts_of, Refuses}
-use Rattle.giop_messages.proofs.MessageFound.{octet_len, long_len}
 use Rattle.giop_messages.proofs.PartsAgain.{contexts_again, target_again}
 use Rattle.giop_messages.proofs.WholeAgain.{status_again}
 use Rattle.giop_messages.proofs.HeaderFault.{long_place}
 use Rattle.giop_messages.proofs.FaultAgain.{fault_as, number_told, number_there, text_told, text_there, contexts_told, target_told}
 
 -- a reading is refused with the fault, or passes and the fault is behind it
-abbrev Tried : {A : Type 0} → Parsed A → List Part → MessageFault → Type 0
+abbrev Tried : {A : Type 0} → Parsed MessageFault A → List Part → MessageFault → Type 0
 Tried {A} r parts e = (r ≡ Err e) ⊎ ((x : A × Cursor) × (r ≡ Ok x) × FailsAmong parts x.1 e)
 
 bound_err : {A B : Type 0} (r : Result A MessageFault) (f : A → Result B MessageFault) (e : MessageFault) → r ≡ Err e → (r >>= f) ≡ Err e
@@ -31,16 +32,16 @@ bound_ok : {A B : Type 0} (r : Result A MessageFault) (f : A → Result B Messag
 bound_ok r f x h = rw h refl
 
 -- the fault of a reading and those behind it
-ends_so : {A B : Type 0} (r : Parsed A) (f : A × Cursor → Result B MessageFault) (parts : List Part) (e : MessageFault) → Tried r parts e
+ends_so : {A B : Type 0} (r : Parsed MessageFault A) (f : A × Cursor → Result B MessageFault) (parts : List Part) (e : MessageFault) → Tried r parts e
     → ((x : A × Cursor) → FailsAmong parts x.1 e → f x ≡ Err e) → (r >>= f) ≡ Err e
 ends_so r f parts e (inl h) later = bound_err r f e h
 ends_so r f parts e (inr (x, h, k)) later = bound_ok r f x h ∙ later x k
 
-goes_so : {A B : Type 0} (r : Parsed A) (f : A × Cursor → Parsed B) (parts after : List Part) (e : MessageFault) → Tried r parts e
+goes_so : {A B : Type 0} (r : Parsed MessageFault A) (f : A × Cursor → Parsed MessageFault B) (parts after : List Part) (e : MessageFault) → Tried r parts e
     → ((x : A × Cursor) → FailsAmong parts x.1 e → Tried (f x) after e) → Tried (r >>= f) after e
 goes_so r f parts after e (inl h) later = inl (bound_err r f e h)
 goes_so {A} {B} r f parts after e (inr (x, h, k)) later =
-    let P : Parsed B → Type 0 = λ s. Tried s after e in
+    let P : Parsed MessageFault B → Type 0 = λ s. Tried s after e in
     subst P (sym (bound_ok r f x h)) (later x k)
 
 -- ---- parts

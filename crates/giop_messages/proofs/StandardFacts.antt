@@ -5,17 +5,13 @@ use Rattle.orb_base.specs.declared.order.Order.TheVariants.{Big, Little}
 use Rattle.orb_base.specs.declared.system.SysName.TheVariants.{ObjectNotExist}
 use Rattle.orb_base.specs.declared.system.Completed.TheVariants.{No}
 use Rattle.cdr_core.specs.Field.{number_bytes}
-use Rattle.giop_messages.specs.Message.{Request, Reply, cancel, close, error, key, locate, located, reply, request}
+use Rattle.giop_messages.specs.Message.{Request, cancel, close, error, key, locate, located, reply_of, request}
 use Rattle.giop_messages.specs.Spelling.{spelled}
 use Rattle.giop_messages.specs.Exceptions.{exception_body}
 
 -- the operation `current` of an object, with a reply due, no contexts and no body
 abbrev plain : ℕ → List ℕ → Request
 plain id object = record { id = id; flags = 3; target = key object; operation = codes "current"; contexts = []; body = [] }
-
--- a reply without contexts
-abbrev bare : ℕ → ℕ → List ℕ → Reply
-bare id status body = record { id = id; status = status; contexts = []; body = body }
 
 -- a request for `current` of the object `ping`
 ping_request : spelled Big (request (plain 1 (codes "ping"))) ≡
@@ -28,7 +24,7 @@ unfolding number_bytes
 ping_request = refl
 
 -- the short 100 as its answer
-ping_reply : spelled Big (reply (bare 1 0 (0 ∷ 100 ∷ []))) ≡
+ping_reply : spelled Big (reply_of 1 0 [] (0 ∷ 100 ∷ [])) ≡
     71 ∷ 73 ∷ 79 ∷ 80 ∷ 1 ∷ 2 ∷ 0 ∷ 1 ∷ 0 ∷ 0 ∷ 0 ∷ 14
     ∷ 0 ∷ 0 ∷ 0 ∷ 1 ∷ 0 ∷ 0 ∷ 0 ∷ 0 ∷ 0 ∷ 0 ∷ 0 ∷ 0
     ∷ 0 ∷ 100 ∷ []
@@ -36,7 +32,7 @@ unfolding number_bytes
 ping_reply = refl
 
 -- the short 7, little-endian
-little_reply : spelled Little (reply (bare 1 0 (7 ∷ 0 ∷ []))) ≡
+little_reply : spelled Little (reply_of 1 0 [] (7 ∷ 0 ∷ [])) ≡
     71 ∷ 73 ∷ 79 ∷ 80 ∷ 1 ∷ 2 ∷ 1 ∷ 1 ∷ 14 ∷ 0 ∷ 0 ∷ 0
     ∷ 1 ∷ 0 ∷ 0 ∷ 0 ∷ 0 ∷ 0 ∷ 0 ∷ 0 ∷ 0 ∷ 0 ∷ 0 ∷ 0
     ∷ 7 ∷ 0 ∷ []
@@ -44,7 +40,7 @@ unfolding number_bytes
 little_reply = refl
 
 -- OBJECT_NOT_EXIST with the minor code 1, not completed
-exception_reply : spelled Big (reply (bare 1 2 (exception_body Big (record { name = ObjectNotExist; minor = 1; completed = No })))) ≡
+exception_reply : spelled Big (reply_of 1 2 [] (exception_body Big (record { name = ObjectNotExist; minor = 1; completed = No }))) ≡
     71 ∷ 73 ∷ 79 ∷ 80 ∷ 1 ∷ 2 ∷ 0 ∷ 1 ∷ 0 ∷ 0 ∷ 0 ∷ 64
     ∷ 0 ∷ 0 ∷ 0 ∷ 1 ∷ 0 ∷ 0 ∷ 0 ∷ 2 ∷ 0 ∷ 0 ∷ 0 ∷ 0
     ∷ 0 ∷ 0 ∷ 0 ∷ 39 ∷ 73 ∷ 68 ∷ 76 ∷ 58 ∷ 111 ∷ 109 ∷ 103 ∷ 46 ∷ 111 ∷ 114 ∷ 103 ∷ 47

@@ -8,7 +8,7 @@ use Rattle.cdr_core.specs.Spelling.{IsSpelled}
 use Rattle.cdr_core.specs.Cursor.{Cursor, cursor, AreBytes}
 use Rattle.cdr_core.specs.Passing.{Spans}
 use Rattle.cdr_core.specs.Reading.{number_at}
-use Rattle.cdr_core.proofs.CallerLemmas.{spans_split, number_reads}
+use Rattle.cdr_core.proofs.CallerLemmas.{spans_split, number_reads, octet_len, long_len}
 use Rattle.giop_frames.specs.Messages as Frames
 use Rattle.giop_messages.specs.declared.message_fault.MessageFault.{MessageFault}
 use Rattle.giop_messages.specs.declared.message.Message as program
@@ -16,8 +16,9 @@ use Rattle.giop_messages.specs.Message.{Request, Reply, Locate, Located, Message
 use Rattle.giop_messages.specs.Layout.{target_fields, contexts_fields, named_fields}
 use Rattle.giop_messages.specs.Reading.{HasBody, ReadsIn, Reads}
 use Rattle.giop_messages.specs.Views.{message_of}
-use Rattle.giop_messages.specs.MessageReading.{IsMessage, basic, body_from, status_at, asked_at, request_at, reply_at, cancel_at, locate_at, located_at, as_message, kind_at, message_at, Answers}
-use Rattle.giop_messages.proofs.MessageFound.{done, octet_len, long_len}
+use Rattle.giop_messages.specs.MessageReading.{IsMessage, basic, body_from, status_at, asked_at, request_at, reply_at, cancel_at, locate_at, located_at, as_message, kind_at, message_at}
+use Rattle.giop_messages.specs.Answers.{Answers}
+use Rattle.giop_messages.proofs.MessageFound.{done}
 use Rattle.giop_messages.proofs.Headed.{IsHeaded, headed}
 use Rattle.giop_messages.proofs.WholeFound.{behind_header, rest_is}
 use Rattle.giop_messages.proofs.OneReading.{heads, behind_heads, flag_order}

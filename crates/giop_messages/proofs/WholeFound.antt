@@ -7,7 +7,7 @@ use Rattle.std.proofs.lemmas.List.{drop_at}
 use Rattle.orb_base.specs.declared.order.Order.{Order}
 use Rattle.cdr_core.specs.Field.{number_bytes}
 use Rattle.cdr_core.specs.Cursor.{Cursor, cursor, AreBytes}
-use Rattle.cdr_core.proofs.CallerLemmas.{length-number_bytes}
+use Rattle.cdr_core.proofs.CallerLemmas.{length-number_bytes, ok_is}
 use Rattle.cdr_core.proofs.Parts.{AreBytes-drop}
 use Rattle.giop_frames.specs.Messages as Frames
 use Rattle.giop_messages.specs.declared.message_fault.MessageFault.{MessageFault}
@@ -17,8 +17,8 @@ use Rattle.giop_messages.specs.Layout.{header, named_fields}
 use Rattle.giop_messages.specs.Reading.{HasBody, ReadsIn, Reads}
 use Rattle.giop_messages.specs.declared.message.Message as program
 use Rattle.giop_messages.specs.Views.{message_of}
-use Rattle.giop_messages.specs.MessageReading.{IsMessage, request_at, reply_at, cancel_at, locate_at, located_at, as_message, kind_at, message_at, Answers}
-use Rattle.giop_messages.proofs.MessageFound.{ok_is}
+use Rattle.giop_messages.specs.MessageReading.{IsMessage, request_at, reply_at, cancel_at, locate_at, located_at, as_message, kind_at, message_at}
+use Rattle.giop_messages.specs.Answers.{Answers}
 use Rattle.giop_messages.proofs.Headed.{IsHeaded, headed}
 use Rattle.giop_messages.proofs.KindFound.{either, Meant, request_found, reply_found, cancel_found, locate_found, located_found, zeros, three_zeros}
 

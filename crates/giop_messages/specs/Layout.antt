@@ -1,10 +1,10 @@
 -- The order in which the parts of a message stand: CORBA 3.0.3, section 15.4.
-use Rattle.std.specs.Prelude.{ℕ, List, [], ◌∷◌, ◌++◌, length}
-use Rattle.std.specs.List.{flat_map}
+use Rattle.std.specs.Prelude.{ℕ, List, [], ◌∷◌, ◌++◌}
 use Rattle.std.specs.Int.{w8, w16, w32}
 use Rattle.orb_base.specs.declared.order.Order.{Order}
 use Rattle.orb_base.specs.declared.order.Order.TheVariants.{Big, Little}
 use Rattle.cdr_core.specs.Field.{Field, number, run, number_bytes, string_fields, octets_fields}
+use Rattle.cdr_core.specs.Lists.{tagged_fields, context_fields, list_fields}
 use Rattle.orb_base.specs.Tagged.{Context, Tagged}
 use Rattle.giop_frames.specs.Headers.{magic}
 use Rattle.giop_messages.specs.Message.{Target, key, profile, addressing, Message, request, reply, cancel, locate, located, close, error}
@@ -22,13 +22,9 @@ header order flags kind size = magic ++ 1 ∷ 2 ∷ flags ∷ kind ∷ [] ++ num
 abbrev pub header_fields : Order → ℕ → ℕ → List Field
 header_fields order kind size = run 1 (magic ++ 1 ∷ 2 ∷ order_flag order ∷ kind ∷ []) ∷ number w32 size ∷ []
 
--- tagged data: its tag and its bytes
-abbrev pub tagged_fields : Tagged → List Field
-tagged_fields t = number w32 t.tag ∷ octets_fields t.bytes
-
 -- profiles behind their number
 abbrev pub profiles_fields : List Tagged → List Field
-profiles_fields profiles = number w32 (length profiles) ∷ flat_map tagged_fields profiles
+profiles_fields profiles = list_fields tagged_fields profiles
 
 -- a key is form 0, a profile form 1, and a reference form 2
 abbrev pub target_fields : Target → List Field
@@ -37,13 +33,9 @@ target_fields (profile t) = number w16 1 ∷ tagged_fields t
 target_fields (addressing index type_id profiles) =
     number w16 2 ∷ number w32 index ∷ string_fields type_id ++ profiles_fields profiles
 
--- a service context: its id and its bytes
-abbrev pub context_fields : Context → List Field
-context_fields context = number w32 context.id ∷ octets_fields context.bytes
-
 -- the service contexts behind their number
 abbrev pub contexts_fields : List Context → List Field
-contexts_fields contexts = number w32 (length contexts) ∷ flat_map context_fields contexts
+contexts_fields contexts = list_fields context_fields contexts
 
 -- the named fields of a message, with the three reserved octets of a request
 abbrev pub named_fields : List ℕ → Message → List Field

@@ -5,9 +5,11 @@ pub mod Views
 pub mod Layout
 pub mod Spelling
 pub mod Lengths
+pub mod Ranges
 pub mod Front
 pub mod Reading
 pub mod Exceptions
+pub mod Answers
 pub mod MessageReading
 pub mod Refusing
 pub mod Framing

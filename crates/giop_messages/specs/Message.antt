@@ -5,6 +5,7 @@ use Rattle.orb_base.specs.NulFree.{HasNoNul}
 use Rattle.giop_frames.specs.declared.kind.Kind.TheVariants as kinds
 use Rattle.giop_frames.specs.Kinds.{number}
 use Rattle.orb_base.specs.Tagged.{Context, Tagged}
+use Rattle.cdr_core.specs.Lists.{FitsTagged, FitsContext, FitsList}
 
 -- the object that a request is for: by the key of its adapter, by a profile, or by a reference of which one profile is
 -- meant. Section 15.4.2.1
@@ -64,20 +65,10 @@ kind_of (located _) = number kinds.LocateReply
 kind_of close = number kinds.CloseConnection
 kind_of error = number kinds.MessageError
 
--- data that the widths can hold
-pub record FitsTagged (tagged : Tagged) : Type 0 where
-  pub tag : tagged.tag < 2 ^ 32
-  pub bytes : length tagged.bytes < 2 ^ 32
-
 -- a text that a string can hold
 pub record FitsText (text : List ℕ) : Type 0 where
   pub no_nul : HasNoNul text
   pub short : length text + 1 < 2 ^ 32
-
--- a service context that the widths can hold
-pub record FitsContext (context : Context) : Type 0 where
-  pub id : context.id < 2 ^ 32
-  pub bytes : length context.bytes < 2 ^ 32
 
 -- a target that they can hold
 abbrev pub FitsTarget : Target → Type 0
@@ -87,9 +78,8 @@ FitsTarget (addressing index type_id profiles) =
     (index < 2 ^ 32) × FitsText type_id × (length profiles < 2 ^ 32) × AllByRecursion FitsTagged profiles
 
 -- service contexts that the widths can hold
-pub record FitContexts (contexts : List Context) : Type 0 where
-  pub few : length contexts < 2 ^ 32
-  pub each : AllByRecursion FitsContext contexts
+abbrev pub FitContexts : List Context → Type 0
+FitContexts contexts = FitsList FitsContext contexts
 
 -- a request that the widths can hold
 pub record FitsRequest (request : Request) : Type 0 where

@@ -1,11 +1,12 @@
 -- The reading of a message from left to right, with the first fault that is met: CORBA 3.0.3, section 15.4. The causes and
 -- their order are own profile.
-use Rattle.std.specs.Prelude.{◌≡◌, ◌-◌, ◌≤◌, ℕ, zero, suc, true, false, List, [], ◌∷◌, length, drop, Result, Ok, Err, nat_lt, ◌==◌, if◌then◌else◌}
+use Rattle.std.specs.Prelude.{◌≡◌, ◌-◌, ◌≤◌, ℕ, true, false, List, length, drop, Result, Ok, Err, nat_lt, ◌==◌, if◌then◌else◌}
 use Rattle.std.specs.Int.{w8, w16, w32}
 use Rattle.cdr_core.specs.Alignment.{pad_len}
-use Rattle.cdr_core.specs.Cursor as Cdr
-use Rattle.cdr_core.specs.Cursor.{Cursor, cursor}
-use Rattle.cdr_core.specs.Reading.{number_at, count_at, octets_at, string_at}
+use Rattle.cdr_core.specs.Cursor.{Cursor, cursor, Reads}
+use Rattle.cdr_core.specs.Reading.{number_at, octets_at, string_at}
+use Rattle.cdr_core.specs.Sequence.{Parsed, ◌>>=◌, told_as}
+use Rattle.cdr_core.specs.Lists.{item_at, made_at, list_at, tagged_of, context_of}
 use Rattle.orb_base.specs.declared.limits.TheConstants.{MAX_MESSAGE}
 use Rattle.giop_frames.specs.declared.kind.Kind.TheVariants as kinds
 use Rattle.giop_frames.specs.Kinds.{number, is_kind}
@@ -29,86 +30,32 @@ pub record IsMessage (m : Frames.Message) : Type 0 where
   pub size : piece_len m.bytes ≡ length m.bytes
   pub short : length m.bytes ≤ MAX_MESSAGE
 
--- a value and the cursor behind it, or the first fault
-abbrev pub Parsed : Type 0 → Type 0
-Parsed A = Result (A × Cursor) MessageFault
-
-infixl 10 ◌>>=◌
--- one reading behind another; the first fault ends both
-abbrev pub ◌>>=◌ : {A B : Type 0} → Result A MessageFault → (A → Result B MessageFault) → Result B MessageFault
-(Ok x) >>= f = f x
-(Err e) >>= f = Err e
-
--- a reading of a basic type
-abbrev pub basic : {A : Type 0} → Cdr.Reads A → Parsed A
-basic (Ok x) = Ok x
-basic (Err f) = Err (faults.Cdr f)
-
--- the fault of the reading, unless memory was wanting
-abbrev pub Fails : {Y : Type 0} → MessageFault → Result Y MessageFault → Type 0
-Fails (faults.Cdr f) reading = reading ≡ Err (faults.Cdr f)
-Fails (faults.BadTarget place) reading = reading ≡ Err (faults.BadTarget place)
-Fails (faults.BadStatus place) reading = reading ≡ Err (faults.BadStatus place)
-Fails faults.NoMemory reading = Unit {0}
-
--- what a call answers, seen by the view, and the cursor behind it are what the reading gives, unless memory was wanting
-abbrev pub Gives : {X Y : Type 0} → (X → Y) → Result X MessageFault → Cursor → Parsed Y → Type 0
-Gives view (Ok x) new reading = reading ≡ Ok (view x, new)
-Gives view (Err e) new reading = Fails e reading
-
--- the same without a cursor
-abbrev pub Answers : {X Y : Type 0} → (X → Y) → Result X MessageFault → Result Y MessageFault → Type 0
-Answers view (Ok x) reading = reading ≡ Ok (view x)
-Answers view (Err e) reading = Fails e reading
-
--- so many, one behind the other
-unfoldable pub times : {A : Type 0} → (Cursor → Parsed A) → ℕ → Cursor → Parsed (List A)
-times one zero c = Ok ([], c)
-times one (suc n) c = do
-  first ← one c
-  others ← times one n first.1
-  Ok (first.0 ∷ others.0, others.1)
-
--- tagged data: its tag and its bytes
-unfoldable pub tagged_at : Cursor → Parsed Tagged
-tagged_at c = do
-  tag ← basic (number_at w32 c)
-  bytes ← basic (octets_at tag.1)
-  Ok (record { tag = tag.0; bytes = bytes.0 }, bytes.1)
+-- a reading of the Common Data Representation
+abbrev pub basic : {A : Type 0} → Reads A → Parsed MessageFault A
+basic = told_as faults.Cdr
 
 -- profiles behind their number
-unfoldable pub profiles_at : Cursor → Parsed (List Tagged)
-profiles_at c = do
-  count ← basic (count_at c)
-  times tagged_at count.0 count.1
-
--- a service context: its id and its bytes
-unfoldable pub context_at : Cursor → Parsed Context
-context_at c = do
-  id ← basic (number_at w32 c)
-  bytes ← basic (octets_at id.1)
-  Ok (record { id = id.0; bytes = bytes.0 }, bytes.1)
+unfoldable pub profiles_at : Cursor → Parsed MessageFault (List Tagged)
+profiles_at c = basic (list_at (made_at tagged_of) c)
 
 -- service contexts behind their number
-unfoldable pub contexts_at : Cursor → Parsed (List Context)
-contexts_at c = do
-  count ← basic (count_at c)
-  times context_at count.0 count.1
+unfoldable pub contexts_at : Cursor → Parsed MessageFault (List Context)
+contexts_at c = basic (list_at (made_at context_of) c)
 
 -- a key
-unfoldable pub key_at : Cursor → Parsed Target
+unfoldable pub key_at : Cursor → Parsed MessageFault Target
 key_at c = do
   bytes ← basic (octets_at c)
   Ok (key bytes.0, bytes.1)
 
 -- a profile
-unfoldable pub profile_at : Cursor → Parsed Target
+unfoldable pub profile_at : Cursor → Parsed MessageFault Target
 profile_at c = do
-  tagged ← tagged_at c
-  Ok (profile tagged.0, tagged.1)
+  item ← basic (item_at c)
+  Ok (profile (tagged_of item.0), item.1)
 
 -- a reference of which one profile is meant
-unfoldable pub addressing_at : Cursor → Parsed Target
+unfoldable pub addressing_at : Cursor → Parsed MessageFault Target
 addressing_at c = do
   index ← basic (number_at w32 c)
   type_id ← basic (string_at index.1)
@@ -116,25 +63,25 @@ addressing_at c = do
   Ok (addressing index.0 type_id.0 profiles.0, profiles.1)
 
 -- the target of a form that stood at the place
-unfoldable pub form_at : ℕ → ℕ → Cursor → Parsed Target
+unfoldable pub form_at : ℕ → ℕ → Cursor → Parsed MessageFault Target
 form_at place form c =
     if form == 0 then key_at c else if form == 1 then profile_at c else if form == 2 then addressing_at c else Err (faults.BadTarget place)
 
 -- a target: its form of two bytes, and what the form says
-unfoldable pub target_at : Cursor → Parsed Target
+unfoldable pub target_at : Cursor → Parsed MessageFault Target
 target_at c = do
   form ← basic (number_at w16 c)
   form_at (form.1.place - 2) form.0 form.1
 
 -- three reserved octets, of any content
-unfoldable pub reserved_at : Cursor → Parsed ℕ
+unfoldable pub reserved_at : Cursor → Parsed MessageFault ℕ
 reserved_at c = do
   first ← basic (number_at w8 c)
   second ← basic (number_at w8 first.1)
   basic (number_at w8 second.1)
 
 -- the status of a reply, of four bytes
-unfoldable pub status_at : Cursor → Parsed ℕ
+unfoldable pub status_at : Cursor → Parsed MessageFault ℕ
 status_at c = do
   status ← basic (number_at w32 c)
   if nat_lt 5 status.0 then Err (faults.BadStatus (status.1.place - 4)) else Ok status
@@ -144,7 +91,7 @@ abbrev pub body_from : ℕ → List ℕ → List ℕ
 body_from place bytes = drop (pad_len 8 place) (drop place bytes)
 
 -- the id, the response flags and the target of a request
-unfoldable pub asked_at : Cursor → Parsed (ℕ × ℕ × Target)
+unfoldable pub asked_at : Cursor → Parsed MessageFault (ℕ × ℕ × Target)
 asked_at c = do
   id ← basic (number_at w32 c)
   flags ← basic (number_at w8 id.1)

@@ -1,65 +1,30 @@
 -- The first fault of a message's header: each part before it has a reading, and the part there has none. CORBA 3.0.3,
 -- section 15.4. The causes and their order are own profile.
-use Rattle.std.specs.Prelude.{◌≡◌, ◌≤◌, ◌<◌, ℕ, List, [], ◌∷◌, ◌⊎◌, length, drop, if◌then◌else◌}
+use Rattle.std.specs.Prelude.{◌≡◌, ◌≤◌, ◌<◌, ℕ, List, [], ◌∷◌, ◌⊎◌, drop, if◌then◌else◌}
 use Rattle.std.specs.Int.{w8, w16, w32}
-use Rattle.std.specs.List.{AllByRecursion, flat_map}
 use Rattle.cdr_core.specs.declared.fault.CdrFault.{CdrFault}
-use Rattle.cdr_core.specs.Field.{Field, number}
+use Rattle.cdr_core.specs.Field.{number}
 use Rattle.cdr_core.specs.Cursor.{Cursor, cursor, aligned}
-use Rattle.cdr_core.specs.Basic.{BasicType, integer, octet_sequence, string, BasicValue, unsigned, type_of}
-use Rattle.cdr_core.specs.Passing.{Spans, Passes, Fails, FailsCount}
+use Rattle.cdr_core.specs.Basic.{BasicType, integer, octet_sequence, string, unsigned}
+use Rattle.cdr_core.specs.Passing.{Spans, Passes, Fails}
+use Rattle.cdr_core.specs.FirstFault.{Stands, FailsIn, item, FailsList}
 use Rattle.giop_frames.specs.declared.kind.Kind.TheVariants as kinds
 use Rattle.giop_frames.specs.Kinds.{is_kind}
 use Rattle.giop_frames.specs.Messages as Frames
 use Rattle.giop_messages.specs.declared.message_fault.MessageFault.{MessageFault}
 use Rattle.giop_messages.specs.declared.message_fault.MessageFault.TheVariants as faults
 use Rattle.orb_base.specs.Tagged.{Context}
-use Rattle.giop_messages.specs.Message.{Target, FitsTarget, FitsTagged, FitsContext, FitContexts}
-use Rattle.giop_messages.specs.Layout.{tagged_fields, target_fields, context_fields, contexts_fields}
+use Rattle.giop_messages.specs.Message.{Target, FitsTarget, FitContexts}
+use Rattle.cdr_core.specs.Lists.{tagged_fields, FitsTagged, context_fields, FitsContext}
+use Rattle.giop_messages.specs.Layout.{target_fields, contexts_fields}
 
--- ---- basic types in a row
-
--- a value of the basic type stands between two cursors
-abbrev pub Stands : BasicType → Cursor → Cursor → Type 0
-Stands kind c d = (v : BasicValue) × (type_of v ≡ kind) × Passes c d v
+-- the fault is one of the Common Data Representation, for which this holds
+abbrev pub TellsCdr : (CdrFault → Type 0) → MessageFault → Type 0
+TellsCdr Bad fault = (f : CdrFault) × Bad f × (fault ≡ faults.Cdr f)
 
 -- no value of the basic type stands there, and this is why
 abbrev pub FailsBasic : BasicType → Cursor → MessageFault → Type 0
-FailsBasic kind c fault = (f : CdrFault) × Fails c kind f × (fault ≡ faults.Cdr f)
-
--- values of these types stand there one behind the other, up to one of which none does
-abbrev pub FailsIn : List BasicType → Cursor → MessageFault → Type 0
-FailsIn [] c fault = ⊥
-FailsIn (kind ∷ kinds) c fault = FailsBasic kind c fault ⊎ ((d : Cursor) × Stands kind c d × FailsIn kinds d fault)
-
--- ---- lists
-
--- tagged data, or a service context: a number of four bytes and an octet sequence
-abbrev pub item : List BasicType
-item = integer w32 ∷ octet_sequence ∷ []
-
--- of so many items some stand there, and the next one fails
-pub record FailsItem {A : Type 0} (fields : A → List Field) (Fit : A → Type 0) (count : ℕ) (c : Cursor)
-    (fault : MessageFault) : Type 0 where
-  pub before : List A
-  pub fit : AllByRecursion Fit before
-  pub few : length before < count
-  pub behind : Cursor
-  pub spans : Spans c behind (flat_map fields before)
-  pub fails : FailsIn item behind fault
-
--- a count stands between two cursors, of at most the number of bytes behind it
-abbrev pub Counts : ℕ → Cursor → Cursor → Type 0
-Counts count c d = Passes c d (unsigned w32 count) × (count ≤ length d.rest)
-
--- no count stands there, and this is why
-abbrev pub FailsAsCount : Cursor → MessageFault → Type 0
-FailsAsCount c fault = (f : CdrFault) × FailsCount c f × (fault ≡ faults.Cdr f)
-
--- a list behind its count fails: the count, or the first item that does
-abbrev pub FailsList : {A : Type 0} → (A → List Field) → (A → Type 0) → Cursor → MessageFault → Type 0
-FailsList fields Fit c fault =
-    FailsAsCount c fault ⊎ ((count : ℕ) × (d : Cursor) × Counts count c d × FailsItem fields Fit count d fault)
+FailsBasic kind c fault = TellsCdr (Fails c kind) fault
 
 -- ---- targets
 
@@ -74,14 +39,14 @@ pub record HasBadForm (c : Cursor) (fault : MessageFault) : Type 0 where
 -- a reference of which one profile is meant fails: its index, its repository id, or its profiles
 abbrev pub FailsReference : Cursor → MessageFault → Type 0
 FailsReference c fault =
-    FailsIn (integer w32 ∷ string ∷ []) c fault
+    TellsCdr (FailsIn (integer w32 ∷ string ∷ []) c) fault
     ⊎ ((d : Cursor) × (e : Cursor) × Stands (integer w32) c d × Stands string d e
-    × FailsList tagged_fields FitsTagged e fault)
+    × TellsCdr (FailsList tagged_fields FitsTagged (FailsIn item) e) fault)
 
 -- what stands behind a form fails: a key, a profile, or a reference
 abbrev pub FailsBehind : ℕ → Cursor → MessageFault → Type 0
 FailsBehind form c fault =
-    ((form ≡ 0) × FailsIn (octet_sequence ∷ []) c fault) ⊎ ((form ≡ 1) × FailsIn item c fault)
+    ((form ≡ 0) × FailsBasic octet_sequence c fault) ⊎ ((form ≡ 1) × TellsCdr (FailsIn item c) fault)
     ⊎ ((form ≡ 2) × FailsReference c fault)
 
 -- no target stands there, and this is why
@@ -117,7 +82,7 @@ abbrev pub FailsAs : Part → Cursor → MessageFault → Type 0
 FailsAs (basic kind) c fault = FailsBasic kind c fault
 FailsAs target c fault = FailsTarget c fault
 FailsAs status c fault = FailsBasic (integer w32) c fault ⊎ HasBadStatus c fault
-FailsAs contexts c fault = FailsList context_fields FitsContext c fault
+FailsAs contexts c fault = TellsCdr (FailsList context_fields FitsContext (FailsIn item) c) fault
 
 -- parts stand there one behind the other, up to one that fails
 abbrev pub FailsAmong : List Part → Cursor → MessageFault → Type 0

@@ -10,6 +10,7 @@ mod located;
 mod message;
 mod message_fault;
 mod part;
+mod ranges;
 mod read;
 mod read_basic;
 mod read_parts;

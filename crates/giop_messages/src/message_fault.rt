@@ -1,10 +1,11 @@
 //! Why the bytes of a message have no reading.
 ghost use Rattle.std.specs.Prelude.{◌≡◌};
 ghost use Rattle.giop_messages.specs.declared.message_fault.MessageFault.TheVariants.{Cdr, NoMemory};
+ghost use Rattle.giop_messages.specs.Answers.{message_error};
 ghost use Rattle.giop_messages.specs.Causes.{cause_of};
 
 use crate::refused::Fault;
-use cdr_core::CdrFault;
+use cdr_core::{CdrError, CdrFault};
 use std::alloc::AllocError;
 use thiserror::Error;
 
@@ -46,6 +47,17 @@ impl From<CdrFault> for MessageFault {
 
     fn from(fault: CdrFault) -> MessageFault {
         MessageFault::Cdr(fault)
+    }
+}
+
+impl From<CdrError> for MessageFault {
+    ghost from_gives = { λ error e. e ≡ message_error error };
+
+    fn from(error: CdrError) -> MessageFault {
+        match error {
+            CdrError::Refused(fault) => MessageFault::Cdr(fault),
+            CdrError::NoMemory => MessageFault::NoMemory,
+        }
     }
 }
 

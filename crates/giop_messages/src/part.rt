@@ -1,14 +1,14 @@
 //! The parts of messages, one behind the other.
-ghost use Rattle.std.specs.Prelude.{◌≡◌, ◌+◌, ◌<◌, ◌^◌, ℕ, [], ◌∷◌, length};
-ghost use Rattle.std.specs.List.{flat_map};
+ghost use Rattle.std.specs.Prelude.{◌<◌, ◌^◌};
 ghost use Rattle.cdr_core.specs.Field.{fields_end};
+ghost use Rattle.cdr_core.specs.Lists.{tagged_fields};
 ghost use Rattle.cdr_core.specs.Writing.{Puts};
 ghost use Rattle.giop_messages.specs.Message as Spec;
-ghost use Rattle.giop_messages.specs.Layout.{tagged_fields, target_fields, context_fields, contexts_fields, body_fields, profiles_fields};
+ghost use Rattle.giop_messages.specs.Layout.{target_fields, contexts_fields, body_fields, profiles_fields};
 ghost use Rattle.giop_messages.specs.TargetView.{target_of};
 
 use crate::target::Target;
-use cdr_core::Writer;
+use cdr_core::{Writer, put_list};
 use orb_base::{Context, NoMemory, Tagged, Text};
 
 /// Puts a tag and what it tells of.
@@ -16,19 +16,7 @@ pub fn put_tagged(into: &mut Writer, tagged: &Tagged) -> Result<(), NoMemory>
     requires { fields_end into.old.place (tagged_fields tagged.now) < 2 ^ 32 }
     ensures { Puts result into.old into.new (tagged_fields tagged.now) }
 {
-    into.put_u32(tagged.tag)?;
-    into.put_octets(tagged.bytes.as_slice())
-}
-
-/// Puts tagged data one behind the other.
-fn put_tagged_list(into: &mut Writer, list: &[Tagged]) -> Result<(), NoMemory>
-    requires { fields_end into.old.place (flat_map tagged_fields list.now) < 2 ^ 32 }
-    ensures { Puts result into.old into.new (flat_map tagged_fields list.now) }
-{
-    for tagged in list {
-        put_tagged(into, tagged)?;
-    }
-    Ok(())
+    into.put_item(tagged.tag, tagged.bytes.as_slice())
 }
 
 /// Puts profiles behind their number.
@@ -36,28 +24,7 @@ fn put_profiles(into: &mut Writer, profiles: &[Tagged]) -> Result<(), NoMemory>
     requires { fields_end into.old.place (profiles_fields profiles.now) < 2 ^ 32 }
     ensures { Puts result into.old into.new (profiles_fields profiles.now) }
 {
-    into.put_u32(profiles.len() as u32)?;
-    put_tagged_list(into, profiles)
-}
-
-/// Puts a service context.
-fn put_context(into: &mut Writer, context: &Context) -> Result<(), NoMemory>
-    requires { fields_end into.old.place (context_fields context.now) < 2 ^ 32 }
-    ensures { Puts result into.old into.new (context_fields context.now) }
-{
-    into.put_u32(context.id)?;
-    into.put_octets(context.bytes.as_slice())
-}
-
-/// Puts service contexts one behind the other.
-fn put_context_list(into: &mut Writer, list: &[Context]) -> Result<(), NoMemory>
-    requires { fields_end into.old.place (flat_map context_fields list.now) < 2 ^ 32 }
-    ensures { Puts result into.old into.new (flat_map context_fields list.now) }
-{
-    for context in list {
-        put_context(into, context)?;
-    }
-    Ok(())
+    put_list(into, profiles)
 }
 
 /// Puts service contexts behind their number.
@@ -65,8 +32,7 @@ pub fn put_contexts(into: &mut Writer, contexts: &[Context]) -> Result<(), NoMem
     requires { fields_end into.old.place (contexts_fields contexts.now) < 2 ^ 32 }
     ensures { Puts result into.old into.new (contexts_fields contexts.now) }
 {
-    into.put_u32(contexts.len() as u32)?;
-    put_context_list(into, contexts)
+    put_list(into, contexts)
 }
 
 /// Puts a target that is a key.

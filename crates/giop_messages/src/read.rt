@@ -2,7 +2,8 @@
 ghost use Rattle.std.specs.Prelude.{◌≢◌, IfOk, IfErr, Err};
 ghost use Rattle.cdr_core.specs.Cursor.{AreBytes};
 ghost use Rattle.giop_messages.specs.Message as Spec;
-ghost use Rattle.giop_messages.specs.MessageReading.{IsMessage, Gives, Answers, reserved_at, status_at, asked_at, request_at, reply_at, cancel_at, locate_at, located_at, kind_at, message_at};
+ghost use Rattle.giop_messages.specs.Answers.{Gives, Answers};
+ghost use Rattle.giop_messages.specs.MessageReading.{IsMessage, reserved_at, status_at, asked_at, request_at, reply_at, cancel_at, locate_at, located_at, kind_at, message_at};
 ghost use Rattle.giop_messages.specs.Reading.{Reads};
 ghost use Rattle.giop_messages.specs.Refusing.{Refuses};
 ghost use Rattle.giop_messages.specs.declared.message_fault.MessageFault.{MessageFault as Refusal};

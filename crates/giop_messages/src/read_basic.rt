@@ -1,8 +1,9 @@
 //! Parts of a message that basic types are: numbers, counts, octets and texts.
 ghost use Rattle.std.specs.Prelude.{◌≡◌, drop};
 ghost use Rattle.std.specs.Int.{w8, w16, w32};
-ghost use Rattle.cdr_core.specs.Reading.{number_at, count_at, octets_at, string_at};
-ghost use Rattle.giop_messages.specs.MessageReading.{Gives, Answers, basic, body_from};
+ghost use Rattle.cdr_core.specs.Reading.{number_at, octets_at, string_at};
+ghost use Rattle.giop_messages.specs.Answers.{Gives, Answers};
+ghost use Rattle.giop_messages.specs.MessageReading.{basic, body_from};
 
 use crate::message_fault::MessageFault;
 use cdr_core::Reader;
@@ -28,13 +29,6 @@ pub fn u32_at(reader: &mut Reader<'_>) -> Result<u32, MessageFault>
     ensures { Gives (λ n. n) result reader.new (basic (number_at w32 reader.old)) }
 {
     Ok(reader.take_u32()?)
-}
-
-/// Takes a count of what stands behind it.
-pub fn count_at(reader: &mut Reader<'_>) -> Result<u32, MessageFault>
-    ensures { Gives (λ n. n) result reader.new (basic (count_at reader.old)) }
-{
-    Ok(reader.take_count()?)
 }
 
 /// A copy of the bytes.

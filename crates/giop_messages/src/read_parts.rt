@@ -1,79 +1,22 @@
 //! Parts of messages that several kinds share: targets and service contexts.
-ghost use Rattle.giop_messages.specs.MessageReading.{Gives, times, tagged_at, profiles_at, context_at, contexts_at, key_at, profile_at, addressing_at, form_at, target_at};
+ghost use Rattle.giop_messages.specs.Answers.{Gives};
+ghost use Rattle.giop_messages.specs.MessageReading.{profiles_at, contexts_at, key_at, profile_at, addressing_at, form_at, target_at};
 ghost use Rattle.giop_messages.specs.TargetView.{target_of};
 
 use crate::message_fault::MessageFault;
-use crate::read_basic::{count_at, octets_at, text_at, u16_at, u32_at};
+use crate::read_basic::{copied, octets_at, text_at, u16_at, u32_at};
 use crate::target::Target;
-use cdr_core::Reader;
+use cdr_core::{Reader, take_list};
 use orb_base::{Context, List, Tagged};
 use std::alloc::Global;
-
-/// Takes tagged data.
-#[tactic(auto, unfolding(crate::specs::MessageReading::tagged_at))]
-fn tagged(alloc: Global, reader: &mut Reader<'_>) -> Result<Tagged, MessageFault>
-    ensures { Gives (λ t. t) result reader.new (tagged_at reader.old) }
-{
-    let tag = u32_at(reader)?;
-    let bytes = octets_at(alloc, reader)?;
-    Ok(Tagged { tag, bytes })
-}
-
-/// Takes a service context.
-#[tactic(auto, unfolding(crate::specs::MessageReading::context_at))]
-fn context(alloc: Global, reader: &mut Reader<'_>) -> Result<Context, MessageFault>
-    ensures { Gives (λ c. c) result reader.new (context_at reader.old) }
-{
-    let id = u32_at(reader)?;
-    let bytes = octets_at(alloc, reader)?;
-    Ok(Context { id, bytes })
-}
-
-/// Takes so many profiles.
-fn profiles_of(
-    alloc: Global,
-    count: u32,
-    reader: &mut Reader<'_>,
-) -> Result<List<Tagged>, MessageFault>
-    ensures { Gives (λ l. l.items) result reader.new (times tagged_at count reader.old) }
-{
-    let mut profiles = List::new(alloc);
-    for _ in 0..count {
-        let profile = tagged(alloc, reader)?;
-        match profiles.push(profile) {
-            Ok(()) => {}
-            Err(_) => return Err(MessageFault::NoMemory),
-        }
-    }
-    Ok(profiles)
-}
 
 /// Takes profiles behind their number.
 #[tactic(auto, unfolding(crate::specs::MessageReading::profiles_at))]
 fn profiles(alloc: Global, reader: &mut Reader<'_>) -> Result<List<Tagged>, MessageFault>
     ensures { Gives (λ l. l.items) result reader.new (profiles_at reader.old) }
 {
-    let count = count_at(reader)?;
-    profiles_of(alloc, count, reader)
-}
-
-/// Takes so many service contexts.
-fn contexts_of(
-    alloc: Global,
-    count: u32,
-    reader: &mut Reader<'_>,
-) -> Result<List<Context>, MessageFault>
-    ensures { Gives (λ l. l.items) result reader.new (times context_at count reader.old) }
-{
-    let mut contexts = List::new(alloc);
-    for _ in 0..count {
-        let context = context(alloc, reader)?;
-        match contexts.push(context) {
-            Ok(()) => {}
-            Err(_) => return Err(MessageFault::NoMemory),
-        }
-    }
-    Ok(contexts)
+    let profiles = take_list(alloc, reader)?;
+    Ok(profiles)
 }
 
 /// Takes service contexts behind their number.
@@ -81,8 +24,8 @@ fn contexts_of(
 pub fn contexts(alloc: Global, reader: &mut Reader<'_>) -> Result<List<Context>, MessageFault>
     ensures { Gives (λ l. l.items) result reader.new (contexts_at reader.old) }
 {
-    let count = count_at(reader)?;
-    contexts_of(alloc, count, reader)
+    let contexts = take_list(alloc, reader)?;
+    Ok(contexts)
 }
 
 /// Takes a key.
@@ -99,8 +42,9 @@ fn key(alloc: Global, reader: &mut Reader<'_>) -> Result<Target, MessageFault>
 fn profile(alloc: Global, reader: &mut Reader<'_>) -> Result<Target, MessageFault>
     ensures { Gives target_of result reader.new (profile_at reader.old) }
 {
-    let tagged = tagged(alloc, reader)?;
-    Ok(Target::Profile(tagged))
+    let (tag, bytes) = reader.take_item()?;
+    let bytes = copied(alloc, bytes)?;
+    Ok(Target::Profile(Tagged { tag, bytes }))
 }
 
 /// Takes a reference of which one profile is meant.

@@ -1,5 +1,5 @@
 //! Messages, as they are read from what a framer gives.
-ghost use Rattle.std.specs.Prelude.{◌<◌, ◌^◌, length, IfOk};
+ghost use Rattle.std.specs.Prelude.{IfOk};
 ghost use Rattle.std.specs.List.{All};
 ghost use Rattle.giop_messages.specs.Message as Spec;
 ghost use Rattle.giop_messages.specs.MessageReading.{IsMessage};
@@ -16,7 +16,6 @@ use std::test::*;
 
 /// The messages of a stream.
 fn framed(alloc: Global, bytes: &[u8]) -> Result<List<Whole>, MessageFault>
-    requires { length bytes.now < 2 ^ 32 }
     ensures { IfOk result (λ l. All IsMessage l.items) }
 {
     let mut whole = List::new(alloc);
@@ -33,7 +32,6 @@ fn framed(alloc: Global, bytes: &[u8]) -> Result<List<Whole>, MessageFault>
 /// The first message of a stream.
 #[tactic(auto, using(crate::proofs::CallerLemmas::read_has_status))]
 pub(crate) fn read(alloc: Global, bytes: &[u8]) -> Result<Message, MessageFault>
-    requires { length bytes.now < 2 ^ 32 }
     ensures { IfOk result (λ m. Spec.HasStatus (message_of m)) }
 {
     let whole = framed(alloc, bytes)?;
@@ -60,145 +58,139 @@ fn target_told(target: &Target) -> (u8, &[u8]) {
     }
 }
 
+/// Whether the bytes are read as a request of this number, object, operation, first context and body, with a reply due.
+fn is_request(
+    alloc: Global,
+    bytes: &[u8],
+    id: u32,
+    key: &[u8],
+    operation: &[u8],
+    context: Option<(u32, &[u8])>,
+    body: &[u8],
+) -> bool {
+    match read(alloc, bytes) {
+        Ok(Message::Request(request)) => {
+            (request.id, request.flags) == (id, 3)
+                && target_told(&request.target) == (0, key)
+                && request.operation.as_slice() == operation
+                && context_told(&request.contexts) == context
+                && request.body.as_slice() == body
+        }
+        _ => false,
+    }
+}
+
 #[test]
-fn reads_requests(rt: HostRuntime) -> Result<(), Fail> {
-    for (bytes, id, key, operation, context, body) in [
-        (
-            PING_REQUEST,
-            1,
-            b"ping".as_slice(),
-            b"current".as_slice(),
-            None,
-            b"".as_slice(),
-        ),
-        (
-            LITTLE_ENDIAN_PING,
-            1,
-            b"ping",
-            b"current",
-            Some((10, b"\x01\0\x07\0".as_slice())),
-            b"",
-        ),
-        (
-            PRIORITY_REQUEST,
-            7,
-            b"ping",
-            b"current",
-            Some((10, b"\0\0\0\x14")),
-            b"",
-        ),
-        (
+fn reads_requests(rt: HostRuntime) {
+    let alloc = rt.alloc();
+    assert!(rt; is_request(alloc, PING_REQUEST, 1, b"ping", b"current", None, b""));
+    let band = Some((11, b"\0\0\0\x64\0\xc8".as_slice()));
+    assert!(rt;
+        is_request(
+            alloc,
             BIND_BAND_REQUEST,
             1,
             b"ping",
             b"_bind_priority_band",
-            Some((11, b"\0\0\0\x64\0\xc8")),
-            b"",
-        ),
-        (TWICE_REQUEST, 1, b"v", b"twice", None, b"\0\0\0\x15"),
-    ] {
-        let Ok(Message::Request(request)) = read(rt.alloc(), bytes) else {
-            return Err(Fail::new("a request"));
-        };
-        assert_eq!(rt; (request.id, request.flags), (id, 3));
-        assert_eq!(rt; target_told(&request.target), (0, key));
-        assert_eq!(rt; request.operation.as_slice(), operation);
-        assert_eq!(rt; context_told(&request.contexts), context);
-        assert_eq!(rt; request.body.as_slice(), body);
-    }
-    Ok(())
+            band,
+            b""
+        )
+    );
+    assert!(rt; is_request(alloc, TWICE_REQUEST, 1, b"v", b"twice", None, b"\0\0\0\x15"));
 }
 
 #[test]
-fn reads_requests_whatever_stands_in_pads_and_reserved_places(rt: HostRuntime) -> Result<(), Fail> {
-    for (bytes, key, body) in [
-        // Reserved flag bits, reserved octets and a pad.
-        (
-            b"GIOP\x01\x02\xfc\0\0\0\0\x24\0\0\0\x01\x03\x01\x02\x03\0\0\xff\xee\0\0\0\x04ping\0\0\0\x08current\0\0\0\0\0".as_slice(),
-            b"ping".as_slice(),
-            b"".as_slice(),
-        ),
-        // Two bytes of a pad behind the contexts, and no body.
-        (
-            b"GIOP\x01\x02\0\0\0\0\0\x2a\0\0\0\x01\x03\0\0\0\0\0\0\0\0\0\0\x05hello\x01\x02\x03\0\0\0\x08current\0\0\0\0\0\x07\x07",
-            b"hello",
-            b"",
-        ),
-        // The pad, and a body of one byte.
-        (
-            b"GIOP\x01\x02\0\0\0\0\0\x2d\0\0\0\x01\x03\0\0\0\0\0\0\0\0\0\0\x05hello\x01\x02\x03\0\0\0\x08current\0\0\0\0\0\x07\x07\x07\x07\x09",
-            b"hello",
-            b"\x09",
-        ),
-    ] {
-        let Ok(Message::Request(request)) = read(rt.alloc(), bytes) else {
-            return Err(Fail::new("a request"));
-        };
-        assert_eq!(rt; (request.id, request.flags), (1, 3));
-        assert_eq!(rt; target_told(&request.target), (0, key));
-        assert_eq!(rt; request.operation.as_slice(), b"current".as_slice());
-        assert_eq!(rt; request.body.as_slice(), body);
-    }
-    Ok(())
+fn reads_priorities_in_either_order(rt: HostRuntime) {
+    let alloc = rt.alloc();
+    let seven = Some((10, b"\x01\0\x07\0".as_slice()));
+    assert!(rt;
+        is_request(
+            alloc,
+            LITTLE_ENDIAN_PING,
+            1,
+            b"ping",
+            b"current",
+            seven,
+            b""
+        )
+    );
+    let twenty = Some((10, b"\0\0\0\x14".as_slice()));
+    assert!(rt; is_request(alloc, PRIORITY_REQUEST, 7, b"ping", b"current", twenty, b""));
 }
 
 #[test]
-fn reads_replies(rt: HostRuntime) -> Result<(), Fail> {
-    for (bytes, id, status, body) in [
-        (PING_REPLY, 1, 0, b"\0\x64".as_slice()),
-        (LITTLE_ENDIAN_PING_REPLY, 1, 0, b"\x07\0"),
-        (TWICE_REPLY, 1, 0, b"\0\0\0\x2a"),
-        (
+fn reads_requests_whatever_stands_in_pads_and_reserved_places(rt: HostRuntime) {
+    let alloc = rt.alloc();
+    // Reserved flag bits, reserved octets and a pad.
+    assert!(rt; is_request(alloc, RESERVED_PLACES, 1, b"ping", b"current", None, b""));
+    // Two bytes of a pad behind the contexts, and no body.
+    assert!(rt; is_request(alloc, PAD_ALONE, 1, b"hello", b"current", None, b""));
+    // The pad, and a body of one byte.
+    assert!(rt; is_request(alloc, PAD_AND_BODY, 1, b"hello", b"current", None, b"\x09"));
+}
+
+/// Whether the bytes are read as a reply of this number, status and body, without contexts.
+fn is_reply(alloc: Global, bytes: &[u8], id: u32, status: u32, body: &[u8]) -> bool {
+    match read(alloc, bytes) {
+        Ok(Message::Reply(reply)) => {
+            (reply.id, reply.status) == (id, status)
+                && reply.contexts.len() == 0
+                && reply.body.as_slice() == body
+        }
+        _ => false,
+    }
+}
+
+#[test]
+fn reads_replies(rt: HostRuntime) {
+    let alloc = rt.alloc();
+    assert!(rt; is_reply(alloc, PING_REPLY, 1, 0, b"\0\x64"));
+    assert!(rt; is_reply(alloc, LITTLE_ENDIAN_PING_REPLY, 1, 0, b"\x07\0"));
+    assert!(rt; is_reply(alloc, TWICE_REPLY, 1, 0, b"\0\0\0\x2a"));
+    // The greatest status, and no body.
+    assert!(rt; is_reply(alloc, GREATEST_STATUS, 9, 5, b""));
+}
+
+#[test]
+fn reads_replies_of_exceptions(rt: HostRuntime) {
+    let alloc = rt.alloc();
+    assert!(rt;
+        is_reply(
+            alloc,
             OBJECT_NOT_EXIST_REPLY,
             1,
             2,
-            b"\0\0\0\x27IDL:omg.org/CORBA/OBJECT_NOT_EXIST:1.0\0\0\0\0\0\x01\0\0\0\x01",
-        ),
-        (
-            NO_LANE_REPLY,
-            1,
-            2,
-            b"\0\0\0\x21IDL:omg.org/CORBA/INV_POLICY:1.0\0\0\0\0\0\0\0\x03\0\0\0\x01",
-        ),
-        (
+            b"\0\0\0\x27IDL:omg.org/CORBA/OBJECT_NOT_EXIST:1.0\0\0\0\0\0\x01\0\0\0\x01"
+        )
+    );
+    assert!(rt;
+        is_reply(
+            alloc,
             TRANSIENT_REPLY,
             3,
             2,
-            b"\0\0\0\x20IDL:omg.org/CORBA/TRANSIENT:1.0\0\0\0\0\x01\0\0\0\x01",
-        ),
-        // The greatest status, and no body.
-        (
-            b"GIOP\x01\x02\0\x01\0\0\0\x0c\0\0\0\x09\0\0\0\x05\0\0\0\0",
-            9,
-            5,
-            b"",
-        ),
-    ] {
-        let Ok(Message::Reply(reply)) = read(rt.alloc(), bytes) else {
-            return Err(Fail::new("a reply"));
-        };
-        assert_eq!(rt; (reply.id, reply.status), (id, status));
-        assert_eq!(rt; reply.contexts.len(), 0);
-        assert_eq!(rt; reply.body.as_slice(), body);
+            b"\0\0\0\x20IDL:omg.org/CORBA/TRANSIENT:1.0\0\0\0\0\x01\0\0\0\x01"
+        )
+    );
+}
+
+/// Whether the bytes are read as a question with the number 5, by a target of this form and these octets.
+fn is_question(alloc: Global, bytes: &[u8], form: u8, octets: &[u8]) -> bool {
+    match read(alloc, bytes) {
+        Ok(Message::Locate(locate)) => {
+            locate.id == 5 && target_told(&locate.target) == (form, octets)
+        }
+        _ => false,
     }
-    Ok(())
 }
 
 #[test]
-fn reads_each_form_of_target(rt: HostRuntime) -> Result<(), Fail> {
-    for (bytes, form, octets) in [
-        (LOCATE_PING, 0, b"ping".as_slice()),
-        (LOCATE_BY_PROFILE, 1, b"abc"),
-        (LITTLE_ENDIAN_LOCATE, 1, b"abc"),
-        (LOCATE_BY_REFERENCE, 2, b"T"),
-    ] {
-        let Ok(Message::Locate(locate)) = read(rt.alloc(), bytes) else {
-            return Err(Fail::new("a question"));
-        };
-        assert_eq!(rt; locate.id, 5);
-        assert_eq!(rt; target_told(&locate.target), (form, octets));
-    }
-    Ok(())
+fn reads_each_form_of_target(rt: HostRuntime) {
+    let alloc = rt.alloc();
+    assert!(rt; is_question(alloc, LOCATE_PING, 0, b"ping"));
+    assert!(rt; is_question(alloc, LOCATE_BY_PROFILE, 1, b"abc"));
+    assert!(rt; is_question(alloc, LITTLE_ENDIAN_LOCATE, 1, b"abc"));
+    assert!(rt; is_question(alloc, LOCATE_BY_REFERENCE, 2, b"T"));
 }
 
 #[test]
@@ -269,33 +261,20 @@ fn reads_what_was_joined_from_fragments(rt: HostRuntime) -> Result<(), Fail> {
     }
 }
 
-#[test]
-fn writes_back_what_was_read(rt: HostRuntime) -> Result<(), Fail> {
-    for (order, bytes) in [
-        (Order::Big, PING_REQUEST),
-        (Order::Big, PING_REPLY),
-        (Order::Little, LITTLE_ENDIAN_PING),
-        (Order::Little, LITTLE_ENDIAN_PING_REPLY),
-        (Order::Big, PRIORITY_REQUEST),
-        (Order::Big, OBJECT_NOT_EXIST_REPLY),
-        (Order::Big, NO_LANE_REPLY),
-        (Order::Big, TRANSIENT_REPLY),
-        (Order::Big, BIND_BAND_REQUEST),
-        (Order::Big, TWICE_REQUEST),
-        (Order::Big, TWICE_REPLY),
-        (Order::Big, LOCATE_PING),
-        (Order::Big, LOCATE_BY_PROFILE),
-        (Order::Big, LOCATE_BY_REFERENCE),
-        (Order::Little, LITTLE_ENDIAN_LOCATE),
-        (Order::Big, OBJECT_HERE),
-        (Order::Big, CANCEL_REQUEST),
-        (Order::Big, CLOSE_CONNECTION),
-        (Order::Big, MESSAGE_ERROR),
-    ] {
-        match read(rt.alloc(), bytes) {
-            Ok(message) => assert!(rt; spells(rt.alloc(), order, &message, bytes)),
-            Err(_) => return Err(Fail::new("a message")),
-        }
+/// Whether the bytes are read as a message that is written as these bytes.
+fn is_written_back(alloc: Global, order: Order, bytes: &[u8]) -> bool {
+    match read(alloc, bytes) {
+        Ok(message) => spells(alloc, order, &message, bytes),
+        Err(_) => false,
     }
-    Ok(())
+}
+
+#[test]
+fn writes_back_what_was_read(rt: HostRuntime) {
+    let alloc = rt.alloc();
+    assert!(rt; is_written_back(alloc, Order::Little, LITTLE_ENDIAN_PING));
+    assert!(rt; is_written_back(alloc, Order::Big, NO_LANE_REPLY));
+    assert!(rt; is_written_back(alloc, Order::Big, TWICE_REQUEST));
+    assert!(rt; is_written_back(alloc, Order::Big, LOCATE_BY_REFERENCE));
+    assert!(rt; is_written_back(alloc, Order::Little, LITTLE_ENDIAN_LOCATE));
 }

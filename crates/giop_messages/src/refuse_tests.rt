@@ -1,6 +1,4 @@
 //! Messages whose header has no reading.
-ghost use Rattle.std.specs.Prelude.{◌<◌, ◌^◌, length};
-
 use super::*;
 use crate::read_tests::read;
 use cdr_core::{CdrCause, CdrFault};
@@ -12,145 +10,215 @@ fn cdr(cause: CdrCause, place: usize) -> MessageFault {
     MessageFault::Cdr(CdrFault { cause, place })
 }
 
-fn fault_told(alloc: Global, bytes: &[u8]) -> Option<MessageFault>
-    requires { length bytes.now < 2 ^ 32 }
-{
+/// Whether the bytes are refused with this fault.
+fn refuses(alloc: Global, bytes: &[u8], fault: MessageFault) -> bool {
     match read(alloc, bytes) {
-        Ok(_) => None,
-        Err(fault) => Some(fault),
+        Ok(_) => false,
+        Err(told) => told == fault,
     }
 }
 
 #[test]
-fn refuses_a_request_at_its_first_fault(rt: HostRuntime) {
-    for (bytes, fault) in [
-        // No id.
-        (
-            b"GIOP\x01\x02\0\0\0\0\0\0".as_slice(),
-            cdr(CdrCause::Short, 12),
-        ),
-        // No response flags.
-        (
+fn refuses_a_request_at_its_head(rt: HostRuntime) {
+    let alloc = rt.alloc();
+    // No id.
+    assert!(rt; refuses(alloc, b"GIOP\x01\x02\0\0\0\0\0\0", cdr(CdrCause::Short, 12)));
+    // No response flags.
+    assert!(rt;
+        refuses(
+            alloc,
             b"GIOP\x01\x02\0\0\0\0\0\x04\0\0\0\x01",
-            cdr(CdrCause::Short, 16),
-        ),
-        // An end within the reserved octets.
-        (
+            cdr(CdrCause::Short, 16)
+        )
+    );
+    // An end within the reserved octets.
+    assert!(rt;
+        refuses(
+            alloc,
             b"GIOP\x01\x02\0\0\0\0\0\x06\0\0\0\x01\x03\0",
-            cdr(CdrCause::Short, 18),
-        ),
-        // A target of form 3.
-        (
+            cdr(CdrCause::Short, 18)
+        )
+    );
+    // A target of form 3.
+    assert!(rt;
+        refuses(
+            alloc,
             b"GIOP\x01\x02\0\0\0\0\0\x0a\0\0\0\x01\x03\0\0\0\0\x03",
-            MessageFault::BadTarget(20),
-        ),
-        // An operation of no bytes, not even a NUL.
-        (
+            MessageFault::BadTarget(20)
+        )
+    );
+}
+
+#[test]
+fn refuses_a_request_behind_its_target(rt: HostRuntime) {
+    let alloc = rt.alloc();
+    // An operation of no bytes, not even a NUL.
+    assert!(rt;
+        refuses(
+            alloc,
             b"GIOP\x01\x02\0\0\0\0\0\x14\0\0\0\x01\x03\0\0\0\0\0\0\0\0\0\0\0\0\0\0\0",
-            cdr(CdrCause::BadString, 28),
-        ),
-        // An operation without NUL.
-        (
+            cdr(CdrCause::BadString, 28)
+        )
+    );
+    // An operation without NUL.
+    assert!(rt;
+        refuses(
+            alloc,
             b"GIOP\x01\x02\0\0\0\0\0\x15\0\0\0\x01\x03\0\0\0\0\0\0\0\0\0\0\0\0\0\0\x01a",
-            cdr(CdrCause::BadString, 28),
-        ),
-        // An operation that goes past the end.
-        (
+            cdr(CdrCause::BadString, 28)
+        )
+    );
+    // An operation that goes past the end.
+    assert!(rt;
+        refuses(
+            alloc,
             b"GIOP\x01\x02\0\0\0\0\0\x15\0\0\0\x01\x03\0\0\0\0\0\0\0\0\0\0\0\0\0\0\x02\0",
-            cdr(CdrCause::TooMany, 28),
-        ),
-        // No contexts behind the operation and its pad.
-        (
+            cdr(CdrCause::TooMany, 28)
+        )
+    );
+    // No contexts behind the operation and its pad.
+    assert!(rt;
+        refuses(
+            alloc,
             b"GIOP\x01\x02\0\0\0\0\0\x15\0\0\0\x01\x03\0\0\0\0\0\0\0\0\0\0\0\0\0\0\x01\0",
-            cdr(CdrCause::Short, 36),
-        ),
-    ] {
-        assert_eq!(rt; fault_told(rt.alloc(), bytes), Some(fault));
-    }
+            cdr(CdrCause::Short, 36)
+        )
+    );
 }
 
 #[test]
-fn refuses_a_reply_at_its_first_fault(rt: HostRuntime) {
-    for (bytes, fault) in [
-        // No status.
-        (
-            b"GIOP\x01\x02\0\x01\0\0\0\x04\0\0\0\x01".as_slice(),
-            cdr(CdrCause::Short, 16),
-        ),
-        // A status of 6, in either order; it goes before the contexts, which are not there.
-        (
+fn refuses_a_reply_at_its_status(rt: HostRuntime) {
+    let alloc = rt.alloc();
+    // No status.
+    assert!(rt;
+        refuses(
+            alloc,
+            b"GIOP\x01\x02\0\x01\0\0\0\x04\0\0\0\x01",
+            cdr(CdrCause::Short, 16)
+        )
+    );
+    // A status of 6, in either order; it goes before the contexts, which are not there.
+    assert!(rt;
+        refuses(
+            alloc,
             b"GIOP\x01\x02\0\x01\0\0\0\x08\0\0\0\x01\0\0\0\x06",
-            MessageFault::BadStatus(16),
-        ),
-        (
+            MessageFault::BadStatus(16)
+        )
+    );
+    assert!(rt;
+        refuses(
+            alloc,
             b"GIOP\x01\x02\x01\x01\x08\0\0\0\x01\0\0\0\x06\0\0\0",
-            MessageFault::BadStatus(16),
-        ),
-        // More contexts than bytes.
-        (
-            b"GIOP\x01\x02\0\x01\0\0\0\x0c\0\0\0\x01\0\0\0\0\xff\xff\xff\xff",
-            cdr(CdrCause::TooMany, 20),
-        ),
-        // A context that goes past the end.
-        (
-            b"GIOP\x01\x02\0\x01\0\0\0\x14\0\0\0\x01\0\0\0\0\0\0\0\x01\0\0\0\x0a\0\0\0\x01",
-            cdr(CdrCause::TooMany, 28),
-        ),
-        // A second context whose bytes have no count.
-        (
-            b"GIOP\x01\x02\0\x01\0\0\0\x18\0\0\0\x01\0\0\0\0\0\0\0\x02\0\0\0\x0a\0\0\0\0\0\0\0\x0b",
-            cdr(CdrCause::Short, 36),
-        ),
-    ] {
-        assert_eq!(rt; fault_told(rt.alloc(), bytes), Some(fault));
-    }
+            MessageFault::BadStatus(16)
+        )
+    );
 }
 
 #[test]
-fn refuses_other_kinds_at_their_first_fault(rt: HostRuntime) {
-    for (bytes, fault) in [
-        // A CancelRequest without an id.
-        (
-            b"GIOP\x01\x02\0\x02\0\0\0\x02\0\0".as_slice(),
-            cdr(CdrCause::Short, 12),
-        ),
-        // A target of form 3, in either order.
-        (
-            b"GIOP\x01\x02\0\x03\0\0\0\x10\0\0\0\x05\0\x03\0\0\0\0\0\x04ping",
-            MessageFault::BadTarget(16),
-        ),
-        (
-            b"GIOP\x01\x02\x01\x03\x06\0\0\0\x05\0\0\0\x03\0",
-            MessageFault::BadTarget(16),
-        ),
-        // A key that goes past the end.
-        (
-            b"GIOP\x01\x02\0\x03\0\0\0\x0f\0\0\0\x05\0\0\0\0\0\0\0\x04pin",
-            cdr(CdrCause::TooMany, 20),
-        ),
-        // A profile without bytes.
-        (
-            b"GIOP\x01\x02\0\x03\0\0\0\x0c\0\0\0\x05\0\x01\0\0\0\0\0\x07",
-            cdr(CdrCause::Short, 24),
-        ),
-        // A reference whose repository id has a NUL inside.
-        (
-            b"GIOP\x01\x02\0\x03\0\0\0\x13\0\0\0\x05\0\x02\0\0\0\0\0\0\0\0\0\x03T\0\0",
-            cdr(CdrCause::BadString, 24),
-        ),
-        // A reference with more profiles than bytes.
-        (
-            b"GIOP\x01\x02\0\x03\0\0\0\x18\0\0\0\x05\0\x02\0\0\0\0\0\0\0\0\0\x02T\0\0\0\0\0\0\x01",
-            cdr(CdrCause::TooMany, 32),
-        ),
-        // A LocateReply without a status.
-        (
+fn refuses_a_reply_at_its_contexts(rt: HostRuntime) {
+    let alloc = rt.alloc();
+    // More contexts than bytes.
+    assert!(rt;
+        refuses(
+            alloc,
+            b"GIOP\x01\x02\0\x01\0\0\0\x0c\0\0\0\x01\0\0\0\0\xff\xff\xff\xff",
+            cdr(CdrCause::TooMany, 20)
+        )
+    );
+    // A context that goes past the end.
+    assert!(rt;
+        refuses(
+            alloc,
+            b"GIOP\x01\x02\0\x01\0\0\0\x14\0\0\0\x01\0\0\0\0\0\0\0\x01\0\0\0\x0a\0\0\0\x01",
+            cdr(CdrCause::TooMany, 28)
+        )
+    );
+    // A second context whose bytes have no count.
+    assert!(rt;
+        refuses(
+            alloc,
+            b"GIOP\x01\x02\0\x01\0\0\0\x18\0\0\0\x01\0\0\0\0\0\0\0\x02\0\0\0\x0a\0\0\0\0\0\0\0\x0b",
+            cdr(CdrCause::Short, 36)
+        )
+    );
+}
+
+#[test]
+fn refuses_short_kinds_without_their_numbers(rt: HostRuntime) {
+    let alloc = rt.alloc();
+    // A CancelRequest without an id.
+    assert!(rt;
+        refuses(
+            alloc,
+            b"GIOP\x01\x02\0\x02\0\0\0\x02\0\0",
+            cdr(CdrCause::Short, 12)
+        )
+    );
+    // A LocateReply without a status.
+    assert!(rt;
+        refuses(
+            alloc,
             b"GIOP\x01\x02\0\x04\0\0\0\x04\0\0\0\x05",
-            cdr(CdrCause::Short, 16),
-        ),
-    ] {
-        assert_eq!(rt; fault_told(rt.alloc(), bytes), Some(fault));
-    }
+            cdr(CdrCause::Short, 16)
+        )
+    );
+}
+
+#[test]
+fn refuses_a_form_of_target_above_2(rt: HostRuntime) {
+    let alloc = rt.alloc();
+    // A target of form 3, in either order.
+    assert!(rt;
+        refuses(
+            alloc,
+            b"GIOP\x01\x02\0\x03\0\0\0\x10\0\0\0\x05\0\x03\0\0\0\0\0\x04ping",
+            MessageFault::BadTarget(16)
+        )
+    );
+    assert!(rt;
+        refuses(
+            alloc,
+            b"GIOP\x01\x02\x01\x03\x06\0\0\0\x05\0\0\0\x03\0",
+            MessageFault::BadTarget(16)
+        )
+    );
+}
+
+#[test]
+fn refuses_a_target_at_its_first_fault(rt: HostRuntime) {
+    let alloc = rt.alloc();
+    // A key that goes past the end.
+    assert!(rt;
+        refuses(
+            alloc,
+            b"GIOP\x01\x02\0\x03\0\0\0\x0f\0\0\0\x05\0\0\0\0\0\0\0\x04pin",
+            cdr(CdrCause::TooMany, 20)
+        )
+    );
+    // A profile without bytes.
+    assert!(rt;
+        refuses(
+            alloc,
+            b"GIOP\x01\x02\0\x03\0\0\0\x0c\0\0\0\x05\0\x01\0\0\0\0\0\x07",
+            cdr(CdrCause::Short, 24)
+        )
+    );
+    // A reference whose repository id has a NUL inside.
+    assert!(rt;
+        refuses(
+            alloc,
+            b"GIOP\x01\x02\0\x03\0\0\0\x13\0\0\0\x05\0\x02\0\0\0\0\0\0\0\0\0\x03T\0\0",
+            cdr(CdrCause::BadString, 24)
+        )
+    );
+    // A reference with more profiles than bytes.
+    assert!(rt;
+        refuses(
+            alloc,
+            b"GIOP\x01\x02\0\x03\0\0\0\x18\0\0\0\x05\0\x02\0\0\0\0\0\0\0\0\0\x02T\0\0\0\0\0\0\x01",
+            cdr(CdrCause::TooMany, 32)
+        )
+    );
 }
 
 #[test]

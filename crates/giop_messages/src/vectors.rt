@@ -74,3 +74,19 @@ pub(crate) const MESSAGE_ERROR: &[u8] = b"GIOP\x01\x02\0\x06\0\0\0\0";
 /// Two pings, of the numbers 1 and 2. That of number 1 comes in three fragments, and the other one between them.
 pub(crate) const INTERLEAVED_FRAGMENTS: &[u8] =
     b"GIOP\x01\x02\x02\0\0\0\0\x0c\0\0\0\x01\x03\0\0\0\0\0\0\0GIOP\x01\x02\0\0\0\0\0$\0\0\0\x02\x03\0\0\0\0\0\0\0\0\0\0\x04ping\0\0\0\x08current\0\0\0\0\0GIOP\x01\x02\x02\x07\0\0\0\x14\0\0\0\x01\0\0\0\x04ping\0\0\0\x08currGIOP\x01\x02\0\x07\0\0\0\x0c\0\0\0\x01ent\0\0\0\0\0";
+
+/// A ping with reserved flag bits, reserved octets and a pad of other content than 0.
+pub(crate) const RESERVED_PLACES: &[u8] =
+    b"GIOP\x01\x02\xfc\0\0\0\0\x24\0\0\0\x01\x03\x01\x02\x03\0\0\xff\xee\0\0\0\x04ping\0\0\0\x08current\0\0\0\0\0";
+
+/// A request that ends within the pad before its body.
+pub(crate) const PAD_ALONE: &[u8] =
+    b"GIOP\x01\x02\0\0\0\0\0\x2a\0\0\0\x01\x03\0\0\0\0\0\0\0\0\0\0\x05hello\x01\x02\x03\0\0\0\x08current\0\0\0\0\0\x07\x07";
+
+/// The same with the whole pad, and a body of one byte.
+pub(crate) const PAD_AND_BODY: &[u8] =
+    b"GIOP\x01\x02\0\0\0\0\0\x2d\0\0\0\x01\x03\0\0\0\0\0\0\0\0\0\0\x05hello\x01\x02\x03\0\0\0\x08current\0\0\0\0\0\x07\x07\x07\x07\x09";
+
+/// A reply of the greatest status, without contexts and body.
+pub(crate) const GREATEST_STATUS: &[u8] =
+    b"GIOP\x01\x02\0\x01\0\0\0\x0c\0\0\0\x09\0\0\0\x05\0\0\0\0";

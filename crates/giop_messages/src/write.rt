@@ -9,6 +9,7 @@ ghost use Rattle.giop_messages.specs.Message as Spec;
 ghost use Rattle.giop_messages.specs.Layout.{order_flag, header_fields};
 ghost use Rattle.giop_messages.specs.Spelling.{all_fields, spelled};
 ghost use Rattle.giop_messages.specs.Views.{message_of};
+ghost use Rattle.giop_messages.specs.Reading.{ReadsIn};
 ghost use Rattle.giop_messages.specs.Front.{IsFront};
 
 use crate::length::{message_len, reply_len};
@@ -16,6 +17,7 @@ use crate::locate::Locate;
 use crate::located::Located;
 use crate::message::Message;
 use crate::part::{put_body, put_contexts, put_target};
+use crate::ranges::{see_contexts, see_long, see_message};
 use crate::reply::Reply;
 use crate::request::Request;
 use cdr_core::Writer;
@@ -152,14 +154,17 @@ fn put_fields(into: &mut Writer, message: &Message) -> Result<(), NoMemory>
 
 /// Writes a message as it is spelled, in this order, into an empty writer at place 0. Pads, the reserved
 /// octets and all flag bits but that of the order are 0. After want of memory the writer holds a front
-/// of it. Memory is asked for once, and work grows with the message's length. CORBA 3.0.3, section 15.4.
+/// of it. What it wrote is read as that message. Memory is asked for once, and work grows with the message's length.
+/// CORBA 3.0.3, section 15.4.
 pub fn write_message(order: Order, message: &Message, into: &mut Writer) -> Result<(), NoMemory>
     requires empty { into.old ≡ record { order = order; place = 0; bytes = [] } }
     requires len { length (spelled order (message_of message.now)) ≤ MAX_MESSAGE }
     requires status { Spec.HasStatus (message_of message.now) }
     ensures ok { OnOk result (into.new.bytes ≡ spelled order (message_of message.now)) }
+    ensures reads_back { OnOk result (ReadsIn order (message_of message.now) into.new.bytes) }
     ensures memory { OnErr result (IsFront into.new.bytes (spelled order (message_of message.now))) }
 {
+    see_message(message);
     let len = message_len(message);
     into.reserve(len)?;
     let size = len - 12;
@@ -181,8 +186,11 @@ pub fn write_reply(
     requires len { length (spelled order (Spec.reply_of id status contexts.now body.now)) ≤ MAX_MESSAGE }
     requires status { status ≤ 5 }
     ensures ok { OnOk result (into.new.bytes ≡ spelled order (Spec.reply_of id status contexts.now body.now)) }
+    ensures reads_back { OnOk result (ReadsIn order (Spec.reply_of id status contexts.now body.now) into.new.bytes) }
     ensures memory { OnErr result (IsFront into.new.bytes (spelled order (Spec.reply_of id status contexts.now body.now))) }
 {
+    see_long(id);
+    see_contexts(contexts);
     let len = reply_len(contexts, body.len());
     into.reserve(len)?;
     let size = len - 12;

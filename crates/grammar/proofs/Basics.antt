@@ -5,21 +5,9 @@ use Rattle.grammar.specs.Language.{Placed, Language}
 use Rattle.grammar.specs.Reading.{Stream, stream, ◌>>=◌}
 use Rattle.grammar.specs.Grammar.{Mark, took, did, MarkOf, tokens_of, Goes, act_mark, acts_then, acts}
 
-pub or_false : (a b : Bool) → (a || b) ≡ false → (a ≡ false) × (b ≡ false)
-or_false true b e = absurd cc
-or_false false b e = (refl, e)
-
 pub or_true : (a b : Bool) → (a || b) ≡ true → (a ≡ true) ⊎ (b ≡ true)
 or_true true b e = inl refl
 or_true false b e = inr e
-
-pub and_true : (a b : Bool) → (a && b) ≡ true → (a ≡ true) × (b ≡ true)
-and_true true b e = (refl, e)
-and_true false b e = absurd cc
-
-pub not_true : (a : Bool) → not a ≡ true → a ≡ false
-not_true true e = absurd cc
-not_true false e = refl
 
 pub false_unless : (a : Bool) → (a ≡ true → ⊥) → a ≡ false
 false_unless true h = absurd (h refl)

@@ -1,19 +1,20 @@
 -- What a plain grammar spells, and may be done along it, is read.
 use Rattle.std.proofs.Common.{◌≡◌, ◌⊎◌, ℕ, zero, suc, ◌+◌, ◌<◌, Bool, true, false, not, List, [], ◌∷◌, ◌++◌, length, Option, Some, None, Result, Ok, Err, refl, sym, ap, subst, ◌∙◌, append_assoc, length-append, inl, inr, arith}
+use Rattle.std.proofs.lemmas.Bool.{or_parts, and_parts, not-true}
 use Rattle.std.specs.Prelude.{◌||◌, ◌&&◌}
 use Rattle.grammar.specs.Rules.{Rule, one, does, ◌then◌, ◌or◌, maybe, many, chained, nested}
 use Rattle.grammar.specs.Language.{Placed, Language, RuleOf}
 use Rattle.grammar.specs.Reading.{Stream, stream, State, Reads, Readers, ◌>>=◌, front, first_or, behind, stop, acted, take_one, may_be_empty, begins, repeated, bracketed, by_rule, read_inner, read_rule}
 use Rattle.grammar.specs.Grammar.{Mark, took, did, MarkOf, Parts, Spelled, SpelledInner, tokens_of, Goes, acts_then, acts}
 use Rattle.grammar.specs.Plain.{goes_on, some_first, some_next, is_plain, IsPlain}
-use Rattle.grammar.proofs.Basics.{or_false, and_true, not_true, false_unless, ok_is, before, before_append, acts_one, acts_split}
+use Rattle.grammar.proofs.Basics.{false_unless, ok_is, before, before_append, acts_one, acts_split}
 use Rattle.grammar.proofs.First.{first_has, next_has, Opens, opens}
 
 not_both : (g : Language) → IsPlain g → (such : g.Kind → Bool) (r : RuleOf g) (kind : g.Kind) → not (some_first g such r) ≡ true → such kind ≡ true → begins g r kind ≡ false
-not_both g p such r kind n h = false_unless (begins g r kind) (λ b. let e = first_has g p.same_is such r kind b h in let f = not_true (some_first g such r) n in absurd cc)
+not_both g p such r kind n h = false_unless (begins g r kind) (λ b. let e = first_has g p.same_is such r kind b h in let f = not-true (some_first g such r) n in absurd cc)
 
 not_next : (g : Language) → IsPlain g → (such : g.Kind → Bool) (r : RuleOf g) (kind : g.Kind) → not (some_next g such r) ≡ true → such kind ≡ true → goes_on g r kind ≡ false
-not_next g p such r kind n h = false_unless (goes_on g r kind) (λ b. let e = next_has g p.same_is such r kind b h in let f = not_true (some_next g such r) n in absurd cc)
+not_next g p such r kind n h = false_unless (goes_on g r kind) (λ b. let e = next_has g p.same_is such r kind b h in let f = not-true (some_next g such r) n in absurd cc)
 
 -- a rule that isn't empty has a first token, which stands in front
 starts : (g : Language) (r : RuleOf g) (ts zs : List (Placed g.Kind)) (end : Placed g.Kind) → Opens g r ts → may_be_empty g r ≡ false → begins g r (first_or (ts ++ zs) end).kind ≡ true
@@ -24,14 +25,14 @@ starts g r (t ∷ ts) zs end o n = o
 parts_a : (g : Language) → IsPlain g → (a b : RuleOf g) (ts zs : List (Placed g.Kind)) (end : Placed g.Kind) → Opens g b ts → not (some_next g (begins g b) a) ≡ true
     → goes_on g (a then b) (first_or zs end).kind ≡ false → goes_on g a (first_or (ts ++ zs) end).kind ≡ false
 parts_a g p a b [] zs end o n e =
-    let f = (or_false (may_be_empty g b && goes_on g a (first_or zs end).kind) (goes_on g b (first_or zs end).kind) e).0 in
+    let f = (or_parts (may_be_empty g b && goes_on g a (first_or zs end).kind) (goes_on g b (first_or zs end).kind) e).0 in
     let here : (may_be_empty g b && goes_on g a (first_or zs end).kind) ≡ goes_on g a (first_or zs end).kind = rw o refl in
     sym here ∙ f
 parts_a g p a b (t ∷ ts) zs end o n e = not_next g p (begins g b) a t.kind n o
 
 parts_many : (g : Language) → IsPlain g → (a : RuleOf g) (ts zs : List (Placed g.Kind)) (end : Placed g.Kind) → Opens g (many a) ts → not (some_next g (begins g a) a) ≡ true
     → goes_on g (many a) (first_or zs end).kind ≡ false → goes_on g a (first_or (ts ++ zs) end).kind ≡ false
-parts_many g p a [] zs end o n e = (or_false (begins g a (first_or zs end).kind) (goes_on g a (first_or zs end).kind) e).1
+parts_many g p a [] zs end o n e = (or_parts (begins g a (first_or zs end).kind) (goes_on g a (first_or zs end).kind) e).1
 parts_many g p a (t ∷ ts) zs end o n e = not_next g p (begins g a) a t.kind n o
 
 taken : (g : Language) (k : g.Kind) (l : g.Label) (u : Placed g.Kind) (b c : g.Built) (s t : Stream g.Kind) → g.same u.kind k ≡ true → g.act l u b ≡ Ok c → s ≡ stream (u ∷ t.tokens) t.end → take_one g k l (b, s) ≡ Ok (c, t)
@@ -63,7 +64,7 @@ repeated_complete g p inner a turn f full next zero n ms h b c e s t goes over l
 repeated_complete g p inner a turn f full next (suc fuel) zero ms h b c e s t goes over lt =
     let same : s ≡ t = goes ∙ ap (λ z. before z t) h in
     let built : acts g [] b ≡ Ok c = ap (λ z. acts g z b) (sym h) ∙ e in
-    let off : begins g a (front s).kind ≡ false = ap (λ (z : Stream g.Kind). begins g a (front z).kind) same ∙ (or_false (begins g a (front t).kind) (goes_on g a (front t).kind) over).0 in
+    let off : begins g a (front s).kind ≡ false = ap (λ (z : Stream g.Kind). begins g a (front z).kind) same ∙ (or_parts (begins g a (front t).kind) (goes_on g a (front t).kind) over).0 in
     rw (off, same) (ap (λ z. done (z, t)) (ok_is b c (sym (acts_one g (Ok b)) ∙ built)))
 repeated_complete g p inner a turn f full next (suc fuel) (suc n) ms h b c e s t goes over lt =
     let x = h.0 in
@@ -85,11 +86,11 @@ plain_or g x y plain =
     let a = not (may_be_empty g x) in
     let b = not (may_be_empty g y) in
     let c = not (some_first g (begins g y) x) in
-    let one = and_true (a && b && c && is_plain g x) (is_plain g y) plain in
-    let two = and_true (a && b && c) (is_plain g x) one.0 in
-    let three = and_true (a && b) c two.0 in
-    let four = and_true a b three.0 in
-    (not_true (may_be_empty g x) four.0, not_true (may_be_empty g y) four.1, three.1, two.1, one.1)
+    let one = and_parts (a && b && c && is_plain g x) (is_plain g y) plain in
+    let two = and_parts (a && b && c) (is_plain g x) one.0 in
+    let three = and_parts (a && b) c two.0 in
+    let four = and_parts a b three.0 in
+    (not-true (may_be_empty g x) four.0, not-true (may_be_empty g y) four.1, three.1, two.1, one.1)
 
 abbrev CompleteInner : (g : Language) → Readers g → (g.Inner → List (MarkOf g) → Type 0) → Type 0
 CompleteInner g None spelled = (r : g.Inner) (ms : List (MarkOf g)) → spelled r ms → ⊥
@@ -123,7 +124,7 @@ then_complete g p inner spelled x y nx f k ms h b c e s t goes over =
     let goes-x : s ≡ before h.0 mid = goes ∙ ap (λ z. before z t) h.4 ∙ before_append h.0 h.1 t in
     let along = acts_split g h.0 h.1 b c (ap (λ z. acts g z b) (sym h.4) ∙ e) in
     let off : goes_on g x (front mid).kind ≡ false = parts_a g p x y (tokens_of h.1) t.tokens t.end (opens g spelled y h.1 h.3) nx over in
-    then_ok _ (by_rule g inner y) (along.0, mid) (c, t) (f h.0 h.2 b along.0 along.1 s mid goes-x off) (k h.1 h.3 along.0 c along.2 mid t refl (or_false (may_be_empty g y && goes_on g x (front t).kind) (goes_on g y (front t).kind) over).1)
+    then_ok _ (by_rule g inner y) (along.0, mid) (c, t) (f h.0 h.2 b along.0 along.1 s mid goes-x off) (k h.1 h.3 along.0 c along.2 mid t refl (or_parts (may_be_empty g y && goes_on g x (front t).kind) (goes_on g y (front t).kind) over).1)
 
 does_complete : (g : Language) (inner : Readers g) (spelled : g.Inner → List (MarkOf g) → Type 0) (l : g.Label) → CompleteRule g inner spelled (does l)
 does_complete g inner spelled l ms h b c e s t goes over =
@@ -138,22 +139,22 @@ pub plain_long : (g : Language) (a o : RuleOf g) (l : g.Label) → is_plain g (c
 plain_long g a o l plain =
     let turn = o then (a then does l) in
     let n = not (some_next g (begins g (many turn)) a) in
-    let one = and_true (n && is_plain g a) (is_plain g (many turn)) plain in
-    let two = and_true n (is_plain g a) one.0 in
+    let one = and_parts (n && is_plain g a) (is_plain g (many turn)) plain in
+    let two = and_parts n (is_plain g a) one.0 in
     let e = not (may_be_empty g turn) in
     let m = not (some_next g (begins g turn) turn) in
-    let three = and_true (e && m) (is_plain g turn) one.1 in
-    let four = and_true e m three.0 in
-    (two.0, not_true (may_be_empty g turn) four.0, four.1, three.1, two.1)
+    let three = and_parts (e && m) (is_plain g turn) one.1 in
+    let four = and_parts e m three.0 in
+    (two.0, not-true (may_be_empty g turn) four.0, four.1, three.1, two.1)
 
 pub plain_turn : (g : Language) (a o : RuleOf g) (l : g.Label) → is_plain g (o then (a then does l)) ≡ true → (not (some_next g (begins g (a then does l)) o) ≡ true) × (is_plain g o ≡ true) × (not (some_next g (begins g (does l)) a) ≡ true)
 plain_turn g a o l plain =
     let n = not (some_next g (begins g (a then does l)) o) in
     let m = not (some_next g (begins g (does l)) a) in
-    let one = and_true (n && is_plain g o) (is_plain g (a then does l)) plain in
-    let two = and_true n (is_plain g o) one.0 in
-    let three = and_true (m && is_plain g a) (is_plain g (does l)) one.1 in
-    (two.0, two.1, (and_true m (is_plain g a) three.0).0)
+    let one = and_parts (n && is_plain g o) (is_plain g (a then does l)) plain in
+    let two = and_parts n (is_plain g o) one.0 in
+    let three = and_parts (m && is_plain g a) (is_plain g (does l)) one.1 in
+    (two.0, two.1, (and_parts m (is_plain g a) three.0).0)
 
 by_rule_complete : (g : Language) → IsPlain g → (inner : Readers g) (spelled : g.Inner → List (MarkOf g) → Type 0) → CompleteInner g inner spelled → (r : RuleOf g) → is_plain g r ≡ true → Complete g (by_rule g inner r) (Spelled g spelled r) (goes_on g r)
 by_rule_complete g p inner spelled f (one k l) plain ms h b c e s t goes over =
@@ -166,36 +167,36 @@ by_rule_complete g p inner spelled f (does l) plain ms h b c e s t goes over =
     rw (judged, same) refl
 by_rule_complete g p inner spelled f (x then y) plain ms h b c e s t goes over =
     let nx = not (some_next g (begins g y) x) in
-    let one = and_true (nx && is_plain g x) (is_plain g y) plain in
-    let two = and_true nx (is_plain g x) one.0 in
+    let one = and_parts (nx && is_plain g x) (is_plain g y) plain in
+    let two = and_parts nx (is_plain g x) one.0 in
     let mid = before h.1 t in
     let goes-x : s ≡ before h.0 mid = goes ∙ ap (λ z. before z t) h.4 ∙ before_append h.0 h.1 t in
     let along = acts_split g h.0 h.1 b c (ap (λ z. acts g z b) (sym h.4) ∙ e) in
     let off : goes_on g x (front mid).kind ≡ false = parts_a g p x y (tokens_of h.1) t.tokens t.end (opens g spelled y h.1 h.3) two.0 over in
-    then_ok _ (by_rule g inner y) (along.0, mid) (c, t) (by_rule_complete g p inner spelled f x two.1 h.0 h.2 b along.0 along.1 s mid goes-x off) (by_rule_complete g p inner spelled f y one.1 h.1 h.3 along.0 c along.2 mid t refl (or_false (may_be_empty g y && goes_on g x (front t).kind) (goes_on g y (front t).kind) over).1)
+    then_ok _ (by_rule g inner y) (along.0, mid) (c, t) (by_rule_complete g p inner spelled f x two.1 h.0 h.2 b along.0 along.1 s mid goes-x off) (by_rule_complete g p inner spelled f y one.1 h.1 h.3 along.0 c along.2 mid t refl (or_parts (may_be_empty g y && goes_on g x (front t).kind) (goes_on g y (front t).kind) over).1)
 by_rule_complete g p inner spelled f (x or y) plain ms (inl h) b c e s t goes over =
     let q = plain_or g x y plain in
     let begun : begins g x (front s).kind ≡ true = ap (λ (z : Stream g.Kind). begins g x (front z).kind) goes ∙ starts g x (tokens_of ms) t.tokens t.end (opens g spelled x ms h) q.0 in
-    rw begun (by_rule_complete g p inner spelled f x q.3 ms h b c e s t goes (or_false (goes_on g x (front t).kind) (goes_on g y (front t).kind) over).0)
+    rw begun (by_rule_complete g p inner spelled f x q.3 ms h b c e s t goes (or_parts (goes_on g x (front t).kind) (goes_on g y (front t).kind) over).0)
 by_rule_complete g p inner spelled f (x or y) plain ms (inr h) b c e s t goes over =
     let q = plain_or g x y plain in
     let begun : begins g y (front s).kind ≡ true = ap (λ (z : Stream g.Kind). begins g y (front z).kind) goes ∙ starts g y (tokens_of ms) t.tokens t.end (opens g spelled y ms h) q.1 in
     let not : begins g x (front s).kind ≡ false = not_both g p (begins g y) x (front s).kind q.2 begun in
-    rw not (by_rule_complete g p inner spelled f y q.4 ms h b c e s t goes (or_false (goes_on g x (front t).kind) (goes_on g y (front t).kind) over).1)
+    rw not (by_rule_complete g p inner spelled f y q.4 ms h b c e s t goes (or_parts (goes_on g x (front t).kind) (goes_on g y (front t).kind) over).1)
 by_rule_complete g p inner spelled f (maybe x) plain ms (inl h) b c e s t goes over =
-    let one = and_true (not (may_be_empty g x)) (is_plain g x) plain in
-    let begun : begins g x (front s).kind ≡ true = ap (λ (z : Stream g.Kind). begins g x (front z).kind) goes ∙ starts g x (tokens_of ms) t.tokens t.end (opens g spelled x ms h) (not_true (may_be_empty g x) one.0) in
-    rw begun (by_rule_complete g p inner spelled f x one.1 ms h b c e s t goes (or_false (begins g x (front t).kind) (goes_on g x (front t).kind) over).1)
+    let one = and_parts (not (may_be_empty g x)) (is_plain g x) plain in
+    let begun : begins g x (front s).kind ≡ true = ap (λ (z : Stream g.Kind). begins g x (front z).kind) goes ∙ starts g x (tokens_of ms) t.tokens t.end (opens g spelled x ms h) (not-true (may_be_empty g x) one.0) in
+    rw begun (by_rule_complete g p inner spelled f x one.1 ms h b c e s t goes (or_parts (begins g x (front t).kind) (goes_on g x (front t).kind) over).1)
 by_rule_complete g p inner spelled f (maybe x) plain ms (inr h) b c e s t goes over =
     let same : s ≡ t = goes ∙ ap (λ z. before z t) h in
     let built : acts g [] b ≡ Ok c = ap (λ z. acts g z b) (sym h) ∙ e in
-    let off : begins g x (front s).kind ≡ false = ap (λ (z : Stream g.Kind). begins g x (front z).kind) same ∙ (or_false (begins g x (front t).kind) (goes_on g x (front t).kind) over).0 in
+    let off : begins g x (front s).kind ≡ false = ap (λ (z : Stream g.Kind). begins g x (front z).kind) same ∙ (or_parts (begins g x (front t).kind) (goes_on g x (front t).kind) over).0 in
     rw (off, same) (ap (λ z. done (z, t)) (ok_is b c (sym (acts_one g (Ok b)) ∙ built)))
 by_rule_complete g p inner spelled f (many x) plain ms h b c e s t goes over =
     let nx = not (some_next g (begins g x) x) in
-    let one = and_true (not (may_be_empty g x) && nx) (is_plain g x) plain in
-    let two = and_true (not (may_be_empty g x)) nx one.0 in
-    repeated_complete g p spelled x (by_rule g inner x) (by_rule_complete g p inner spelled f x one.1) (not_true (may_be_empty g x) two.0) two.1 (length s.tokens + 1) h.0 ms h.1 b c e s t goes over (omega arith)
+    let one = and_parts (not (may_be_empty g x) && nx) (is_plain g x) plain in
+    let two = and_parts (not (may_be_empty g x)) nx one.0 in
+    repeated_complete g p spelled x (by_rule g inner x) (by_rule_complete g p inner spelled f x one.1) (not-true (may_be_empty g x) two.0) two.1 (length s.tokens + 1) h.0 ms h.1 b c e s t goes over (omega arith)
 by_rule_complete g p inner spelled f (chained x o l) plain ms h b c e s t goes over =
     let turn = o then (x then does l) in
     let q = plain_long g x o l plain in
@@ -205,7 +206,7 @@ by_rule_complete g p inner spelled f (chained x o l) plain ms h b c e s t goes o
     let of_turn : CompleteRule g inner spelled turn = then_complete g p inner spelled o (x then does l) r.0 of_o (then_complete g p inner spelled x (does l) r.2 of_x (does_complete g inner spelled l)) in
     then_complete g p inner spelled x (many turn) q.0 of_x
     (λ ns k b' c' e' s' t' goes' over'. repeated_complete g p spelled turn (by_rule g inner turn) of_turn q.1 q.2 (length s'.tokens + 1) k.0 ns k.1 b' c' e' s' t' goes' over' (omega arith)) ms h b c e s t goes over
-by_rule_complete g p inner spelled f (nested k o r c l) plain ms h a b e s t goes over = bracketed_complete g p inner spelled f k o r c l (not_true (goes_on g (g.inside r) c) plain) ms h a b e s t goes over
+by_rule_complete g p inner spelled f (nested k o r c l) plain ms h a b e s t goes over = bracketed_complete g p inner spelled f k o r c l (not-true (goes_on g (g.inside r) c) plain) ms h a b e s t goes over
 
 inner_complete : (g : Language) → IsPlain g → (depth : ℕ) → CompleteInner g (read_inner g depth) (SpelledInner g depth)
 unfolding read_inner SpelledInner

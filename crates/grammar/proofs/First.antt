@@ -1,12 +1,13 @@
 -- The first tokens of what a rule spells, and those that go on behind it.
 use Rattle.std.proofs.Common.{◌≡◌, ◌⊎◌, ℕ, zero, suc, ◌+◌, Bool, true, false, not, List, [], ◌∷◌, ◌++◌, length, Option, Some, None, Result, Ok, Err, refl, sym, ap, subst, ◌∙◌, append_assoc, inl, inr}
+use Rattle.std.proofs.lemmas.Bool.{and_parts}
 use Rattle.std.specs.Prelude.{◌||◌, ◌&&◌}
 use Rattle.grammar.specs.Rules.{Rule, one, does, ◌then◌, ◌or◌, maybe, many, chained, nested}
 use Rattle.grammar.specs.Language.{Placed, Language, RuleOf}
 use Rattle.grammar.specs.Reading.{may_be_empty, begins}
 use Rattle.grammar.specs.Grammar.{Mark, took, did, MarkOf, Parts, Spelled, tokens_of}
 use Rattle.grammar.specs.Plain.{goes_on, some_first, some_next, is_plain, IsPlain}
-use Rattle.grammar.proofs.Basics.{or_true, and_true, tokens_append}
+use Rattle.grammar.proofs.Basics.{or_true, tokens_append}
 
 or_left : (a b : Bool) → a ≡ true → (a || b) ≡ true
 or_left true b e = refl
@@ -34,7 +35,7 @@ then_first g such x y f k kind b h =
     let one = may_be_empty g x && some_first g such y in
     let two = some_first g such x in
     elim (or_true (may_be_empty g x && begins g y kind) (begins g x kind) b) [
-      | inl e ↦ let p = and_true (may_be_empty g x) (begins g y kind) e in or_left one two (and_both (may_be_empty g x) (some_first g such y) p.0 (k kind p.1 h))
+      | inl e ↦ let p = and_parts (may_be_empty g x) (begins g y kind) e in or_left one two (and_both (may_be_empty g x) (some_first g such y) p.0 (k kind p.1 h))
       | inr e ↦ or_right one two (f kind e h)
     ]
 
@@ -51,7 +52,7 @@ first_has g is such (x then y) kind b h =
     let one = may_be_empty g x && some_first g such y in
     let two = some_first g such x in
     elim (or_true (may_be_empty g x && begins g y kind) (begins g x kind) b) [
-      | inl e ↦ let p = and_true (may_be_empty g x) (begins g y kind) e in or_left one two (and_both (may_be_empty g x) (some_first g such y) p.0 (first_has g is such y kind p.1 h))
+      | inl e ↦ let p = and_parts (may_be_empty g x) (begins g y kind) e in or_left one two (and_both (may_be_empty g x) (some_first g such y) p.0 (first_has g is such y kind p.1 h))
       | inr e ↦ or_right one two (first_has g is such x kind e h)
     ]
 first_has g is such (x or y) kind b h =
@@ -72,7 +73,7 @@ then_next g such x y f k kind b h =
     let one = may_be_empty g y && some_next g such x in
     let two = some_next g such y in
     elim (or_true (may_be_empty g y && goes_on g x kind) (goes_on g y kind) b) [
-      | inl e ↦ let p = and_true (may_be_empty g y) (goes_on g x kind) e in or_left one two (and_both (may_be_empty g y) (some_next g such x) p.0 (f kind p.1 h))
+      | inl e ↦ let p = and_parts (may_be_empty g y) (goes_on g x kind) e in or_left one two (and_both (may_be_empty g y) (some_next g such x) p.0 (f kind p.1 h))
       | inr e ↦ or_right one two (k kind e h)
     ]
 
@@ -96,7 +97,7 @@ next_has g is such (x then y) kind b h =
     let one = may_be_empty g y && some_next g such x in
     let two = some_next g such y in
     elim (or_true (may_be_empty g y && goes_on g x kind) (goes_on g y kind) b) [
-      | inl e ↦ let p = and_true (may_be_empty g y) (goes_on g x kind) e in or_left one two (and_both (may_be_empty g y) (some_next g such x) p.0 (next_has g is such x kind p.1 h))
+      | inl e ↦ let p = and_parts (may_be_empty g y) (goes_on g x kind) e in or_left one two (and_both (may_be_empty g y) (some_next g such x) p.0 (next_has g is such x kind p.1 h))
       | inr e ↦ or_right one two (next_has g is such y kind e h)
     ]
 next_has g is such (x or y) kind b h =

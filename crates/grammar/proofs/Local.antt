@@ -1,12 +1,13 @@
 -- A reading depends on the tokens that it took and on the one where it stopped.
 use Rattle.std.proofs.Common.{◌≡◌, ◌⊎◌, ℕ, zero, suc, ◌+◌, ◌<◌, Bool, true, false, cond, not, List, [], ◌∷◌, ◌++◌, length, Option, Some, None, Result, Ok, Err, refl, sym, ap, subst, ◌∙◌, append_assoc, length-append, inl, inr, arith}
+use Rattle.std.proofs.lemmas.Bool.{and_parts, not-true}
 use Rattle.std.specs.Prelude.{◌||◌, ◌&&◌}
 use Rattle.grammar.specs.Rules.{Rule, one, does, ◌then◌, ◌or◌, maybe, many, chained, nested}
 use Rattle.grammar.specs.Language.{Placed, Language, RuleOf}
 use Rattle.grammar.specs.Reading.{Stream, stream, State, Reads, Readers, ◌>>=◌, front, first_or, behind, is_empty, stop, acted, take_one, may_be_empty, begins, repeated, bracketed, by_rule, read_inner, read_rule}
 use Rattle.grammar.specs.Grammar.{Mark, took, did, MarkOf, Parts, Spelled, SpelledInner, tokens_of, Goes, acts_then, acts}
 use Rattle.grammar.specs.Plain.{goes_on, some_first, some_next, is_plain, IsPlain}
-use Rattle.grammar.proofs.Basics.{and_true, not_true, before, before_append, acts_one, acts-then, Goes-then, tokens_append}
+use Rattle.grammar.proofs.Basics.{before, before_append, acts_one, acts-then, Goes-then, tokens_append}
 use Rattle.grammar.proofs.First.{Opens, opens}
 use Rattle.grammar.proofs.Complete.{plain_long, plain_turn}
 use Rattle.grammar.proofs.Sound.{Read, by_rule_sound, inner_sound}
@@ -256,22 +257,22 @@ by_rule_local g p depth f (one k l) plain s = one_local g k l s.0 s.1.tokens s.1
 by_rule_local g p depth f (does l) plain s = judge_local g l s (g.judge l s.0) refl
 by_rule_local g p depth f (a then b) plain s =
     let nx = not (some_next g (begins g b) a) in
-    let x = and_true (nx && is_plain g a) (is_plain g b) plain in
-    let y = and_true nx (is_plain g a) x.0 in
+    let x = and_parts (nx && is_plain g a) (is_plain g b) plain in
+    let y = and_parts nx (is_plain g a) x.0 in
     then_local g (by_rule (bare g) (read_inner (bare g) depth) a) (by_rule (bare g) (read_inner (bare g) depth) b) s (by_rule g (read_inner g depth) a s) (by_rule g (read_inner g depth) b) (by_rule_local g p depth f a y.1 s) (λ t e. by_rule_local g p depth f b x.1 t)
 by_rule_local g p depth f (a or b) plain s =
     let n = not (may_be_empty g a) && not (may_be_empty g b) && not (some_first g (begins g b) a) in
-    let x = and_true (n && is_plain g a) (is_plain g b) plain in
-    let y = and_true n (is_plain g a) x.0 in
+    let x = and_parts (n && is_plain g a) (is_plain g b) plain in
+    let y = and_parts n (is_plain g a) x.0 in
     if_local g (begins g a) (by_rule (bare g) (read_inner (bare g) depth) a) (by_rule (bare g) (read_inner (bare g) depth) b) s (begins g a (front s.1).kind) _ _ refl (by_rule_local g p depth f a y.1 s) (by_rule_local g p depth f b x.1 s)
 by_rule_local g p depth f (maybe a) plain s =
-    let x = and_true (not (may_be_empty g a)) (is_plain g a) plain in
+    let x = and_parts (not (may_be_empty g a)) (is_plain g a) plain in
     if_local g (begins g a) (by_rule (bare g) (read_inner (bare g) depth) a) (λ z. Ok z) s (begins g a (front s.1).kind) _ _ refl (by_rule_local g p depth f a x.1 s) (ok_local g s)
 by_rule_local g p depth f (many a) plain s =
     let nx = not (some_next g (begins g a) a) in
-    let x = and_true (not (may_be_empty g a) && nx) (is_plain g a) plain in
-    let y = and_true (not (may_be_empty g a)) nx x.0 in
-    let full = not_true (may_be_empty g a) y.0 in
+    let x = and_parts (not (may_be_empty g a) && nx) (is_plain g a) plain in
+    let y = and_parts (not (may_be_empty g a)) nx x.0 in
+    let full = not-true (may_be_empty g a) y.0 in
     repeated_local g (begins g a) (by_rule g (read_inner g depth) a) (by_rule (bare g) (read_inner (bare g) depth) a) (consumes g depth a full) (consumes (bare g) depth a full) (by_rule_local g p depth f a x.1) (length s.1.tokens + 1) s (omega arith)
 by_rule_local g p depth f (chained a o l) plain s =
     let turn = o then (a then does l) in

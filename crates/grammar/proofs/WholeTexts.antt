@@ -1,12 +1,13 @@
 -- A whole text is read where it is a sentence along which all may be done, and else the fault is that of the first token at fault.
 use Rattle.std.proofs.Common.{◌≡◌, ◌⊎◌, ℕ, zero, suc, ◌+◌, ◌<◌, Bool, true, false, cond, not, List, [], ◌∷◌, ◌++◌, length, Option, Some, None, Result, Ok, Err, refl, sym, ap, subst, ◌∙◌, append_assoc, append-nil, length-append, inl, inr, arith}
+use Rattle.std.proofs.lemmas.Bool.{and_parts}
 use Rattle.std.specs.Prelude.{◌||◌, ◌&&◌}
 use Rattle.grammar.specs.Language.{Placed, Language, RuleOf}
 use Rattle.grammar.specs.Reading.{Stream, stream, State, Reads, ◌>>=◌, front, is_empty, stop, read_rule, ended, read_whole}
 use Rattle.grammar.specs.Grammar.{Mark, took, did, MarkOf, Spelled, SpelledInner, Sentence, tokens_of, Goes, acts_then, acts}
 use Rattle.grammar.specs.Plain.{goes_on, is_plain, IsPlain}
 use Rattle.grammar.specs.Refusal.{NoSentence, NoText, NoneHere, Refused, Whole}
-use Rattle.grammar.proofs.Basics.{and_true, bind_ok, bind_err, ok_is, chosen, before}
+use Rattle.grammar.proofs.Basics.{bind_ok, bind_err, ok_is, chosen, before}
 use Rattle.grammar.proofs.Sound.{Read, read_sound}
 use Rattle.grammar.proofs.Complete.{read_complete}
 use Rattle.grammar.proofs.Local.{bare, Alike, Passes, Stops, Outcome, read_local}

@@ -9,9 +9,11 @@ pub data Mark (K L : Type 0) : Type 0 where
   took : L → Placed K → Mark K L
   did : L → Mark K L
 
+-- the marks of a language
 abbrev pub MarkOf : Language → Type 0
 MarkOf g = Mark g.Kind g.Label
 
+-- which lists of marks belong to something
 abbrev pub Language-of-marks : Language → Type 1
 Language-of-marks g = List (MarkOf g) → Type 0
 
@@ -20,6 +22,7 @@ abbrev pub Parts : (g : Language) → (List (MarkOf g) → Type 0) → ℕ → L
 Parts g part zero ms = ms ≡ []
 Parts g part (suc n) ms = (x : List (MarkOf g)) × (y : List (MarkOf g)) × part x × Parts g part n y × (ms ≡ x ++ y)
 
+-- the marks are those of a text of the rule; what stands in brackets is said by `inner`
 abbrev pub Spelled : (g : Language) → (g.Inner → List (MarkOf g) → Type 0) → RuleOf g → List (MarkOf g) → Type 0
 Spelled g inner (one k l) ms = (t : Placed g.Kind) × (g.same t.kind k ≡ true) × (ms ≡ took l t ∷ [])
 Spelled g inner (does l) ms = ms ≡ did l ∷ []
@@ -51,6 +54,7 @@ tokens_of (did l ∷ ms) = tokens_of ms
 abbrev pub Goes : (g : Language) → List (MarkOf g) → Stream g.Kind → Stream g.Kind → Type 0
 Goes g ms s t = s ≡ stream (tokens_of ms ++ t.tokens) t.end
 
+-- what is done at one mark
 abbrev pub act_mark : (g : Language) → MarkOf g → g.Built → Result g.Built g.Fault
 act_mark g (took l t) b = g.act l t b
 act_mark g (did l) b = g.judge l b
@@ -62,5 +66,6 @@ acts_then g [] (Err f) = Err f
 acts_then g (m ∷ ms) (Err f) = Err f
 acts_then g (m ∷ ms) (Ok b) = acts_then g ms (act_mark g m b)
 
+-- what is built along the marks, or the first refusal
 abbrev pub acts : (g : Language) → List (MarkOf g) → g.Built → Result g.Built g.Fault
 acts g ms b = acts_then g ms (Ok b)

@@ -20,5 +20,6 @@ pub record Language : Type 1 where
   -- a token that the grammar doesn't have there
   pub stop : Placed Kind → Fault
 
+-- the rules of a language
 abbrev pub RuleOf : Language → Type 0
 RuleOf g = Rule g.Kind g.Label g.Inner

@@ -8,10 +8,12 @@ use Rattle.grammar.specs.Language.{Placed, Language, RuleOf}
 abbrev pub State : Language → Type 0
 State g = g.Built × Stream g.Kind
 
+-- what is built and left, or the fault
 abbrev pub Reads : Language → Type 0
 Reads g = Result (State g) g.Fault
 
 infixl 10 ◌>>=◌
+-- one reading and then another, up to the first fault
 abbrev pub ◌>>=◌ : {A E : Type 0} → Result A E → (A → Result A E) → Result A E
 (Ok x) >>= f = f x
 (Err e) >>= f = Err e
@@ -20,6 +22,7 @@ abbrev pub ◌>>=◌ : {A E : Type 0} → Result A E → (A → Result A E) → 
 abbrev pub stop : (g : Language) → State g → Reads g
 stop g s = Err (g.stop (front s.1))
 
+-- what was built goes with the tokens that are left
 abbrev pub acted : (g : Language) → Result g.Built g.Fault → Stream g.Kind → Reads g
 acted g (Ok built) tokens = Ok (built, tokens)
 acted g (Err fault) tokens = Err fault
@@ -57,9 +60,11 @@ unfoldable pub repeated : (g : Language) → ℕ → (g.Kind → Bool) → (Stat
 repeated g zero begin turn s = Ok s
 repeated g (suc n) begin turn s = if begin (front s.1).kind then turn s >>= repeated g n begin turn else Ok s
 
+-- how the rules in brackets are read; nothing where no more brackets may open
 abbrev pub Readers : Language → Type 0
 Readers g = Option (g.Inner → State g → Reads g)
 
+-- the opening token, the rule inside, and the closing one
 abbrev pub bracketed : (g : Language) → g.Kind → g.Label → Readers g → g.Inner → g.Kind → g.Label → State g → Reads g
 bracketed g k o None r c l s = stop g s
 bracketed g k o (Some inner) r c l s = take_one g k o s >>= inner r >>= take_one g c l
@@ -82,6 +87,7 @@ unfoldable pub read_inner : (g : Language) → ℕ → Readers g
 read_inner g zero = None
 read_inner g (suc depth) = Some (λ r. by_rule g (read_inner g depth) (g.inside r))
 
+-- a rule is read, where this many brackets may open
 unfoldable pub read_rule : (g : Language) → ℕ → RuleOf g → State g → Reads g
 read_rule g depth = by_rule g (read_inner g depth)
 

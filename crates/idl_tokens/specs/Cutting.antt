@@ -7,10 +7,11 @@ use Rattle.idl_tokens.specs.Placed.{Placed, same_kind}
 use Rattle.idl_tokens.specs.Stream.{Stream, stream}
 use Rattle.idl_tokens.specs.Lexing.{lex}
 
--- the line, and the column, behind a byte
+-- the line behind a byte; lines count from 1
 abbrev pub line_after : ℕ → ℕ → ℕ
 line_after b line = if b == 10 then line + 1 else line
 
+-- the column behind a byte; columns count bytes from 1
 abbrev pub column_after : ℕ → ℕ → ℕ
 column_after b column = if b == 10 then 1 else column + 1
 

@@ -69,11 +69,12 @@ script_marks =
     ∷ (codes ".", kind.Dot) ∷ (codes "*", kind.Star) ∷ (codes "/", kind.Slash) ∷ (codes "%", kind.Percent)
     ∷ (codes "!", kind.Exclamation) ∷ []
 
--- the words, and the marks, of a language
+-- the words of a language
 abbrev pub words_of : Dialect → Table
 words_of Idl = idl_words
 words_of Script = script_words
 
+-- the marks of a language
 abbrev pub marks_of : Dialect → Table
 marks_of Idl = idl_marks
 marks_of Script = script_marks

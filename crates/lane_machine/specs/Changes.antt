@@ -37,6 +37,7 @@ pub data Change (pool : Pool) (threads : List Thread) (waiting : List Job) (thre
   passes : (t : ℕ) (thread : Thread) (at : ℕ) (job : Job) → slice_get threads t ≡ Some thread → slice_get waiting at ≡ Some job → next_job pool.borrowing thread.lane waiting ≡ Some at
       → threads' ≡ slice_set threads t (given job thread) → waiting' ≡ remove waiting at → Change pool threads waiting threads' waiting'
 
+-- pool, slots and connections per slot stay, and the threads and what waits change in one of these ways
 abbrev pub Changes : State → State → Type 0
 Changes s s' = (s'.pool ≡ s.pool) × (s'.slots ≡ s.slots) × (s'.per_slot ≡ s.per_slot) × Change s.pool s.threads s.waiting s'.threads s'.waiting
 

@@ -23,11 +23,13 @@ after_take due.Late = 2
 abbrev pub to_come : Job → ℕ
 to_come job = after_take job.due + 1
 
+-- what a thread brings by what it does
 abbrev pub to_do : Doing → ℕ
 to_do Free = 0
 to_do (Given job) = to_come job
 to_do (Busy job) = after_take job.due
 
+-- the entries that what waits, runs and is owed still brings
 abbrev pub coming : State → ℕ
 coming s = sum_by to_come s.waiting + sum_by (λ thread. to_do thread.doing) s.threads + sum_by (λ i. 1) s.out
 
@@ -41,6 +43,7 @@ is_mark reply.Done = true
 is_mark reply.Noted = true
 is_mark r = false
 
+-- how many replies of a history end something
 abbrev pub marks : History → ℕ
 marks h = count_by (λ e. is_mark e.reply) h
 

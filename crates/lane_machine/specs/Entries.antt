@@ -14,6 +14,7 @@ use Rattle.lane_machine.specs.Machine.{step}
 use Rattle.lane_machine.specs.Readiness.{is_ready, IsSound}
 use Rattle.lane_machine.specs.Histories.{History, replay, IsLegal}
 
+-- an entry of the lane machine
 abbrev pub One : Type 0
 One = Entry State LaneCall LaneReply
 

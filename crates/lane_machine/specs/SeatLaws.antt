@@ -50,6 +50,7 @@ busy_job Free = None
 busy_job (Given job) = None
 busy_job (Busy job) = Some job
 
+-- the request that a Take was answered with
 abbrev pub given_job : Option LaneReply → Option Job
 given_job (Some (reply.Given job)) = Some job
 given_job o = None
@@ -209,6 +210,7 @@ busy_step s0 s h e (Collect conn) few many r q w f known = other_step s0.slots h
 busy_step s0 s h e (End conn how) few many r q w f known = other_step s0.slots h e s.threads s.threads (λ t l. slot_other s0.slots conn.slot e.caller t f.1.slot f.0) (same_busy s.threads s.threads refl) known
 busy_step s0 s h e (Leave slot) few many r q w f known = other_step s0.slots h e s.threads s.threads (λ t l. slot_other s0.slots slot e.caller t f.1.0 f.0) (same_busy s.threads s.threads refl) known
 
+-- what the entries of all callers tell of the state
 pub record Known (s0 : State) (h : History) (s : State) : Type 0 where
   pub pool : s.pool ≡ s0.pool
   pub slots : s.slots ≡ s0.slots

@@ -1,5 +1,5 @@
 //! The lane machine, as its callers see it.
-ghost use Rattle.std.specs.Prelude.{◌≡◌, ◌==◌, ◌&&◌, ◌||◌, nat_le, is_some, IfOk, true};
+ghost use Rattle.std.specs.Prelude.{◌≡◌, ◌≤◌, ◌==◌, ◌&&◌, ◌||◌, nat_le, is_some, length, IfOk, true};
 ghost use Rattle.lane_machine.specs.State.{CanOpen, opening};
 ghost use Rattle.lane_machine.specs.Machine.{step, end_of};
 ghost use Rattle.lane_machine.specs.Readiness.{is_ready, IsSound, owed};
@@ -8,7 +8,7 @@ ghost use Rattle.lane_machine.specs.Histories.{Steps};
 use crate::call::{LaneCall, LaneReply};
 use crate::look;
 use crate::machine::Machine;
-use orb_base::limits::MAX_OWED;
+use orb_base::limits::{MAX_OWED, MAX_THREADS};
 use orb_base::{ConnId, NoMemory, PoolSpec};
 use std::alloc::Global;
 use std::marker::Model;
@@ -45,6 +45,14 @@ impl Lanes {
         Ok(Lanes {
             machine: Machine::new(alloc, pool, slots, per_slot)?,
         })
+    }
+
+    /// How many threads the pool has, at most 64.
+    pub fn count_threads(&self) -> usize
+        ensures value { result ≡ length self.now.threads }
+        ensures few { result ≤ MAX_THREADS }
+    {
+        self.machine.count_threads()
     }
 
     /// Whether the call is answered now; else it waits. Takes no memory. Work grows with the threads, with what waits,

@@ -1,7 +1,7 @@
 //! The machine of one pool, whose callers keep its counts small.
 //!
 //! A call that fails for want of memory leaves the machine as it was: what takes memory comes before what changes.
-ghost use Rattle.std.specs.Prelude.{◌≡◌, ◌<◌, ◌+◌, ◌^◌, ◌==◌, ◌&&◌, ◌||◌, is_some, slice_get, IfOk, OnOk, OnErr, ◌∷◌, []};
+ghost use Rattle.std.specs.Prelude.{◌≡◌, ◌<◌, ◌≤◌, ◌+◌, ◌^◌, length, ◌==◌, ◌&&◌, ◌||◌, is_some, slice_get, IfOk, OnOk, OnErr, ◌∷◌, []};
 ghost use Rattle.std.specs.Bool.{OnFalse};
 ghost use Rattle.lane_machine.specs.State.{CanOpen, opening};
 ghost use Rattle.lane_machine.specs.Machine.{step, item_place, end_of, is_over, heard, add_items};
@@ -11,7 +11,7 @@ ghost use Rattle.lane_machine.specs.Histories.{Steps};
 
 use crate::call::{How, LaneCall, LaneReply};
 use crate::look;
-use orb_base::limits::MAX_OWED;
+use orb_base::limits::{MAX_OWED, MAX_THREADS};
 use orb_base::{ConnId, Item, List, NoMemory, PoolSpec};
 use request_buffer::Buffer;
 use std::alloc::Global;
@@ -107,6 +107,14 @@ impl Machine {
             LaneCall::End { conn, how } => self.end(*conn, *how),
             LaneCall::Leave { slot } => self.leave(*slot),
         }
+    }
+
+    /// How many threads there are.
+    pub fn count_threads(&self) -> usize
+        ensures value { result ≡ length self.now.threads }
+        ensures few { result ≤ MAX_THREADS }
+    {
+        self.threads.count()
     }
 
     /// Whether the run is closing.

@@ -1,5 +1,6 @@
 -- Object URLs: what is read is what the text names, and what the text names is read.
 use Rattle.std.proofs.Common.{◌≡◌, ℕ, suc, ◌+◌, ◌^◌, ◌<◌, ◌≤◌, Bool, true, false, ◌&&◌, ◌||◌, eqb, leb}
+use Rattle.std.proofs.lemmas.Option.{same_Some}
 use Rattle.std.proofs.Common.{ltb, List, [], ◌∷◌, ◌++◌, length, take, drop, get_or, Option, Some, None, Ok, refl}
 use Rattle.std.proofs.Common.{sym, ap, subst, ◌∙◌, ◌⊎◌, inl, inr, arith}
 use Rattle.std.specs.Char.{is_ascii_digit}
@@ -17,7 +18,7 @@ use Rattle.object_refs.specs.LocationReading.{port_number, port_of_len, port_of,
 use Rattle.object_refs.specs.Laws.{IsExactly}
 use Rattle.cdr_core.proofs.CallerLemmas.{ok_is, bind_ok}
 use Rattle.object_refs.specs.Reading.{Read}
-use Rattle.object_refs.proofs.Steps.{some_is, passed_some, then_some}
+use Rattle.object_refs.proofs.Steps.{passed_some, then_some}
 use Rattle.object_refs.proofs.Firsts.{behind_found, behind_again, cut_found, cut_again, none_within}
 
 abbrev pub done : {A : Type 0} → A → Read A
@@ -166,7 +167,7 @@ port_of_found text x e =
     let len : ℕ = n.0 in
     let cut = cut_found is_slash text len n.1 in
     let p = then_some (port_number (take len text)) (λ port. Some (port, drop (len + 1) text)) x n.2 in
-    let is = some_is (p.0, drop (len + 1) text) x p.2 in
+    let is = same_Some (p.0, drop (len + 1) text) x p.2 in
     let slash-is : get_or text len 0 ≡ slash = eqb-true _ _ cut.passes in
     let parts : text ≡ take len text ++ slash ∷ drop (len + 1) text =
     cut.parts ∙ ap (λ (b : ℕ). take len text ++ b ∷ drop (len + 1) text) slash-is in

@@ -1,5 +1,6 @@
 -- Texts and bytes mean one thing at most, and what is written is read.
 use Rattle.std.proofs.Common.{◌≡◌, ℕ, ◌≤◌, List, [], ◌++◌, Ok, Result, Err, IfOk, codes, refl, sym, ap, ◌∙◌}
+use Rattle.std.proofs.lemmas.Option.{same_Some}
 use Rattle.std.proofs.Common.{subst}
 use Rattle.orb_base.specs.Tagged.{Tagged}
 use Rattle.orb_base.specs.declared.no_memory.NoMemory.{NoMemory}
@@ -17,7 +18,6 @@ use Rattle.object_refs.specs.Profiles.{IsFirstProfile, IsProfile}
 use Rattle.object_refs.specs.Reference.{Location, Profile, Reference}
 use Rattle.object_refs.specs.References.{IsReference, stringified}
 use Rattle.cdr_core.proofs.CallerLemmas.{ok_is}
-use Rattle.object_refs.proofs.Steps.{some_is}
 use Rattle.object_refs.proofs.Located.{location_again}
 use Rattle.object_refs.proofs.Texts.{reference_again}
 use Rattle.object_refs.proofs.Wholes.{profile_again}
@@ -30,7 +30,7 @@ one_profile p q bytes a b = ok_is p q (sym (profile_again bytes p a) ∙ profile
 
 pub one_first : (p q : Profile) (r : Reference) → IsFirstProfile p r → IsFirstProfile q r → p ≡ q
 one_first p q r a b =
-    let same : a.0 ≡ b.0 = some_is a.0 b.0 (sym a.1 ∙ b.1) in
+    let same : a.0 ≡ b.0 = same_Some a.0 b.0 (sym a.1 ∙ b.1) in
     one_profile p q b.0.bytes (subst (λ (t : Tagged). IsProfile p t.bytes) same a.2) b.2
 
 pub one_reference : (r s : Reference) (text : List ℕ) → IsReference r text → IsReference s text → r ≡ s

@@ -1,5 +1,6 @@
 -- What is encapsulated: a fault that is told is the first one, and the first one is told.
 use Rattle.std.proofs.Common.{◌≡◌, ℕ, suc, ◌<◌, ◌≤◌, Bool, true, false, ◌&&◌, cond, ltb, eqb, List, [], ◌∷◌, ◌++◌, ◌⊎◌, inl, inr}
+use Rattle.std.proofs.lemmas.Option.{same_Some}
 use Rattle.std.proofs.Common.{Some, None, Result, Ok, Err, refl, sym, ap, subst, ◌∙◌, arith}
 use Rattle.std.specs.Int.{w8, w16}
 use Rattle.std.proofs.lemmas.Bool.{cases_Bool, and_from, ltb-true, lt-ltb, eqb-true, eq-eqb}
@@ -31,7 +32,7 @@ use Rattle.object_refs.specs.ProfileReading.{components_at, versioned_at, suppor
 use Rattle.object_refs.specs.References.{reference_at, reference_in}
 use Rattle.object_refs.specs.Refusing.{RefusesWithin, FailsTagged, FailsReference, FailsComponents, FailsProfile}
 use Rattle.object_refs.specs.Refusing.{HasOtherVersion, RefusesProfile, RefusesFirst}
-use Rattle.object_refs.proofs.Steps.{failed, some_is}
+use Rattle.object_refs.proofs.Steps.{failed}
 use Rattle.object_refs.proofs.Taking.{FitsReadable, fields_of, versioned_takes, versioned_again}
 use Rattle.object_refs.proofs.Wholes.{inner_bytes, within, taken_in}
 
@@ -255,7 +256,7 @@ first_fails r tagged (Err NoMemory) first h = tt
 first_refused : (r : Reference) (tagged : Tagged) (f : RefFault) → first_of r.profiles ≡ Some tagged → RefusesFirst r f → RefusesProfile tagged.bytes f
 first_refused r tagged f first (inl h) = let none = h.0 in absurd cc
 first_refused r tagged f first (inr h) =
-    subst (λ (t : Tagged). RefusesProfile t.bytes f) (some_is h.0 tagged (sym h.1 ∙ first)) h.2
+    subst (λ (t : Tagged). RefusesProfile t.bytes f) (same_Some h.0 tagged (sym h.1 ∙ first)) h.2
 
 pub first_told : (r : Reference) (tagged : Tagged) (answer : Result Profile RefError) → first_of r.profiles ≡ Some tagged
     → ((f : RefFault) → RefusesProfile tagged.bytes f → Answers {Y = Profile} (λ p. p) answer (Err f))

@@ -1,5 +1,6 @@
 -- Readings, one after the other.
 use Rattle.std.proofs.Common.{◌≡◌, Bool, true, false, cond, Option, Some, None, Result, Ok, Err, refl, sym, ◌∙◌}
+use Rattle.std.proofs.lemmas.Option.{same_Some}
 use Rattle.std.specs.Prelude.{IfOk, option_and_then}
 use Rattle.std.specs.Prelude.{IfErr, IfSome}
 use Rattle.cdr_core.proofs.CallerLemmas.{ok_is}
@@ -15,12 +16,9 @@ pub passed : {A : Type 0} (b : Bool) (x y : A) (f : RefFault) → cond b (Ok x) 
 passed true x y f e = (refl, ok_is x y e)
 passed false x y f e = absurd cc
 
-pub some_is : {A : Type 0} (x y : A) → ◌≡◌ {A = Option A} (Some x) (Some y) → x ≡ y
-some_is x y e = cc
-
 pub passed_some : {A : Type 0} (b : Bool) (x y : A) → ◌≡◌ {A = Option A} (cond b (Some x) None) (Some y)
     → (b ≡ true) × (x ≡ y)
-passed_some true x y e = (refl, some_is x y e)
+passed_some true x y e = (refl, same_Some x y e)
 passed_some false x y e = absurd cc
 
 pub then_some : {A B : Type 0} (o : Option A) (f : A → Option B) (y : B) → option_and_then f o ≡ Some y

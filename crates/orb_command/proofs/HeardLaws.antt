@@ -1,5 +1,6 @@
 -- A whole input means one list of calls.
 use Rattle.std.proofs.Common.{◌≡◌, ℕ, zero, suc, List, [], ◌∷◌, Option, Some, None, length, refl, sym, ap, subst, ◌∙◌}
+use Rattle.std.proofs.lemmas.Option.{same_Some}
 use Rattle.std.specs.Prelude.{slice_get}
 use Rattle.orb_base.specs.Priorities.{mandated, lane_of}
 use Rattle.orb_base.specs.declared.conn_id.ConnId.{ConnId}
@@ -15,9 +16,6 @@ use Rattle.lane_machine.specs.declared.call.LaneCall.TheVariants.{Offer}
 use Rattle.orb_command.specs.Setup.{Setup, Object, HasDistinctKeys, built_in}
 use Rattle.orb_command.specs.Heard.{job_of, IsOffered, IsHeard, HearsEach, Hears}
 
-some_is : {A : Type 0} (x y : A) → ◌≡◌ {A = Option A} (Some x) (Some y) → x ≡ y
-some_is x y e = cc
-
 key_is : (x y : List ℕ) → key x ≡ key y → x ≡ y
 key_is x y e = cc
 
@@ -28,8 +26,8 @@ one_call : (setup : Setup) (conn : ConnId) (serial : ℕ) (order : Order) (size 
 one_call setup conn serial order size r call other distinct p q =
     let keys : p.object.object_key ≡ q.object.object_key = key_is _ _ (sym p.addressed ∙ q.addressed) in
     let targets : p.target ≡ q.target = distinct p.target q.target p.object q.object p.known q.known keys in
-    let objects : p.object ≡ q.object = some_is _ _ (sym p.known ∙ ap (λ (t : ℕ). slice_get setup.objects t) targets ∙ q.known) in
-    let lanes : p.lane ≡ q.lane = some_is _ _ (sym p.placed ∙ ap (λ (o : Object). lane_of setup.pool (mandated o.model o.server None)) objects ∙ q.placed) in
+    let objects : p.object ≡ q.object = same_Some _ _ (sym p.known ∙ ap (λ (t : ℕ). slice_get setup.objects t) targets ∙ q.known) in
+    let lanes : p.lane ≡ q.lane = same_Some _ _ (sym p.placed ∙ ap (λ (o : Object). lane_of setup.pool (mandated o.model o.server None)) objects ∙ q.placed) in
     p.meant
     ∙ ap (λ (x : ℕ × Object × ℕ). Offer (job_of conn serial order size r x.0 (mandated x.1.model x.1.server None) x.2)) {x = (p.target, p.object, p.lane)} {y = (q.target, q.object, q.lane)} (λ i. (targets i, objects i, lanes i))
     ∙ sym q.meant

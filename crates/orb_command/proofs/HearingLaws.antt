@@ -18,7 +18,8 @@ use Rattle.giop_messages.specs.Layout.{order_flag}
 use Rattle.giop_messages.specs.Reading.{ReadsIn, Reads}
 use Rattle.giop_messages.specs.declared.message_fault.MessageFault.{MessageFault}
 use Rattle.giop_messages.specs.declared.message_fault.MessageFault.TheVariants as faults
-use Rattle.giop_messages.specs.MessageReading.{IsMessage, Fails}
+use Rattle.giop_messages.specs.MessageReading.{IsMessage}
+use Rattle.giop_messages.specs.Answers.{Fails}
 use Rattle.giop_messages.proofs.OneReading.{reads_one_way}
 use Rattle.lane_machine.specs.declared.call.LaneCall.TheVariants.{Offer}
 use Rattle.orb_command.specs.Setup.{built_in, pipe_conn}

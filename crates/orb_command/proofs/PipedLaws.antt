@@ -43,7 +43,8 @@ use Rattle.orb_command.specs.Said.{item_bytes, call_bytes, said}
 use Rattle.orb_command.specs.Piped.{Run, closed_by, answer_of, piped}
 use Rattle.orb_command.specs.Built.{IsBuilt, IsPiped}
 use Rattle.orb_command.specs.Hearing.{MeanJobs}
-use Rattle.orb_command.specs.Stops.{has_closing, is_closing, has_end, is_end, StopsAt}
+use Rattle.lane_machine.specs.Callers.{is_closing}
+use Rattle.orb_command.specs.Stops.{has_closing, has_end, StopsAt}
 use Rattle.orb_command.specs.PingRun.{ArePingJobs, offers, opened, with_thread, Does, IsSettled, IsAnswered, Carries, ping_interface, Ran, Refused, Runs, RunsOn, farewell, IsRun, AnswersOne, Underway, RanAll, RanFront, CutReply, CutFarewell, CutRun, AnswersAll, SaysFarewell}
 use Rattle.text_streams.specs.Streams.{Gave, GaveFew, WroteText, WroteSome}
 use Rattle.orb_command.specs.Pipe.{Outputs, WroteWhole, WroteFront, Stopped as StoppedSo, WroteAtWant, StopsIn, Wrote, Serves, Replies, ReadsWhole, PipesTo, PipesBytes, Pipes}

@@ -111,7 +111,7 @@ one_replied n m ping s s' bytes ran = record {
     says = elim ran.came [ inl is ↦ inl (ap (reply_with m.order ping.id) is) | inr is ↦ inr (ap (reply_with m.order ping.id) is.0) ];
   };
   fits = (
-    record { id = ping.reads.fits.id; status = status_fits ran.answer; contexts = record { few = lit< tt; each = tt } },
+    record { id = ping.reads.fits.id; status = status_fits ran.answer; contexts = (lit< tt, tt) },
     reply_short m.order ping.id (reply_status ran.answer) (reply_body m.order ran.answer) (body_short ping_interface n (length m.bytes) ping.id m.order ran.answer ran.came),
     tt,
   );

@@ -1,31 +1,20 @@
 -- Where a run of the pipe stops at a failed write.
-use Rattle.std.specs.Prelude.{◌≡◌, Bool, true, false, List, ◌∷◌, ◌++◌, ℕ}
+use Rattle.std.specs.Prelude.{◌≡◌, Bool, false, List, ◌∷◌, ◌++◌, ℕ}
 use Rattle.std.specs.List.{list_any}
 use Rattle.orb_base.specs.Outside.{SinkState}
 use Rattle.lane_machine.specs.declared.call.LaneCall.{LaneCall}
-use Rattle.lane_machine.specs.declared.call.LaneCall.TheVariants.{End}
 use Rattle.lane_machine.specs.declared.call.LaneReply.{LaneReply}
-use Rattle.lane_machine.specs.declared.call.LaneReply.TheVariants as reply
 use Rattle.turn_cell.specs.declared.entry.Entry.{Entry}
+use Rattle.lane_machine.specs.Callers.{is_closing, is_end}
 use Rattle.lane_machine.specs.State.{State}
 use Rattle.lane_machine.specs.Histories.{History}
 use Rattle.orb_command.specs.Setup.{pipe_conn}
 use Rattle.orb_command.specs.Said.{call_bytes, said}
 use Rattle.text_streams.specs.Streams.{WroteText}
 
--- the reply is Closing
-abbrev pub is_closing : LaneReply → Bool
-is_closing reply.Closing = true
-is_closing _ = false
-
 -- a call of the history was answered Closing
 abbrev pub has_closing : History → Bool
 has_closing h = list_any (λ e. is_closing e.reply) h
-
--- the call is End
-abbrev pub is_end : LaneCall → Bool
-is_end (End _ _) = true
-is_end _ = false
 
 -- an End was made in the history
 abbrev pub has_end : History → Bool

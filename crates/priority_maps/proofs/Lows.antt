@@ -1,11 +1,12 @@
 -- The low end of the first row of a native priority is the least CORBA priority of it.
 use Rattle.std.proofs.Common.{◌≡◌, ℕ, ℤ, ◌<◌, Bool, true, false, cond, List, [], ◌∷◌, Option, Some, None, option_map, arith, refl, sym, ◌∙◌, ◌⊎◌, inl, inr}
+use Rattle.std.specs.Option.{option_or}
 use Rattle.std.proofs.lemmas.Bool.{false≢true}
 use Rattle.std.proofs.lemmas.Bool.Decides.{Decides-int_eq}
 use Rattle.std.specs.Ordering.{int_eq}
 use Rattle.priority_maps.specs.declared.row.MapRow.{MapRow}
 use Rattle.priority_maps.specs.Rows.{Rises, HasBands, holds, rows_native}
-use Rattle.priority_maps.specs.Search.{first_low, or_else}
+use Rattle.priority_maps.specs.Search.{first_low}
 use Rattle.priority_maps.specs.Least.{FindsLeast, HasNone, IsLeast}
 use Rattle.priority_maps.proofs.Rising.{Behind, first_of, inside, inside_low, outside_below, rises_on, bands_on}
 
@@ -24,7 +25,7 @@ held_above b (r ∷ rs) q n (above, ends, rest) h =
     ]
 
 -- the first row has the native priority, or the rest decides
-first_at : (b : Bool) (r : MapRow) (rest : Option ℕ) (found : Option ℕ) → or_else (cond b (Some r.band.low) None) rest ≡ found
+first_at : (b : Bool) (r : MapRow) (rest : Option ℕ) (found : Option ℕ) → option_or (cond b (Some r.band.low) None) rest ≡ found
     → ((b ≡ true) × (found ≡ Some r.band.low)) ⊎ ((b ≡ false) × (rest ≡ found))
 first_at true r rest found h = inl (refl, sym h)
 first_at false r rest found h = inr (refl, h)

@@ -1,5 +1,6 @@
 -- How a table is searched.
 use Rattle.std.specs.Prelude.{◌≡◌, ◌≤◌, ◌<◌, ℕ, ℤ, List, [], ◌∷◌, Option, Some, None, if◌then◌else◌, length}
+use Rattle.std.specs.Option.{option_or}
 use Rattle.std.specs.List.{AllWithin}
 use Rattle.std.specs.Ordering.{int_eq, int_cmp}
 use Rattle.std.specs.BTreeMap.{BTreeMap, get}
@@ -19,15 +20,10 @@ native_in p row = if holds row.band p then Some row.native else None
 abbrev pub low_of : ℤ → MapRow → Option ℕ
 low_of n row = if int_eq row.native n then Some row.band.low else None
 
--- the first that is there
-abbrev pub or_else : Option ℕ → Option ℕ → Option ℕ
-or_else (Some a) b = Some a
-or_else None b = b
-
 -- the low end of the first row with this native priority
 abbrev pub first_low : ℤ → List MapRow → Option ℕ
 first_low n [] = None
-first_low n (row ∷ rows) = or_else (low_of n row) (first_low n rows)
+first_low n (row ∷ rows) = option_or (low_of n row) (first_low n rows)
 
 -- the tree has the low end of the first row of each native priority
 abbrev pub HasLows : List MapRow → BTreeMap ℤ ℕ → Type 0

@@ -4,11 +4,11 @@
 //! first row of each native priority.
 ghost use Rattle.std.specs.Prelude.{◌≡◌, ◌≤◌, ◌↔◌, true, length, IsTrue, IsSome, IfSome, IfOk, OnOk, ℤ};
 ghost use Rattle.std.specs.List.{AllAdjacentBelow};
-ghost use Rattle.std.specs.Option.{option_and_then, option_copied};
+ghost use Rattle.std.specs.Option.{option_and_then, option_copied, option_or};
 ghost use Rattle.std.specs.Ordering.{int_eq, int_cmp};
 ghost use Rattle.std.specs.BTreeMap.{get};
 ghost use Rattle.priority_maps.specs.Rows.{Rises, HasBands, rows_native};
-ghost use Rattle.priority_maps.specs.Search.{IsFirstAbove, native_in, first_low, low_of, or_else, HasLows};
+ghost use Rattle.priority_maps.specs.Search.{IsFirstAbove, native_in, first_low, low_of, HasLows};
 ghost use Rattle.priority_maps.specs.Least.{FindsLeast};
 
 use crate::row::MapRow;
@@ -160,7 +160,7 @@ fn lows_of(alloc: Global, rows: &[MapRow]) -> Result<BTreeMap<i32, Priority>, No
 
 /// Keeps a row's low end, unless an earlier row had its native priority.
 fn keep_low(lows: &mut BTreeMap<i32, Priority>, row: &MapRow) -> Result<(), NoMemory>
-    ensures { OnOk result ((n : ℤ) → get int_cmp lows.new n ≡ or_else (get int_cmp lows.old n) (low_of n row.now)) }
+    ensures { OnOk result ((n : ℤ) → get int_cmp lows.new n ≡ option_or (get int_cmp lows.old n) (low_of n row.now)) }
 {
     if lows.contains_key(&row.native) {
         return Ok(());

@@ -1,5 +1,6 @@
 -- Each request is placed in one way.
 use Rattle.std.proofs.Common.{◌≡◌, ℕ, Bool, true, false, ◌&&◌, nat_le, Option, Some, None, Result, Ok, Err, arith, refl, sym, ap, ◌∙◌, ◌⊎◌, inl, inr}
+use Rattle.std.proofs.lemmas.Option.{same_Some}
 use Rattle.std.proofs.lemmas.Bool.Decides.{nat_tests}
 use Rattle.orb_base.specs.Pool.{Pool}
 use Rattle.orb_base.specs.Priorities.{lane_of}
@@ -21,11 +22,8 @@ placed_by : (pool : Pool) (band : Option Span) (p : ℕ) (lane : Option ℕ) →
 placed_by pool band p (Some lane) is allowed = (Ok lane, (allowed, is))
 placed_by pool band p None is allowed = (Err NoLane, (allowed, is))
 
-some_is : (a b : ℕ) → Some a ≡ Some b → a ≡ b
-some_is a b h = cc
-
 one_of : (pool : Pool) (band : Option Span) (p : ℕ) (a b : Result ℕ Misplaced) → Placed pool band p a → Placed pool band p b → a ≡ b
-one_of pool band p (Ok x) (Ok y) h k = ap Ok (some_is x y (sym h.1 ∙ k.1))
+one_of pool band p (Ok x) (Ok y) h k = ap Ok (same_Some x y (sym h.1 ∙ k.1))
 one_of pool band p (Ok x) (Err OutsideBand) h k = absurd (k h.0)
 one_of pool band p (Ok x) (Err NoLane) h k = absurd (cc)
 one_of pool band p (Err OutsideBand) (Ok y) h k = absurd (h k.0)

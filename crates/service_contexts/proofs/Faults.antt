@@ -1,5 +1,6 @@
 -- Contexts tell one thing, or have one first fault.
-use Rattle.std.proofs.Common.{◌≡◌, ℕ, eqb, List, [], ◌∷◌, ◌++◌, Option, Some, None, Result, Ok, Err, ◌↔◌, refl, sym}
+use Rattle.std.proofs.Common.{◌≡◌, ℕ, ◌+◌, ◌<◌, ◌≤◌, eqb, List, [], ◌∷◌, ◌++◌, length, take, drop, get_or, Option, Some, None}
+use Rattle.std.proofs.Common.{Result, Ok, Err, ◌↔◌, refl, sym}
 use Rattle.std.proofs.Common.{ap, subst, ◌∙◌, ◌⊎◌, inl, inr}
 use Rattle.std.proofs.lemmas.Bool.{eq-eqb}
 use Rattle.std.proofs.lemmas.List.Folds.{find-append}
@@ -11,6 +12,7 @@ use Rattle.service_contexts.specs.declared.contexts.TheConstants.{PRIORITY_CONTE
 use Rattle.service_contexts.specs.Carrying.{CarriesPriority, CarriesBand}
 use Rattle.service_contexts.specs.Laws.{TellOneThing}
 use Rattle.service_contexts.specs.Telling.{first_of, TellsFirst, Tells, IsFaulty, IsFirstFault}
+use Rattle.cdr_core.proofs.CallerLemmas.{around, all_of}
 use Rattle.service_contexts.proofs.Steps.{some_is}
 use Rattle.service_contexts.proofs.Carried.{priority_law, band_law}
 
@@ -145,3 +147,17 @@ fault_fault list f r e h g = (
   λ k. e
       ∙ ap (λ (x : ContextFault). Err x) (one_fault list f g h k),
 )
+
+-- ---- a loop over the list
+
+-- what is told of all its items is told of the list
+pub told_of_all : (list items : List Context) (i : ℕ) (told : Contexts) → length items ≤ i → i ≤ length items → items ≡ list
+    → Tells (take i items) told → Tells list told
+told_of_all list items i told low high is h =
+    subst (λ (l : List Context). Tells l told) (all_of items i low high ∙ is) h
+
+-- the fault at an item is that of the list
+pub fault_of_one : (list items : List Context) (i : ℕ) (x : Context) (f : ContextFault) → i < length items
+    → x ≡ get_or items i x → items ≡ list → IsFirstFault (take i items ++ x ∷ drop (i + 1) items) f → IsFirstFault list f
+fault_of_one list items i x f less at is h =
+    subst (λ (l : List Context). IsFirstFault l f) (sym (around items i x less at) ∙ is) h

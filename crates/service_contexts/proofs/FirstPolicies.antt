@@ -1,5 +1,5 @@
 -- The first policy of a type, found in one pass.
-use Rattle.std.proofs.Common.{◌≡◌, ℕ, ◌+◌, ◌-◌, ◌<◌, ◌≤◌, List, [], ◌∷◌, ◌++◌, Option, Some, None, Result, Ok, Err, refl, sym, ap, ◌∙◌, arith, Bor}
+use Rattle.std.proofs.Common.{◌≡◌, ℕ, ◌+◌, ◌-◌, ◌<◌, ◌≤◌, List, [], ◌∷◌, ◌++◌, Option, Some, None, Ok, Err, refl, sym, ap, ◌∙◌, arith, Bor}
 use Rattle.std.specs.Prelude.{option_map, find, ◌==◌, Bool}
 use Rattle.std.specs.Option.{option_or, option_and_then}
 use Rattle.std.specs.Result.{result_ok}
@@ -7,7 +7,7 @@ use Rattle.std.proofs.lemmas.List.Folds.{find-append}
 use Rattle.orb_base.specs.Tagged.{Tagged}
 use Rattle.cdr_core.specs.declared.fault.CdrFault.{CdrFault}
 use Rattle.cdr_core.specs.Cursor.{Cursor, Reads}
-use Rattle.cdr_core.specs.Sequence.{Parsed, times}
+use Rattle.cdr_core.specs.Sequence.{times}
 use Rattle.cdr_core.specs.Lists.{Item, item_at, made_at, tagged_of}
 use Rattle.cdr_core.proofs.CallerLemmas.{with_front, goes_on, ends, is_done}
 use Rattle.service_contexts.specs.Publishing.{first_bytes}

@@ -8,7 +8,7 @@ use Rattle.service_contexts.specs.declared.contexts.Contexts.{Contexts}
 use Rattle.service_contexts.specs.declared.contexts.TheConstants.{PRIORITY_CONTEXT, RANGE_CONTEXT}
 use Rattle.service_contexts.specs.Carrying.{CarriesPriority, CarriesBand}
 use Rattle.service_contexts.specs.Laws.{IsExactly}
-use Rattle.service_contexts.specs.Telling.{first_of, TellsFirst, Tells, IsFirstFault}
+use Rattle.service_contexts.specs.Telling.{first_of, TellsFirst, Tells, IsFaulty, IsFirstFault}
 
 abbrev same : ℕ → Context → Bool
 same id context = eqb context.id id
@@ -95,6 +95,21 @@ band_counts list next told band is none carried h =
 
 -- ---- the first without a reading
 
+-- a context that counts and has no reading, behind those that told so much
+faulty_next : (list behind : List Context) (next : Context) (told : Contexts) → first_of next.id list ≡ None
+    → IsFaulty next → Tells list told → IsFirstFault (list ++ next ∷ behind) (record { id = next.id })
+faulty_next list behind next told counts faulty h = record {
+  before = list;
+  context = next;
+  behind = behind;
+  parts = refl;
+  told = refl;
+  counts = counts;
+  faulty = faulty;
+  so_far = told;
+  earlier = h;
+}
+
 pub priority_faulty : (list behind : List Context) (next : Context) (told : Contexts) (answer : Option ℕ)
     → next.id ≡ PRIORITY_CONTEXT → told.priority ≡ None
     → answer ≡ None → IsExactly answer (λ level. CarriesPriority level next.bytes) → Tells list told
@@ -102,18 +117,7 @@ pub priority_faulty : (list behind : List Context) (next : Context) (told : Cont
 priority_faulty list behind next told answer is none absent exact h =
     let unmet : first_of PRIORITY_CONTEXT list ≡ None = rw none at h.priority in
     let faulty : (level : ℕ) → ¬ CarriesPriority level next.bytes = λ level c. let e = (exact level).1 c in absurd cc in
-    record {
-      before = list;
-      context = next;
-      behind = behind;
-      parts = refl;
-      told = refl;
-      counts =
-          rw is unmet;
-      faulty = inl (is, faulty);
-      so_far = told;
-      earlier = h;
-    }
+    faulty_next list behind next told (rw is unmet) (inl (is, faulty)) h
 
 pub band_faulty : (list behind : List Context) (next : Context) (told : Contexts) (answer : Option Span)
     → next.id ≡ RANGE_CONTEXT → told.range ≡ None
@@ -122,15 +126,4 @@ pub band_faulty : (list behind : List Context) (next : Context) (told : Contexts
 band_faulty list behind next told answer is none absent exact h =
     let unmet : first_of RANGE_CONTEXT list ≡ None = rw none at h.range in
     let faulty : (band : Span) → ¬ CarriesBand band next.bytes = λ band c. let e = (exact band).1 c in absurd cc in
-    record {
-      before = list;
-      context = next;
-      behind = behind;
-      parts = refl;
-      told = refl;
-      counts =
-          rw is unmet;
-      faulty = inr (is, faulty);
-      so_far = told;
-      earlier = h;
-    }
+    faulty_next list behind next told (rw is unmet) (inr (is, faulty)) h

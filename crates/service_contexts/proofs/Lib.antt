@@ -1,5 +1,4 @@
 pub mod Steps
-pub mod Several
 pub mod Taking
 pub mod Carried
 pub mod Firsts

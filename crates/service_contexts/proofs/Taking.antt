@@ -1,12 +1,10 @@
 -- What a reading takes is lawful and stands there, and what stands there is taken.
-use Rattle.std.proofs.Common.{◌≡◌, ℕ, zero, suc, ◌+◌, ◌^◌, ◌<◌, ◌≤◌, Bool, true, false, cond, eqb, ltb, List, [], ◌∷◌}
-use Rattle.std.proofs.Common.{◌++◌, length, Some, None, refl, sym, ap, subst, ◌∙◌, arith, ◌⊎◌, inl, inr}
-use Rattle.std.proofs.Common.{length-append}
+use Rattle.std.proofs.Common.{◌≡◌, ℕ, ◌+◌, ◌-◌, ◌^◌, ◌<◌, Bool, true, false, cond, eqb, ltb, List, [], ◌∷◌, ◌++◌}
+use Rattle.std.proofs.Common.{Option, Some, None, Result, Ok, refl, ap, subst, ◌∙◌, arith, ◌⊎◌, inl, inr}
 use Rattle.std.specs.Int.{w16, w32}
+use Rattle.std.specs.Option.{ok_or}
 use Rattle.std.specs.Result.{result_ok}
-use Rattle.std.specs.List.{AllByRecursion, flat_map}
 use Rattle.std.proofs.lemmas.Bool.{eqb-true, ltb-true, ltb-false, lt-ltb, le-ltb}
-use Rattle.std.proofs.lemmas.List.Concat.{flat_map-cons}
 use Rattle.orb_base.specs.Span.{Span}
 use Rattle.orb_base.specs.Priorities.{model_number, model_of}
 use Rattle.orb_base.specs.declared.priority_model.PriorityModel.{PriorityModel}
@@ -15,11 +13,13 @@ use Rattle.cdr_core.specs.Field.{Field, number}
 use Rattle.cdr_core.specs.Cursor.{Cursor, AreBytes}
 use Rattle.cdr_core.specs.Reading.{number_at, count_at}
 use Rattle.cdr_core.specs.Passing.{Spans}
-use Rattle.cdr_core.proofs.CallerLemmas.{spans_then, spans_split, length-spelled, number_takes, number_reads}
-use Rattle.cdr_core.proofs.CallerLemmas.{count_takes, count_reads, nothing, same_cursor}
+use Rattle.cdr_core.specs.Sequence.{times}
+use Rattle.cdr_core.specs.ListLaws.{TakesOnly, TakesEach, TakesRoom}
+use Rattle.cdr_core.proofs.CallerLemmas.{spans_then, spans_split, number_takes, number_reads}
+use Rattle.cdr_core.proofs.CallerLemmas.{ok_is, bytes_behind, counted_takes, counted_again, with_front, goes_on, ends}
 use Rattle.service_contexts.specs.Layout.{IsPriority, IsBand, ModelValue, IsModelValue, AreBands, priority_fields}
 use Rattle.service_contexts.specs.Layout.{band_fields, model_fields, bands_fields}
-use Rattle.service_contexts.specs.Reading.{Taken, priority_at, band_at, model_at, times, bands_at}
+use Rattle.service_contexts.specs.Reading.{Taken, priority_at, band_at, model_at, or_refused, bands_at}
 use Rattle.service_contexts.proofs.Steps.{bind_some, ok_of, some_is, passed, not_failed}
 
 -- a lawful value between two cursors
@@ -134,80 +134,52 @@ model_again c d v lawful p =
       priority_again h.middle d v.1 lawful h.others,
     ) refl
 
--- ---- several
+-- ---- bands behind their number
 
--- so many lawful values between two cursors
-pub record TookAll (A : Type 0) (IsLawful : A → Type 0) (fields : A → List Field) (n : ℕ) (c d : Cursor)
-    (values : List A) : Type 0 where
-  pub count : length values ≡ n
-  pub all : Took (List A) (AllByRecursion IsLawful) (flat_map fields) c d values
+-- want of a value as the one error
+abbrev refused : {A : Type 0} → Option A → Result A (Unit {0})
+refused o = ok_or o tt
 
-times_takes : (A : Type 0) (IsLawful : A → Type 0) (fields : A → List Field) (one : Cursor → Taken A)
-    → Takes A IsLawful fields one
-    → (n : ℕ) (c : Cursor) (y : List A × Cursor) → AreBytes c.rest → times one n c ≡ Some y
-    → TookAll A IsLawful fields n c y.1 y.0
-unfolding times
-times_takes A IsLawful fields one each zero c y fits e =
-    let is : ([], c) ≡ y = cc in
-    subst (λ (x : List A × Cursor). TookAll A IsLawful fields 0 c x.1 x.0) is
-    (record { count = refl; all = record { lawful = tt; spans = nothing c; bytes = fits } })
-times_takes A IsLawful fields one each (suc n) c y fits e =
-    let first = bind_some (one c) _ y e in
-    let others = bind_some (times one n first.0.1) _ y first.2 in
-    let is : (first.0.0 ∷ others.0.0, others.0.1) ≡ y = let h = others.2 in cc in
-    let t = each c first.0 fits first.1 in
-    let u = times_takes A IsLawful fields one each n first.0.1 others.0 t.bytes others.1 in
-    let both = spans_then c first.0.1 others.0.1 (fields first.0.0) (flat_map fields others.0.0) t.spans u.all.spans in
-    subst (λ (x : List A × Cursor). TookAll A IsLawful fields (suc n) c x.1 x.0) is (record {
-      count = ap suc u.count;
-      all = record {
-        lawful = (t.lawful, u.all.lawful);
-        spans = subst (Spans c others.0.1) (sym (flat_map-cons fields first.0.0 others.0.0)) both;
-        bytes = u.all.bytes;
-      };
-    })
+some_of : {A : Type 0} (o : Option A) (x : A) → refused o ≡ Ok x → o ≡ Some x
+some_of (Some y) x e = ap (λ z. Some z) (ok_is y x e)
+some_of None x e = absurd cc
 
-times_again : (A : Type 0) (IsLawful : A → Type 0) (fields : A → List Field) (one : Cursor → Taken A)
-    → Again A IsLawful fields one
-    → (s : List A) (c d : Cursor) → AllByRecursion IsLawful s → Spans c d (flat_map fields s)
-    → times one (length s) c ≡ Some (s, d)
-unfolding times
-times_again A IsLawful fields one each [] c d lawful p = ap (λ (e : Cursor). Some ([], e)) (same_cursor c d p)
-times_again A IsLawful fields one each (a ∷ s) c d lawful p =
-    let q : Spans c d (fields a ++ flat_map fields s) = subst (Spans c d) (flat_map-cons fields a s) p in
-    let h = spans_split c d (fields a) (flat_map fields s) q in
-    rw (each c h.middle a lawful.0 h.first, times_again A IsLawful fields one each s h.middle d lawful.1 h.others) refl
+band_found : TakesOnly (or_refused band_at) band_fields IsBand
+band_found c y fits e = let t = band_takes c y fits (some_of (band_at c) y e) in (t.lawful, t.spans)
 
--- each band takes a byte at least, so that there are as many bytes as are counted
-bands_room : (s : List Span) (c d : Cursor) → Spans c d (flat_map band_fields s) → length s ≤ length c.rest
-bands_room [] c d p = omega arith
-bands_room (b ∷ s) c d p =
-    let q : Spans c d (band_fields b ++ flat_map band_fields s) = subst (Spans c d) (flat_map-cons band_fields b s) p in
-    let h = spans_split c d (band_fields b) (flat_map band_fields s) q in
-    let end = length-spelled c.order c.place (band_fields b) h.first.spelling h.first.spelled in
-    let all : length c.rest ≡ length h.first.spelling + length h.middle.rest = ap length h.first.parts
-    ∙ length-append h.first.spelling h.middle.rest in
-    let others = bands_room s h.middle d h.others in
-    omega (arith, end, all, others)
+band_there : TakesEach (or_refused band_at) band_fields IsBand
+band_there c d b lawful p = ap (λ (o : Taken Span). refused o) (band_again c d b lawful p)
+
+band_room : TakesRoom band_fields
+band_room b place = omega arith
 
 pub bands_takes : Takes (List Span) AreBands bands_fields bands_at
 unfolding bands_at
 bands_takes c y fits e =
-    let n = bind_some (result_ok (count_at c)) (λ x. times band_at x.0 x.1) y e in
-    let t = count_takes c n.0 fits (ok_of (count_at c) n.0 n.1) in
-    let u = times_takes Span IsBand band_fields band_at band_takes n.0.0 n.0.1 y t.bytes n.2 in
-    let first : Spans c n.0.1 (number w32 (length y.0) ∷ []) =
-    subst (λ (k : ℕ). Spans c n.0.1 (number w32 k ∷ [])) (sym u.count) t.spans in
-    record {
-      lawful = (omega (arith, u.count, t.fits), u.all.lawful);
-      spans = spans_then c n.0.1 y.1 (number w32 (length y.0) ∷ []) (flat_map band_fields y.0) first u.all.spans;
-      bytes = u.all.bytes;
-    }
+    let n = bind_some (result_ok (count_at c)) (λ x. result_ok (times (or_refused band_at) x.0 x.1)) y e in
+    let t = counted_takes (or_refused band_at) band_fields IsBand band_found c n.0 y fits (ok_of (count_at c) n.0 n.1) (ok_of (times (or_refused band_at) n.0.0 n.0.1) y n.2) in
+    record { lawful = t.0; spans = t.1; bytes = bytes_behind c y.1 (bands_fields y.0) fits t.1 }
 
 pub bands_again : Again (List Span) AreBands bands_fields bands_at
 unfolding bands_at
 bands_again c d s lawful p =
-    let h = spans_split c d (number w32 (length s) ∷ []) (flat_map band_fields s) p in
-    let room = bands_room s h.middle d h.others in
-    rw (count_reads c h.middle (length s) lawful.0 room h.first)
-    (times_again Span IsBand band_fields band_at band_again s h.middle d lawful.1 h.others)
+    let h = counted_again (or_refused band_at) band_fields IsBand band_there band_room c d s lawful p in
+    rw (h.counts, h.values) refl
+
+-- ---- a loop over them
+
+-- what one more reading without a value makes of the whole
+pub bands_end : (front : List Span) (count i : ℕ) (c start : Cursor) → i < count → band_at c ≡ None
+    → with_front front (times (or_refused band_at) (count - i) c) ≡ times (or_refused band_at) count start
+    → result_ok (times (or_refused band_at) count start) ≡ None
+bands_end front count i c start less none so_far =
+    ap result_ok (ends (or_refused band_at) tt front count i c (times (or_refused band_at) count start) less
+    (ap (λ (o : Taken Span). refused o) none) so_far)
+
+-- and one that has a value
+pub bands_go_on : (front : List Span) (count i : ℕ) (c start : Cursor) (b : Span) (d : Cursor) → i < count → band_at c ≡ Some (b, d)
+    → with_front front (times (or_refused band_at) (count - i) c) ≡ times (or_refused band_at) count start
+    → with_front (front ++ b ∷ []) (times (or_refused band_at) (count - (i + 1)) d) ≡ times (or_refused band_at) count start
+bands_go_on front count i c start b d less some so_far =
+    goes_on (or_refused band_at) front count i c b d (times (or_refused band_at) count start) less
+    (ap (λ (o : Taken Span). refused o) some) so_far

@@ -1,12 +1,12 @@
 -- The fields of what two service contexts and two policies carry. The contexts: Real-time CORBA 1.2, CORBA priorities
 -- and Priority banded connections. The layout of the policy values is own profile.
-use Rattle.std.specs.Prelude.{ℕ, ◌^◌, ◌<◌, ◌≤◌, List, [], ◌∷◌, length}
+use Rattle.std.specs.Prelude.{ℕ, ◌^◌, ◌<◌, ◌≤◌, List, [], ◌∷◌}
 use Rattle.std.specs.Int.{w16, w32}
-use Rattle.std.specs.List.{AllByRecursion, flat_map}
 use Rattle.orb_base.specs.Span.{Span}
 use Rattle.orb_base.specs.Priorities.{model_number}
 use Rattle.orb_base.specs.declared.priority_model.PriorityModel.{PriorityModel}
 use Rattle.cdr_core.specs.Field.{Field, number}
+use Rattle.cdr_core.specs.Lists.{list_fields, FitsList}
 
 -- a priority is 0 to 32767, so that as a short it isn't negative
 abbrev pub IsPriority : ℕ → Type 0
@@ -26,7 +26,7 @@ IsModelValue value = IsPriority value.1
 
 -- bands, as many as an unsigned long counts
 abbrev pub AreBands : List Span → Type 0
-AreBands bands = (length bands < 2 ^ 32) × AllByRecursion IsBand bands
+AreBands = FitsList IsBand
 
 -- a priority: one short
 abbrev pub priority_fields : ℕ → List Field
@@ -42,4 +42,4 @@ model_fields value = number w32 (model_number value.0) ∷ number w16 value.1 �
 
 -- bands: their number, and one band behind the other
 abbrev pub bands_fields : List Span → List Field
-bands_fields bands = number w32 (length bands) ∷ flat_map band_fields bands
+bands_fields = list_fields band_fields

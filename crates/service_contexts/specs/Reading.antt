@@ -1,12 +1,14 @@
 -- The reading of what contexts and policies carry, from left to right; what has no reading is None.
-use Rattle.std.specs.Prelude.{ℕ, zero, suc, ◌^◌, List, [], ◌∷◌, Option, Some, None, option_and_then, nat_lt}
+use Rattle.std.specs.Prelude.{ℕ, ◌^◌, List, Option, Some, None, option_and_then, nat_lt}
 use Rattle.std.specs.Prelude.{if◌then◌else◌}
+use Rattle.std.specs.Option.{ok_or}
 use Rattle.std.specs.Result.{result_ok}
 use Rattle.std.specs.Int.{w16, w32}
 use Rattle.orb_base.specs.Span.{Span}
 use Rattle.orb_base.specs.Priorities.{model_of}
 use Rattle.cdr_core.specs.Cursor.{Cursor}
 use Rattle.cdr_core.specs.Reading.{number_at, count_at, entered}
+use Rattle.cdr_core.specs.Sequence.{Parsed, times}
 use Rattle.service_contexts.specs.Layout.{ModelValue}
 
 -- a value and the cursor behind it, or no reading
@@ -39,19 +41,15 @@ model_at c = do
   level ← priority_at number.1
   Some ((model, level.0), level.1)
 
--- so many, one behind the other
-unfoldable pub times : {A : Type 0} → (Cursor → Taken A) → ℕ → Cursor → Taken (List A)
-times one zero c = Some ([], c)
-times one (suc n) c = do
-  first ← one c
-  others ← times one n first.1
-  Some (first.0 ∷ others.0, others.1)
+-- the same reading, whose one error is want of a value
+abbrev pub or_refused : {A : Type 0} → (Cursor → Taken A) → Cursor → Parsed (Unit {0}) A
+or_refused one c = ok_or (one c) tt
 
 -- bands behind their number
 unfoldable pub bands_at : Cursor → Taken (List Span)
 bands_at c = do
   count ← result_ok (count_at c)
-  times band_at count.0 count.1
+  result_ok (times (or_refused band_at) count.0 count.1)
 
 -- a value in the encapsulation that the bytes are; what stands behind it is ignored
 unfoldable pub carried : {A : Type 0} → (Cursor → Taken A) → List ℕ → Option A

@@ -2,9 +2,11 @@
 ghost use Rattle.std.specs.Prelude.{◌≡◌, ◌<◌, ◌^◌, ◌∷◌, [], length, IfOk, List};
 ghost use Rattle.std.specs.List.{flat_map};
 ghost use Rattle.std.specs.Option.{option_map};
+ghost use Rattle.std.specs.Result.{result_ok};
 ghost use Rattle.std.specs.Int.{w8, w32};
 ghost use Rattle.cdr_core.specs.Encapsulation.{encapsulation};
 ghost use Rattle.cdr_core.specs.Field.{number};
+ghost use Rattle.cdr_core.specs.Sequence.{times};
 ghost use Rattle.cdr_core.specs.Writing.{Puts};
 ghost use Rattle.orb_base.specs.Span.{Span};
 ghost use Rattle.orb_base.specs.declared.order.Order.TheVariants.{Big};
@@ -12,7 +14,7 @@ ghost use Rattle.service_contexts.specs.Carrying.{CarriesBands};
 ghost use Rattle.service_contexts.specs.Laws.{IsExactly};
 ghost use Rattle.service_contexts.specs.Layout.{band_fields, bands_fields};
 ghost use Rattle.service_contexts.specs.Moves.{Moves, items_of};
-ghost use Rattle.service_contexts.specs.Reading.{band_at, bands_at, carried, times};
+ghost use Rattle.service_contexts.specs.Reading.{band_at, bands_at, carried, or_refused};
 
 use crate::read::take_band;
 use crate::short::short_of;
@@ -91,7 +93,7 @@ fn take_so_many(
     reader: &mut Reader<'_>,
 ) -> Result<Option<orb_base::List<Band>>, NoMemory>
     ensures { IfOk result (λ bands.
-        Moves (option_map items_of bands) reader.new (times band_at count reader.old)) }
+        Moves (option_map items_of bands) reader.new (result_ok (times (or_refused band_at) count reader.old))) }
 {
     let mut bands = orb_base::List::new(alloc);
     for _ in 0..count {

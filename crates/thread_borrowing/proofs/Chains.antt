@@ -1,11 +1,12 @@
 -- The choice of a thread goes down the lanes.
 use Rattle.std.proofs.Common.{◌≡◌, ℕ, zero, suc, ◌+◌, ◌*◌, ◌<◌, ◌≤◌, Bool, true, false, if◌then◌else◌, ◌&&◌, ◌||◌, ◌==◌, List, Option, Some, None, inl, inr, refl, sym, ap, ◌∙◌, subst, arith}
+use Rattle.std.specs.Option.{option_or}
 use Rattle.std.specs.Prelude.{slice_get, position, nat_lt}
 use Rattle.std.proofs.lemmas.Option.{same_Some}
 use Rattle.std.proofs.lemmas.Bool.{and_parts, and_from, or_cases, or_left, or_right, or_from, both_ways, cases_lt, cases_order, eqb-true, eq-eqb, ltb-true, lt-ltb}
 use Rattle.thread_borrowing.specs.ThreadList.{Thread, is_free}
 use Rattle.thread_borrowing.specs.Choice.{first_greatest, may_run, standing, rank, can_start, chosen_thread}
-use Rattle.thread_borrowing.specs.Chain.{or_else, first_standing, in_lane, down_from, StandsBefore}
+use Rattle.thread_borrowing.specs.Chain.{first_standing, in_lane, down_from, StandsBefore}
 use Rattle.thread_borrowing.proofs.Places.{at_place, before_place, no_place, none_passes, at_first, first_is}
 use Rattle.thread_borrowing.proofs.Chosen.{chosen_is, chosen_first}
 
@@ -74,7 +75,7 @@ module _ {X : Type 0} where
 
   -- those of one test stand before those of the other
   else_top : (p q : X → Bool) (w : X → ℕ) (bound : ℕ) (xs : List X) (a b : Option ℕ) → ((x : X) → p x ≡ true → bound ≤ w x) → ((y : X) → q y ≡ true → w y < bound)
-      → IsTop p w xs a → IsTop q w xs b → IsTop (λ x. p x || q x) w xs (or_else a b)
+      → IsTop p w xs a → IsTop q w xs b → IsTop (λ x. p x || q x) w xs (option_or a b)
   else_top p q w bound xs None None above below s t = λ k x g. or_from (p x) (q x) (s k x g) (t k x g)
   else_top p q w bound xs None (Some i) above below s t =
       (t.0, t.1, or_right (p t.0) (q t.0) t.2, λ k y g e. t.3 k y g (or_second (p y) (q y) e (s k y g)))
@@ -128,7 +129,7 @@ lane_top lane threads =
     let dynamic = else_top (stands_here lane 1) (stands_here lane 0) rank (3 * lane + 1) threads (first_standing lane 1 threads) (first_standing lane 0 threads)
     (λ x e. let r = rank_here lane 1 x e in omega arith) (λ x e. let r = rank_here lane 0 x e in omega arith) (way 1) (way 0) in
     let all = else_top (stands_here lane 2) (λ x. stands_here lane 1 x || stands_here lane 0 x) rank (3 * lane + 2) threads (first_standing lane 2 threads)
-    (or_else (first_standing lane 1 threads) (first_standing lane 0 threads))
+    (option_or (first_standing lane 1 threads) (first_standing lane 0 threads))
     (λ x e. let r = rank_here lane 2 x e in omega arith)
     (λ x e. elim (or_cases (stands_here lane 1 x) (stands_here lane 0 x) e) [
       | inl t ↦ (let r = rank_here lane 1 x t in omega arith)
@@ -195,7 +196,7 @@ down_top false lane threads = alike_top (is_here lane) (can_start false lane) ra
     (λ x. ap (λ (b : Bool). is_free x.doing && b) (alone_runs x.lane lane)) (lane_top lane threads)
 down_top true zero threads = alike_top (is_here zero) (can_start true zero) rank threads (in_lane zero threads) starts_lowest (lane_top zero threads)
 down_top true (suc lane) threads =
-    alike_top (λ x. is_here (suc lane) x || can_start true lane x) (can_start true (suc lane)) rank threads (or_else (in_lane (suc lane) threads) (down_from true lane threads))
+    alike_top (λ x. is_here (suc lane) x || can_start true lane x) (can_start true (suc lane)) rank threads (option_or (in_lane (suc lane) threads) (down_from true lane threads))
     (starts_next lane)
     (else_top (is_here (suc lane)) (can_start true lane) rank (3 * suc lane) threads (in_lane (suc lane) threads) (down_from true lane threads)
     (rank_above (suc lane)) (rank_below lane) (lane_top (suc lane) threads) (down_top true lane threads))

@@ -1,13 +1,11 @@
 -- No two seats of a register have one heir, and none has the first seat.
 use Rattle.std.specs.Prelude.{◌≡◌, ℕ, Bool, true, false, ◌&&◌, nat_lt, ◌+◌, Option, Some, None, if◌then◌else◌}
+use Rattle.std.proofs.lemmas.Option.{same_Some}
 use Rattle.std.proofs.Common.{refl, sym, ap, ◌∙◌, arith}
 use Rattle.std.proofs.Math.Dec.{eqb}
 use Rattle.std.proofs.lemmas.Bool.{eqb-true}
 use Rattle.turn_cell.specs.Numbers.{Injects, NotFirst}
 use Rattle.turn_cell.specs.Register.{heir}
-
-some_is : (a b : ℕ) → ◌≡◌ {A = Option ℕ} (Some a) (Some b) → a ≡ b
-some_is a b e = ap (λ (o : Option ℕ). elim o [ Some x ↦ x | None ↦ a ]) e
 
 none_is : {A : Type 0} (b : ℕ) → ◌≡◌ {A = Option ℕ} None (Some b) → A
 none_is b e = absurd (cc)
@@ -15,7 +13,7 @@ none_is b e = absurd (cc)
 -- what an heir tells
 pub tells : (b c : Bool) (k p : ℕ) → ◌≡◌ {A = Option ℕ} (if b && c then Some (k + 1) else None) (Some p)
     → (b ≡ true) × (k + 1 ≡ p)
-tells true true k p e = (refl, some_is (k + 1) p e)
+tells true true k p e = (refl, same_Some (k + 1) p e)
 tells true false k p e = none_is p e
 tells false c k p e = none_is p e
 

@@ -1,4 +1,4 @@
-use Rattle.std.proofs.Common.{◌==◌, length, nat_le, sym}
+use Rattle.std.proofs.Common.{◌==◌, length, nat_le}
 use Rattle.giop_frames.specs.Pieces.{kind_of}
 use Rattle.giop_frames.proofs.Deeds.{found_as, none_as, cancels_it, stays, stays_open, short_no_cancel, cancel_as, no_cancel_as}
 use Rattle.giop_frames.proofs.Effects.{last_opens_none}

@@ -3,7 +3,7 @@ use Rattle.std.proofs.Common.{◌≡◌, ◌++◌, ◌∷◌, [], ap, ◌∙◌}
 use Rattle.std.specs.Int.{w32}
 use Rattle.cdr_core.specs.Field.{number, string_fields}
 use Rattle.cdr_core.specs.Writing.{Page, page, written}
-use Rattle.giop_messages.proofs.PutLaws.{written_both}
+use Rattle.cdr_core.proofs.CallerLemmas.{written_both}
 use Rattle.giop_messages.proofs.exceptions.spell.Goals as goal
 
 pub returns : goal.returns

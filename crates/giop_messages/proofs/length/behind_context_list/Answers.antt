@@ -2,7 +2,7 @@ use Rattle.std.proofs.Common.{◌≡◌, ◌∷◌, [], length, sym, ap, ◌∙�
 use Rattle.std.specs.Int.{w32}
 use Rattle.cdr_core.specs.Field.{number, octets_fields}
 use Rattle.orb_base.specs.Tagged.{Context}
-use Rattle.giop_messages.specs.Layout.{context_fields}
+use Rattle.cdr_core.specs.Lists.{context_fields}
 use Rattle.giop_messages.proofs.LengthLaws.{ends_then, ends_next}
 use Rattle.giop_messages.proofs.length.behind_context_list.Goals as goal
 

@@ -1,6 +1,6 @@
 use Rattle.std.proofs.Common.{take}
 use Rattle.std.specs.List.{flat_map}
-use Rattle.giop_messages.specs.Layout.{context_fields}
+use Rattle.cdr_core.specs.Lists.{context_fields}
 use Rattle.giop_messages.specs.Lengths.{Ends}
 use Rattle.giop_messages.proofs.length.behind_context_list.Given as goal
 

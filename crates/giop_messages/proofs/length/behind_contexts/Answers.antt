@@ -2,7 +2,7 @@ use Rattle.std.proofs.Common.{◌∷◌, [], length}
 use Rattle.std.specs.Int.{w32}
 use Rattle.std.specs.List.{flat_map}
 use Rattle.cdr_core.specs.Field.{number}
-use Rattle.giop_messages.specs.Layout.{context_fields}
+use Rattle.cdr_core.specs.Lists.{context_fields}
 use Rattle.giop_messages.proofs.LengthLaws.{ends_then}
 use Rattle.giop_messages.proofs.length.behind_contexts.Goals as goal
 

@@ -2,7 +2,7 @@ use Rattle.std.proofs.Common.{◌∷◌, ◌++◌, [], length}
 use Rattle.std.specs.Int.{w16, w32}
 use Rattle.std.specs.List.{flat_map}
 use Rattle.cdr_core.specs.Field.{number, string_fields}
-use Rattle.giop_messages.specs.Layout.{tagged_fields}
+use Rattle.cdr_core.specs.Lists.{tagged_fields}
 use Rattle.giop_messages.proofs.LengthLaws.{ends_then, ends_u16}
 use Rattle.giop_messages.proofs.length.behind_reference.Goals as goal
 

@@ -1,6 +1,6 @@
 use Rattle.std.proofs.Common.{take}
 use Rattle.std.specs.List.{flat_map}
-use Rattle.giop_messages.specs.Layout.{tagged_fields}
+use Rattle.cdr_core.specs.Lists.{tagged_fields}
 use Rattle.giop_messages.specs.Lengths.{Ends}
 use Rattle.giop_messages.proofs.length.behind_tagged_list.Given as goal
 

@@ -2,9 +2,9 @@ use Rattle.std.proofs.Common.{◌∷◌, ◌++◌, []}
 use Rattle.std.proofs.lemmas.Result.{err_from_is_err_and}
 use Rattle.std.specs.Int.{w16, w32}
 use Rattle.cdr_core.specs.Field.{number, string_fields}
-use Rattle.cdr_core.proofs.CallerLemmas.{puts_then, puts_first}
+use Rattle.cdr_core.proofs.CallerLemmas.{written_both, front_then, puts_then, puts_first}
 use Rattle.giop_messages.specs.Layout.{profiles_fields}
-use Rattle.giop_messages.proofs.PutLaws.{written_both, front_then, room_then, text_fits}
+use Rattle.giop_messages.proofs.PutLaws.{room_then, text_fits}
 use Rattle.giop_messages.proofs.part.put_addressing.Goals as goal
 
 pub returns-in_err-put_u16 : goal.returns-in_err-put_u16

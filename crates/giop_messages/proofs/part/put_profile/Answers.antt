@@ -3,7 +3,7 @@ use Rattle.std.proofs.lemmas.Result.{err_from_is_err_and}
 use Rattle.std.specs.Int.{w16}
 use Rattle.cdr_core.specs.Field.{number}
 use Rattle.cdr_core.proofs.CallerLemmas.{puts_then, puts_first}
-use Rattle.giop_messages.specs.Layout.{tagged_fields}
+use Rattle.cdr_core.specs.Lists.{tagged_fields}
 use Rattle.giop_messages.proofs.PutLaws.{room_then}
 use Rattle.giop_messages.proofs.part.put_profile.Goals as goal
 

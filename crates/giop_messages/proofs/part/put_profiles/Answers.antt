@@ -1,30 +1,5 @@
-use Rattle.std.proofs.Common.{◌∷◌, [], length, arith}
-use Rattle.std.proofs.lemmas.Result.{err_from_is_err_and}
-use Rattle.std.specs.Int.{w32}
-use Rattle.std.specs.List.{flat_map}
-use Rattle.cdr_core.specs.Field.{field_end, number}
-use Rattle.cdr_core.proofs.CallerLemmas.{puts_then, puts_first}
-use Rattle.giop_messages.specs.Layout.{tagged_fields}
-use Rattle.giop_messages.proofs.PutLaws.{room_then, few_tagged}
+use Rattle.giop_messages.proofs.PutLaws.{profiles_counted}
 use Rattle.giop_messages.proofs.part.put_profiles.Goals as goal
 
-pub overflow_cast-profiles : goal.overflow_cast-profiles
-overflow_cast-profiles c =
-    let xs = c.args.profiles.now in
-    omega (arith, c.requires, few_tagged (field_end c.args.into.now.place (number w32 (length xs))) xs)
-
-pub returns-in_err-put_u32 : goal.returns-in_err-put_u32
-returns-in_err-put_u32 c =
-    let p = err_from_is_err_and c.from_residual.result c.from_residual.ensures.1 in
-    rw p.1 (puts_first c.args.into.now c.put_u32.new.self (number w32 (length c.args.profiles.now) ∷ []) (flat_map tagged_fields c.args.profiles.now)
-    c.in_err-put_u32.ensures)
-
-pub put_tagged_list-requires : goal.put_tagged_list-requires
-put_tagged_list-requires c =
-    room_then c.args.into.now c.put_u32.new.self (number w32 (length c.args.profiles.now) ∷ []) (flat_map tagged_fields c.args.profiles.now)
-    c.in_ok-put_u32.ensures c.requires
-
-pub returns : goal.returns
-returns c =
-    puts_then c.put_tagged_list.result c.args.into.now c.put_u32.new.self c.put_tagged_list.new.into (number w32 (length c.args.profiles.now) ∷ []) (flat_map tagged_fields c.args.profiles.now)
-    c.in_ok-put_u32.ensures c.put_tagged_list.ensures
+pub put_list-requires : goal.put_list-requires
+put_list-requires c = profiles_counted c.args.into.now.place c.args.profiles.now c.requires

@@ -1,4 +1,4 @@
-use Rattle.giop_messages.proofs.PutLaws.{written_none}
+use Rattle.cdr_core.proofs.CallerLemmas.{written_none}
 use Rattle.giop_messages.proofs.write.put_fields.Goals as goal
 
 pub returns-in-Close : goal.returns-in-Close

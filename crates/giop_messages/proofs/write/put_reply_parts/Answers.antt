@@ -2,9 +2,9 @@ use Rattle.std.proofs.Common.{◌∷◌, ◌++◌, []}
 use Rattle.std.proofs.lemmas.Result.{err_from_is_err_and}
 use Rattle.std.specs.Int.{w32}
 use Rattle.cdr_core.specs.Field.{number}
-use Rattle.cdr_core.proofs.CallerLemmas.{puts_then, puts_first}
+use Rattle.cdr_core.proofs.CallerLemmas.{written_both, front_then, puts_then, puts_first}
 use Rattle.giop_messages.specs.Layout.{contexts_fields, body_fields}
-use Rattle.giop_messages.proofs.PutLaws.{written_both, front_then, room_between}
+use Rattle.giop_messages.proofs.PutLaws.{room_between}
 use Rattle.giop_messages.proofs.write.put_reply_parts.Goals as goal
 
 pub returns-in_err-put_u32 : goal.returns-in_err-put_u32

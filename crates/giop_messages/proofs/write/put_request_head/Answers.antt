@@ -2,8 +2,7 @@ use Rattle.std.proofs.Common.{◌∷◌, []}
 use Rattle.std.proofs.lemmas.Result.{err_from_is_err_and}
 use Rattle.std.specs.Int.{w8, w32}
 use Rattle.cdr_core.specs.Field.{number, run}
-use Rattle.cdr_core.proofs.CallerLemmas.{puts_then, puts_first}
-use Rattle.giop_messages.proofs.PutLaws.{written_both, front_then}
+use Rattle.cdr_core.proofs.CallerLemmas.{written_both, front_then, puts_then, puts_first}
 use Rattle.giop_messages.proofs.write.put_request_head.Goals as goal
 
 pub returns-in_err-put_u32 : goal.returns-in_err-put_u32

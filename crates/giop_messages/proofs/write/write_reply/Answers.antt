@@ -4,6 +4,7 @@ use Rattle.giop_messages.specs.Message.{reply_of}
 use Rattle.giop_messages.specs.Spelling.{spelled}
 use Rattle.giop_messages.specs.Lengths.{held}
 use Rattle.giop_messages.proofs.PutLaws.{length_known, length_least, message_room, message_put, header_front, nothing_put}
+use Rattle.giop_messages.proofs.RangeLaws.{reads_put}
 use Rattle.giop_messages.proofs.write.write_reply.Goals as goal
 
 pub returns-in_err-reserve-clause-memory : goal.returns-in_err-reserve-clause-memory
@@ -57,3 +58,8 @@ returns-clause-memory c =
     let len = length_known c.args.order message c.reply_len-len.result long c.requires.len in
     (message_put c.put_reply_parts.result c.args.order message (c.reply_len-len.result - 12) c.reserve.new.self c.put_reply_header.new.into c.put_reply_parts.new.into (c.reserve.ensures ∙ c.requires.empty) len
     c.in_ok-put_reply_header.ensures c.put_reply_parts.ensures).1
+
+pub returns-clause-reads_back : goal.returns-clause-reads_back
+returns-clause-reads_back c =
+    let message = reply_of c.args.id c.args.status c.args.contexts.now c.args.body.now in
+    reads_put c.put_reply_parts.result c.args.order message c.put_reply_parts.new.into.bytes (c.see_long.ensures, c.see_contexts.ensures) c.requires.status c.requires.len (returns-clause-ok c)

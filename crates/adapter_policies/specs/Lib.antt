@@ -1,0 +1,13 @@
+pub mod Schema
+pub mod Tables
+pub mod Document
+pub mod Found
+pub mod PoolRelations
+pub mod MapRelations
+pub mod NameRelations
+pub mod BandRelations
+pub mod PriorityRelations
+pub mod SetupData
+pub mod BuiltIn
+pub mod Index
+pub mod Configuration

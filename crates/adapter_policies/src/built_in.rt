@@ -1,0 +1,71 @@
+//! The setup without a configuration.
+ghost use Rattle.std.specs.Prelude.{◌≡◌, IfOk, codes};
+ghost use Rattle.adapter_policies.specs.BuiltIn.{built_in_pool, built_in_adapter, built_in_object};
+
+use crate::adapter_spec::AdapterSpec;
+use crate::object_spec::ObjectSpec;
+use orb_base::limits::{MAX_RUN_BYTES, MAX_RUN_CALLS};
+use orb_base::{LaneSpec, List, NoMemory, PoolSpec, Priority, PriorityModel, Text};
+use std::alloc::Global;
+
+/// The priority of the pool, the adapter and the object.
+fn priority() -> Priority
+    ensures { result ≡ 100 }
+{
+    Priority::new(100).unwrap()
+}
+
+/// A text without a NUL.
+fn text(alloc: Global, bytes: &[u8]) -> Result<Text, NoMemory>
+    ensures { IfOk result (λ t. t ≡ bytes.now) }
+{
+    Text::new(alloc, bytes).map_err(|_| NoMemory)
+}
+
+/// One static thread, without lanes and buffering.
+pub fn pool(alloc: Global) -> Result<PoolSpec, NoMemory>
+    ensures { IfOk result (λ p. p ≡ built_in_pool) }
+{
+    let lane = LaneSpec {
+        priority: priority(),
+        statics: 1,
+        dynamics: 0,
+    };
+    Ok(PoolSpec {
+        laned: false,
+        lanes: List::from_vec(Vec::from_slice(alloc, &[lane])?),
+        borrowing: false,
+        buffering: false,
+        max_requests: 0,
+        max_bytes: 0,
+        run_calls: MAX_RUN_CALLS,
+        run_bytes: MAX_RUN_BYTES,
+    })
+}
+
+/// The adapter `main`.
+pub fn adapter(alloc: Global) -> Result<AdapterSpec, NoMemory>
+    ensures { IfOk result (λ a. a ≡ built_in_adapter) }
+{
+    let name = text(alloc, b"main")?;
+    Ok(AdapterSpec {
+        name,
+        model: PriorityModel::ClientPropagated,
+        priority: priority(),
+        bands: List::new(alloc),
+    })
+}
+
+/// The object `ping`.
+pub fn object(alloc: Global) -> Result<ObjectSpec, NoMemory>
+    ensures { IfOk result (λ o. o ≡ built_in_object) }
+{
+    let key = text(alloc, b"ping")?;
+    let interface = text(alloc, b"IDL:Orb/Ping:1.0")?;
+    Ok(ObjectSpec {
+        key,
+        adapter: 0,
+        interface,
+        priority: priority(),
+    })
+}

@@ -1,0 +1,190 @@
+//! Setups.
+ghost use Rattle.std.specs.Prelude.{◌≡◌, ◌∷◌, [], IfOk, slice_get};
+ghost use Rattle.std.specs.Option.{option_copied};
+ghost use Rattle.orb_base.specs.Pool.{IsWellFormed};
+ghost use Rattle.adapter_policies.specs.BuiltIn.{built_in};
+ghost use Rattle.adapter_policies.specs.Index.{number_from};
+ghost use Rattle.adapter_policies.specs.MapRelations.{priority_map};
+ghost use Rattle.adapter_policies.specs.SetupData.{setup_of};
+
+use crate::adapter_spec::AdapterSpec;
+use crate::built_in;
+use crate::document::Document;
+use crate::index::indexed;
+use crate::making::{adapters_made, objects_made, pool_made};
+use crate::object_spec::ObjectSpec;
+use crate::pool_relations::{per_slot_of, slots_of};
+use orb_base::{NoMemory, PoolSpec, Text};
+use priority_maps::Map;
+use std::alloc::Global;
+use std::collections::HashMap;
+use std::marker::Model;
+
+/// What a broker serves, and how: its pool and the limits of a run, its map of priorities, its adapters and objects, each
+/// numbered from 0, and the files of its interfaces and scripts.
+#[derive(Drop)]
+pub struct Setup {
+    idl: Option<Text>,
+    scripts: Option<Text>,
+    mapping: Map,
+    pool: PoolSpec,
+    slots: u8,
+    per_slot: u8,
+    adapters: Vec<AdapterSpec>,
+    objects: Vec<ObjectSpec>,
+    /// The number of each object by its key.
+    numbers: HashMap<Vec<u8>, u16>,
+}
+
+impl Model for Setup {
+    ghost use Rattle.orb_base.specs.Pool.{IsWellFormed};
+    ghost use Rattle.adapter_policies.specs.Index.{IsIndexed};
+    ghost use Rattle.adapter_policies.specs.SetupData.{SetupData};
+
+    ghost Value = { SetupData };
+
+    ghost view = { λ s. record {
+      idl = s.idl;
+      scripts = s.scripts;
+      mapping = s.mapping;
+      pool = s.pool;
+      slots = s.slots;
+      per_slot = s.per_slot;
+      adapters = s.adapters.items;
+      objects = s.objects.items;
+    } };
+
+    ghost invariant = { λ s. IsIndexed s.numbers 0 s.objects.items × IsWellFormed s.pool };
+}
+
+impl Setup {
+    /// The setup without a configuration: a pool of one static thread without lanes, with the default priority 100 and no buffering;
+    /// one slot and the greatest run limits; each priority its own native one; the adapter `main`, CLIENT_PROPAGATED at 100, and
+    /// its object `ping` of `IDL:Orb/Ping:1.0`.
+    pub fn built_in(alloc: Global) -> Result<Setup, NoMemory>
+        ensures { IfOk result (λ s. s ≡ built_in) }
+    {
+        let adapters = one(alloc, built_in::adapter(alloc)?)?;
+        let objects = one(alloc, built_in::object(alloc)?)?;
+        let pool = built_in::pool(alloc)?;
+        if !pool.well_formed() {
+            return Err(NoMemory);
+        }
+        let numbers = indexed(alloc, objects.as_slice())?;
+        Ok(Setup {
+            idl: None,
+            scripts: None,
+            mapping: Map::identity(),
+            pool,
+            slots: 1,
+            per_slot: 128,
+            adapters,
+            objects,
+            numbers,
+        })
+    }
+
+    /// The number of the object of a key, counted from 0. None exactly where no object has it. Takes no memory; the work is that
+    /// of one look-up by the key's hash.
+    #[tactic(auto, unfolding(crate::specs::Index::IsIndexed))]
+    pub fn find(&self, key: &[u8]) -> Option<u16>
+        ensures { result ≡ number_from 0 self.now.objects key.now }
+    {
+        self.numbers.get(key).copied()
+    }
+
+    /// The object of a number, if it is there.
+    pub fn object(&self, n: u16) -> Option<&ObjectSpec>
+        ensures { option_copied result ≡ slice_get self.now.objects n }
+    {
+        self.objects.get(usize::from(n))
+    }
+
+    /// The adapter of a number, if it is there.
+    pub fn adapter(&self, n: u8) -> Option<&AdapterSpec>
+        ensures { option_copied result ≡ slice_get self.now.adapters n }
+    {
+        self.adapters.get(usize::from(n))
+    }
+
+    /// The pool and the limits of a run. It can be opened.
+    pub fn pool(&self) -> &PoolSpec
+        ensures value { result.now ≡ self.now.pool }
+        ensures well_formed { IsWellFormed result.now }
+    {
+        &self.pool
+    }
+
+    /// The map of priorities.
+    pub fn map(&self) -> &Map
+        ensures { result.now ≡ self.now.mapping }
+    {
+        &self.mapping
+    }
+
+    /// How many slots serve connections, 1 to 16.
+    pub fn slots(&self) -> u8
+        ensures { result ≡ self.now.slots }
+    {
+        self.slots
+    }
+
+    /// How many connections each slot serves, 1 to 128.
+    pub fn per_slot(&self) -> u8
+        ensures { result ≡ self.now.per_slot }
+    {
+        self.per_slot
+    }
+
+    /// The name of the file of interfaces, if there is one.
+    pub fn idl(&self) -> Option<&Text>
+        ensures { option_copied result ≡ self.now.idl }
+    {
+        self.idl.as_ref()
+    }
+
+    /// The name of the file of scripts, if there is one.
+    pub fn scripts(&self) -> Option<&Text>
+        ensures { option_copied result ≡ self.now.scripts }
+    {
+        self.scripts.as_ref()
+    }
+}
+
+/// The setup that a document describes, with the defaults of what it doesn't say.
+pub fn setup_made(alloc: Global, document: Document, mapping: Map) -> Result<Setup, NoMemory>
+    requires { mapping ≡ priority_map document.mapping }
+    ensures { IfOk result (λ s. s ≡ setup_of document) }
+{
+    let pool = pool_made(alloc, &document.pool, document.server)?;
+    if !pool.well_formed() {
+        return Err(NoMemory);
+    }
+    let adapters = adapters_made(alloc, document.adapters.as_slice())?;
+    let objects = objects_made(
+        alloc,
+        document.adapters.as_slice(),
+        document.objects.as_slice(),
+    )?;
+    let numbers = indexed(alloc, objects.as_slice())?;
+    Ok(Setup {
+        idl: document.idl,
+        scripts: document.scripts,
+        mapping,
+        pool,
+        slots: slots_of(document.server),
+        per_slot: per_slot_of(document.server),
+        adapters,
+        objects,
+        numbers,
+    })
+}
+
+/// The list of one thing.
+fn one<T: Drop>(alloc: Global, x: T) -> Result<Vec<T>, NoMemory>
+    ensures { IfOk result (λ xs. xs.items ≡ x ∷ []) }
+{
+    let mut xs = Vec::new(alloc);
+    xs.push(x)?;
+    Ok(xs)
+}

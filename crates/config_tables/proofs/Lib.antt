@@ -1,0 +1,5 @@
+pub mod Known
+pub mod Judging
+pub mod Reading
+pub mod Tables
+pub mod Each

@@ -1,0 +1,9 @@
+pub mod Path
+pub mod Fault
+pub mod Rules
+pub mod Keys
+pub mod Held
+pub mod Standing
+pub mod Values
+pub mod Judging
+pub mod Means

@@ -1,7 +1,0 @@
-use Rattle.std.proofs.Common.{◌≡◌, ◌-◌}
-use Rattle.giop_messages.specs.MessageReading.{times, tagged_at}
-use Rattle.giop_messages.proofs.PartLoop.{with_front}
-use Rattle.giop_messages.proofs.read_parts.profiles_of.Given as goal
-
-abbrev pub invariant-loop : goal.invariant-loop
-invariant-loop l = with_front l.profiles.items (times tagged_at (l.count - l.counter) l.reader) ≡ times tagged_at l.count l.initial.reader

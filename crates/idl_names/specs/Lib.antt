@@ -1,0 +1,10 @@
+pub mod Sizes
+pub mod State
+pub mod Changes
+pub mod ScopedNames
+pub mod Values
+pub mod Bodies
+pub mod Interfaces
+pub mod Labels
+pub mod Declaring
+pub mod Views

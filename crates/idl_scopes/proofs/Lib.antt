@@ -1,0 +1,10 @@
+pub mod Places
+pub mod Outwards
+pub mod Within
+pub mod AmongScopes
+pub mod AnyOf
+pub mod FirstBase
+pub mod AddedKeys
+pub mod FinishedPlaces
+pub mod BaseScopes
+pub mod NotTaken

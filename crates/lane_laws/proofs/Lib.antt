@@ -1,0 +1,6 @@
+pub mod Marks
+pub mod Tallies
+pub mod Room
+pub mod Ending
+pub mod Served
+pub mod Done

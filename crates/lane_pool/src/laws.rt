@@ -1,0 +1,20 @@
+//! What holds whenever nobody has the turn.
+ghost use Rattle.std.specs.Prelude.{◌≡◌};
+ghost use Rattle.turn_cell.specs.declared.board.Terms.{Terms};
+ghost use Rattle.turn_cell.specs.Good.{Good};
+ghost use Rattle.lane_machine.specs.State.{State, Opens};
+ghost use Rattle.lane_machine.specs.Machine.{step};
+ghost use Rattle.lane_machine.specs.Readiness.{is_ready, IsSound};
+ghost use Rattle.lane_machine.specs.Callers.{IsFit};
+ghost use Rattle.lane_machine.specs.Histories.{History, replay};
+ghost use Rattle.lane_pool.specs.Limits.{KeepsLimits};
+
+use lane_machine::within_limits;
+
+/// Behind what a pass sees, and behind the history that a pool gives at its end, the limits of the lane machine are kept.
+pub fn limits_are_kept()
+    ensures { (terms : Terms State) (h : History) → Good is_ready IsSound step Opens IsFit terms h
+        → KeepsLimits terms.opening (replay terms.opening h) }
+{
+    within_limits();
+}
