@@ -9,3 +9,6 @@ mod sizes;
 pub use sizes::{
     SizedType, array_of, arrays_of, basic_type, copy_sized, leaf, plus, sequence_of, times,
 };
+
+#[cfg(test)]
+mod tests;
