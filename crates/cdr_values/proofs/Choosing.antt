@@ -1,7 +1,8 @@
 -- The case of a union that a number chooses, in the tree of its type.
 use Rattle.std.proofs.Common.{◌≡◌, ℕ, ℤ, suc, ◌+◌, Bool, true, false, not, cond, ltb, List, [], ◌∷◌, map, length, Option, Some, None, refl, sym, ap, ◌∙◌}
 use Rattle.std.specs.Option.{option_or}
-use Rattle.std.specs.List.{position, prefix_len}
+use Rattle.std.specs.List.{position}
+use Rattle.orb_base.proofs.Places.{position_map}
 use Rattle.cdr_values.specs.declared.kind.Case.{Case}
 use Rattle.cdr_values.specs.declared.kind.IdlType.TheFolds.{fold_out-Case}
 use Rattle.cdr_values.specs.Trees.{Kind, Branch, cases_of}
@@ -11,17 +12,6 @@ use Rattle.cdr_values.specs.Choice.{has_label, branches, choose}
 pub branches_back : (bs : List Branch) → branches (cases_of bs) ≡ bs
 branches_back [] = refl
 branches_back (b ∷ bs) = ap (λ (cs : List Branch). b ∷ cs) (branches_back bs)
-
-length_map : {X Y : Type 0} (f : X → Y) (xs : List X) → length (map f xs) ≡ length xs
-length_map f [] = refl
-length_map f (x ∷ xs) = ap suc (length_map f xs)
-
-prefix_len_map : {X Y : Type 0} (q : Y → Bool) (p : X → Bool) (f : X → Y) → ((x : X) → q (f x) ≡ p x) → (xs : List X) → prefix_len q (map f xs) ≡ prefix_len p xs
-prefix_len_map q p f same [] = refl
-prefix_len_map q p f same (x ∷ xs) = rw (same x, prefix_len_map q p f same xs) refl
-
-position_map : {X Y : Type 0} (q : Y → Bool) (p : X → Bool) (f : X → Y) → ((x : X) → q (f x) ≡ p x) → (xs : List X) → position q (map f xs) ≡ position p xs
-position_map q p f same xs = rw (length_map f xs, prefix_len_map (λ y. not (q y)) (λ x. not (p x)) f (λ x. ap not (same x)) xs) refl
 
 pub labels_of : (c : Case) → (case_of c).0 ≡ c.labels.items
 labels_of c = ap (λ (x : Branch). x.0) (fold_out-Case Kind Branch (List ℕ × Kind) kind_step case_step member_step c)

@@ -1,19 +1,12 @@
 -- What a whole piece does to the unfinished messages, by its kind and its fragment bit.
 use Rattle.std.proofs.Common.{◌≡◌, ℕ, ◌≤◌, Bool, true, false, cond, not, ◌&&◌, ◌||◌, ◌==◌, List, [], ◌∷◌, ◌++◌, length, None, refl, ap, sym, ◌∙◌, arith, map, filter, nat_le}
+use Rattle.std.proofs.Math.Bool.{and-false, or-false}
 use Rattle.std.proofs.lemmas.List.{append-nil, map-append}
 use Rattle.std.proofs.lemmas.List.Elements.{filter-append}
 use Rattle.giop_frames.specs.Pieces.{Piece, order_of, has_more, kind_of, id_of}
 use Rattle.giop_frames.specs.Messages.{Partial, is_fragment, opens, continues, cancels, ends, added, begun, open_at}
 use Rattle.giop_frames.specs.Running.{grown, opened, stepped}
 use Rattle.giop_frames.proofs.Places.{filter_quiet, map_quiet, same}
-
-pub and_false : (b : Bool) → (b && false) ≡ false
-and_false true = refl
-and_false false = refl
-
-or_false : (b : Bool) → (b || false) ≡ b
-or_false true = refl
-or_false false = refl
 
 and_true : (b : Bool) → (b && true) ≡ b
 and_true true = refl
@@ -36,9 +29,9 @@ ends_by v b c m d hc hm hd =
 -- a piece leaves alone the messages of other ids
 pub quiet : (v : ℕ) (b : List ℕ) → (v == id_of b) ≡ false → (ends v b ≡ false) × (continues v b ≡ false)
 quiet v b h =
-    let c : continues v b ≡ false = continues_by v b (is_fragment b) false refl h ∙ and_false (is_fragment b) in
+    let c : continues v b ≡ false = continues_by v b (is_fragment b) false refl h ∙ and-false (is_fragment b) in
     let d : cancels v b ≡ false = cancels_by v b (kind_of b == 2) (nat_le 16 (length b)) false refl refl h
-    ∙ ap (λ (x : Bool). (kind_of b == 2) && x) (and_false (nat_le 16 (length b))) ∙ and_false (kind_of b == 2) in
+    ∙ ap (λ (x : Bool). (kind_of b == 2) && x) (and-false (nat_le 16 (length b))) ∙ and-false (kind_of b == 2) in
     (ends_by v b false (has_more b) false c refl d, c)
 
 opens_by : (b : List ℕ) (m f : Bool) → has_more b ≡ m → is_fragment b ≡ f → opens b ≡ (m && not f)
@@ -49,7 +42,7 @@ pub opens_first : (b : List ℕ) → has_more b ≡ true → is_fragment b ≡ f
 opens_first b hm hf = opens_by b true false hm hf
 
 pub fragment_opens_none : (b : List ℕ) → is_fragment b ≡ true → opens b ≡ false
-fragment_opens_none b hf = opens_by b (has_more b) true refl hf ∙ and_false (has_more b)
+fragment_opens_none b hf = opens_by b (has_more b) true refl hf ∙ and-false (has_more b)
 
 pub last_opens_none : (b : List ℕ) → has_more b ≡ false → opens b ≡ false
 last_opens_none b hm = opens_by b false (is_fragment b) hm refl
@@ -74,7 +67,7 @@ fragment_cancels : (v : ℕ) (b : List ℕ) → is_fragment b ≡ true → cance
 fragment_cancels v b hf = cancels_by v b false (nat_le 16 (length b)) (v == id_of b) (fragment_kind b hf) refl refl
 
 pub middle_ends : (v : ℕ) (b : List ℕ) → is_fragment b ≡ true → has_more b ≡ true → ends v b ≡ false
-middle_ends v b hf hm = ends_by v b (continues v b) true false refl hm (fragment_cancels v b hf) ∙ or_false (continues v b && false) ∙ and_false (continues v b)
+middle_ends v b hf hm = ends_by v b (continues v b) true false refl hm (fragment_cancels v b hf) ∙ or-false (continues v b && false) ∙ and-false (continues v b)
 
 pub last_ends : (v : ℕ) (b : List ℕ) → is_fragment b ≡ true → has_more b ≡ false → (v == id_of b) ≡ true → ends v b ≡ true
 last_ends v b hf hm h = ends_by v b true false false (fragment_continues v b hf h) hm (fragment_cancels v b hf)

@@ -8,7 +8,7 @@ use Rattle.idl_scopes.specs.Finding.{is_at}
 use Rattle.idl_scopes.specs.Views.{known_of, declared_of, sort_of}
 use Rattle.idl_scopes.specs.declared.known.Known.{Known}
 use Rattle.idl_scopes.specs.declared.scopes.Declared.{Declared}
-use Rattle.idl_scopes.proofs.Places.{any_map}
+use Rattle.orb_base.proofs.Places.{any_map}
 
 adds_behind : (eq : Known → Known → Bool) (k : Known) (ks : List Known) → ((x : Known) → eq k x ≡ is_at k.scope k.name.items (known_of x))
     → list_any (is_at k.scope k.name.items) (map known_of ks) ≡ false → map known_of (insert_key eq ks k) ≡ map known_of ks ++ known_of k ∷ []

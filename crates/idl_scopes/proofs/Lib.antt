@@ -1,4 +1,3 @@
-pub mod Places
 pub mod Outwards
 pub mod Within
 pub mod AmongScopes

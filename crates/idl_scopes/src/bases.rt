@@ -135,7 +135,7 @@ impl Scopes {
 
     /// Whether a further base, which gives the later scopes, gives another thing of a name than the bases before it, which
     /// give the earlier ones. For a first base nothing is looked up, and else each name of the text once or twice.
-    #[tactic(auto, using(crate::proofs::Places::any_map, crate::proofs::FirstBase::first_base))]
+    #[tactic(auto, using(orb_base::proofs::Places::any_map, crate::proofs::FirstBase::first_base))]
     pub fn bases_clash(&self, earlier: &[usize], later: &[usize]) -> Result<bool, NoMemory>
         ensures { IfOk result (λ b. b ≡ bases_clash (table_of self.now) earlier.now later.now) }
     {

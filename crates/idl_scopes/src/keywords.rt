@@ -67,7 +67,7 @@ fn keywords() -> &'static [Keyword]
 }
 
 /// Whether a keyword of a table is this.
-#[tactic(auto, using(crate::proofs::Places::any_map))]
+#[tactic(auto, using(orb_base::proofs::Places::any_map))]
 fn is_among(table: &[Keyword], name: &[u8]) -> bool
     ensures { result ≡ list_any (λ k. bytes_eq k.text.now name.now) table.now }
 {
@@ -75,7 +75,7 @@ fn is_among(table: &[Keyword], name: &[u8]) -> bool
 }
 
 /// Whether a name in lower case is a keyword.
-#[tactic(auto, using(crate::proofs::Places::any_map))]
+#[tactic(auto, using(orb_base::proofs::Places::any_map))]
 pub(crate) fn is_keyword(name: &[u8]) -> bool
     ensures { result ≡ Table.is_keyword name.now }
 {

@@ -168,7 +168,8 @@ taken_once conn serial s h o l = let a = runs conn serial s h l in let b : weigh
 abbrev Named : History → Type 0
 Named h = (conn : ConnId) (serial : ℕ) → (admitted conn serial h ≤ 1) × (heard_calls conn (of (slot_seat conn.slot) h) ≤ serial → admitted conn serial h ≡ 0)
 
-heard_push : (conn : ConnId) (h : History) (e : One) → heard_calls conn (h ++ e ∷ []) ≡ heard_calls conn h + cond (is_heard conn e.call) 1 0
+-- how many calls are heard of a connection grows by the last call
+pub heard_push : (conn : ConnId) (h : History) (e : One) → heard_calls conn (h ++ e ∷ []) ≡ heard_calls conn h + cond (is_heard conn e.call) 1 0
 heard_push conn h e = sum_by_push (λ (x : One). cond (is_heard conn x.call) 1 0) h e
 
 heard_grow : (conn : ConnId) (n : ℕ) (h : History) (e : One) → heard_calls conn (of n h) ≤ heard_calls conn (of n (h ++ e ∷ []))

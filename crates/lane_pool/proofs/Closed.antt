@@ -1,6 +1,6 @@
 -- Whether a call of a connection was answered Closing, behind one more call.
 use Rattle.std.proofs.Common.{◌≡◌, ℕ, Bool, true, false, eqb, ◌&&◌, ◌||◌, [], ◌∷◌, ◌++◌, sym, refl, ap, ◌∙◌, ne_eqb}
-use Rattle.std.proofs.Math.Bool.{or-false}
+use Rattle.std.proofs.Math.Bool.{or-false, and-false}
 use Rattle.std.proofs.lemmas.Bool.{and_parts, eqb-true}
 use Rattle.turn_cell.specs.Good.{entry}
 use Rattle.orb_base.specs.Conn.{same_conn}
@@ -28,11 +28,7 @@ other_push conn mine e h = closed_push conn mine e ∙ (ap (λ (b : Bool). was_c
 other_conn : (conn other : ConnId) (c : ConnId) → same_conn c conn ≡ true → (conn.nth ≡ other.nth → ⊥) → same_conn c other ≡ false
 other_conn conn other c h d =
     let nth : c.nth ≡ conn.nth = eqb-true c.nth conn.nth (and_parts (eqb c.slot conn.slot) (eqb c.nth conn.nth) h).1 in
-    ap (λ (b : Bool). eqb c.slot other.slot && b) (ne_eqb c.nth other.nth (λ e. d (sym nth ∙ e))) ∙ and_false (eqb c.slot other.slot)
-  where
-    and_false : (b : Bool) → (b && false) ≡ false
-    and_false true = refl
-    and_false false = refl
+    ap (λ (b : Bool). eqb c.slot other.slot && b) (ne_eqb c.nth other.nth (λ e. d (sym nth ∙ e))) ∙ and-false (eqb c.slot other.slot)
 
 -- what is heard of a connection is heard of no other
 pub other_heard : (conn other : ConnId) (call : LaneCall) → is_heard conn call ≡ true → (conn.nth ≡ other.nth → ⊥) → is_heard other call ≡ false

@@ -18,6 +18,7 @@ use Rattle.lane_machine.specs.Readiness.{is_ready, IsSound, HasLane}
 use Rattle.lane_machine.specs.Callers.{IsFit, IsReading, slot_seat, worker_seat, writer_seat, ends, has_leave, heard_calls, was_closed, latest, may_take, may_collect, is_end, is_leave, is_heard, is_closing}
 use Rattle.lane_machine.specs.Entries.{One, latest_push, ends_push, leave_push}
 use Rattle.lane_machine.specs.Histories.{History}
+use Rattle.lane_machine.proofs.Fates.{heard_push}
 use Rattle.lane_machine.specs.declared.call.How.{How}
 use Rattle.lane_machine.specs.declared.call.LaneCall.{LaneCall}
 use Rattle.lane_machine.specs.declared.call.LaneCall.TheVariants.{Offer, Post, Cancel, Take, Finish, Collect, End, Leave}
@@ -42,9 +43,6 @@ ends_more mine new n call r f w = let c : ◌≡◌ {A = ℕ} (cond (is_end call
 
 leave_same : (mine new : History) (n : ℕ) (call : LaneCall) (r : LaneReply) → is_leave call ≡ false → has_leave mine ≡ false → new ≡ mine ++ entry n call r ∷ [] → has_leave new ≡ false
 leave_same mine new n call r f s w = ap has_leave w ∙ (leave_push mine (entry n call r) ∙ (ap (λ (z : Bool). has_leave mine || (z || false)) f ∙ ap (λ (z : Bool). z || (false || false)) s))
-
-heard_push : (conn : ConnId) (h : History) (e : One) → heard_calls conn (h ++ e ∷ []) ≡ heard_calls conn h + cond (is_heard conn e.call) 1 0
-heard_push conn h e = sum_by_push (λ (x : One). cond (is_heard conn x.call) 1 0) h e
 
 heard_same : (conn : ConnId) (mine new : History) (n : ℕ) (call : LaneCall) (r : LaneReply) → is_heard conn call ≡ false → new ≡ mine ++ entry n call r ∷ [] → heard_calls conn new ≡ heard_calls conn mine
 heard_same conn mine new n call r f w = let c : ◌≡◌ {A = ℕ} (cond (is_heard conn call) 1 0) 0 = ap (λ (z : Bool). cond {A = ℕ} z 1 0) f in let a = heard_push conn mine (entry n call r) in let b : heard_calls conn new ≡ heard_calls conn (mine ++ entry n call r ∷ []) = ap (heard_calls conn) w in omega arith

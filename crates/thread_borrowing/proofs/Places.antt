@@ -7,11 +7,8 @@ use Rattle.std.proofs.lemmas.List.Quantifiers.{position-Some}
 use Rattle.std.proofs.lemmas.List.Sums.{sum_by-set, sum_by-remove}
 use Rattle.std.proofs.lemmas.List.Folds.{find_at}
 use Rattle.std.proofs.lemmas.Bool.{ltb-true, ltb-false, cases_Bool, cases_lt, eqb-true, eq-eqb, and_parts, and_from, both_ways, not-true}
+use Rattle.orb_base.proofs.Places.{cond_is_none}
 use Rattle.thread_borrowing.specs.Choice.{greatest, first_greatest}
-
-some_none : (b : Bool) (n : ℕ) → cond b (Some n) None ≡ None → b ≡ false
-some_none true n e = absurd (none-some n (sym e))
-some_none false n e = refl
 
 module _ {X : Type 0} where
   -- what stands at a place that was looked up
@@ -39,7 +36,7 @@ module _ {X : Type 0} where
 
   -- where no place was found
   pub no_place : (p : X → Bool) (xs : List X) (k : ℕ) (x : X) → position p xs ≡ None → slice_get xs k ≡ Some x → p x ≡ false
-  no_place p xs k x e g = let f = some_none (ltb (position_or_len p xs) (length xs)) (position_or_len p xs) e in
+  no_place p xs k x e g = let f = cond_is_none (ltb (position_or_len p xs) (length xs)) (position_or_len p xs) e in
       not-true (p x) (all_pass (λ y. not (p y)) xs k x (ltb-false (position_or_len p xs) (length xs) f) g)
 
   pub sum_set : (f : X → ℕ) (xs : List X) (i : ℕ) (x y : X) → slice_get xs i ≡ Some x → sum_by f (slice_set xs i y) + f x ≡ sum_by f xs + f y

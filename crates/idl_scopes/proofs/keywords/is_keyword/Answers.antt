@@ -2,7 +2,7 @@ use Rattle.std.proofs.Common.{◌∙◌, sym, ap}
 use Rattle.std.specs.List.{list_any}
 use Rattle.std.specs.Str.{bytes_eq}
 use Rattle.idl_scopes.specs.Keywords.{text_of}
-use Rattle.idl_scopes.proofs.Places.{any_map}
+use Rattle.orb_base.proofs.Places.{any_map}
 use Rattle.idl_scopes.proofs.keywords.is_keyword.Goals as goal
 
 pub returns : goal.returns

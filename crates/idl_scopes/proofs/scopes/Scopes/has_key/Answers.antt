@@ -1,7 +1,7 @@
 use Rattle.std.proofs.Common.{◌∙◌, sym}
 use Rattle.idl_scopes.specs.Finding.{is_at}
 use Rattle.idl_scopes.specs.Views.{known_of}
-use Rattle.idl_scopes.proofs.Places.{any_map}
+use Rattle.orb_base.proofs.Places.{any_map}
 use Rattle.idl_scopes.proofs.scopes.Scopes.has_key.Goals as goal
 
 pub returns : goal.returns
