@@ -54,18 +54,18 @@ fn table_made(alloc: Global, rows: &[RowTable]) -> Result<Option<Map>, NoMemory>
         (λ m. (rows_rise None rows.now ≡ true) × (m ≡ table (map row_made rows.now)))) }
 {
     match rising_rows(alloc, rows) {
-        Ok(Some(rows)) => Ok(Some(table_of(alloc, rows))),
+        Ok(Some(rows)) => Ok(Some(table_of(alloc, rows)?)),
         Ok(None) => Ok(None),
         Err(e) => Err(e),
     }
 }
 
 /// The table map of rows that rise.
-fn table_of(alloc: Global, rows: List<MapRow>) -> Map
+fn table_of(alloc: Global, rows: List<MapRow>) -> Result<Map, NoMemory>
     requires { Rises rows.items }
-    ensures { result ≡ table rows.items }
+    ensures { IfOk result (λ m. m ≡ table rows.items) }
 {
-    Map::table(alloc, rows).unwrap()
+    Ok(Map::table(alloc, rows)?.unwrap())
 }
 
 /// The rows of a table map, where they rise.

@@ -1,16 +1,11 @@
 -- Which types may stand where: CORBA 3.0.3, chapter 3, constant declarations and unions.
 use Rattle.std.specs.Prelude.{Bool, true, false}
-use Rattle.cdr_values.specs.Trees.{size1, boolean, char, unsigned, signed, enumeration, Scalar, Kind, scalar, words}
+use Rattle.cdr_values.specs.Lawful.{is_tag}
+use Rattle.cdr_values.specs.Trees.{enumeration, Scalar, Kind, scalar, words}
 
--- a union switches on an integer type, char, boolean or an enum; an octet is no integer type
-abbrev pub may_switch_scalar : Scalar → Bool
-may_switch_scalar (unsigned size1) = false
-may_switch_scalar k = true
-
--- only a scalar may stand behind `switch`
+-- a union switches on what a lawful type's union may: an integer type, char, boolean or an enum; an octet is no integer type
 abbrev pub may_switch : Kind → Bool
-may_switch (scalar k) = may_switch_scalar k
-may_switch kind = false
+may_switch kind = is_tag kind
 
 -- a constant is of an integer type, octet, char, boolean or string
 abbrev pub may_be_constant_scalar : Scalar → Bool

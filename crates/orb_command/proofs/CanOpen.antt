@@ -4,7 +4,7 @@ use Rattle.std.specs.List.{slice_index_or}
 use Rattle.orb_base.specs.Pool.{lane_threads}
 use Rattle.orb_base.specs.declared.lane_spec.LaneSpec.{LaneSpec}
 use Rattle.lane_machine.specs.State.{CanOpen}
-use Rattle.orb_command.specs.Setup.{built_in_pool}
+use Rattle.adapter_policies.specs.BuiltIn.{built_in_pool}
 
 each_has_threads : (k : ℕ) (d : LaneSpec) → k < 1 → 0 < lane_threads (slice_index_or built_in_pool.lanes k d)
 each_has_threads zero d near = lit< tt

@@ -22,7 +22,8 @@ use Rattle.giop_messages.specs.MessageReading.{IsMessage}
 use Rattle.giop_messages.specs.Answers.{Fails}
 use Rattle.giop_messages.proofs.OneReading.{reads_one_way}
 use Rattle.lane_machine.specs.declared.call.LaneCall.TheVariants.{Offer}
-use Rattle.orb_command.specs.Setup.{built_in, pipe_conn}
+use Rattle.orb_command.specs.Setup.{pipe_conn}
+use Rattle.adapter_policies.specs.BuiltIn.{built_in, built_in_adapter, built_in_object}
 use Rattle.orb_command.specs.Ping.{ping_request}
 use Rattle.orb_command.specs.Heard.{bind_operation, IsOffered, IsHeard, HearsEach}
 use Rattle.orb_command.specs.declared.request.TheConstants.{MAX_PIPED}
@@ -57,12 +58,15 @@ another_name same = let longer : ◌≡◌ {A = ℕ} 7 19 = ap length same in om
 is_offered : (serial : ℕ) (order : Order) (size id : ℕ) → IsOffered built_in pipe_conn serial order size (ping_request id) (Offer (ping_job serial order size id))
 is_offered serial order size id = record {
   target = 0;
-  object = record { object_key = codes "ping"; interface = codes "IDL:Orb/Ping:1.0"; model = _; server = 100 };
+  object = built_in_object;
+  adapter = built_in_adapter;
   lane = 0;
   known = refl;
+  served = refl;
   addressed = refl;
   plain = refl;
   no_bind = another_name;
+  mapped = tt;
   placed = refl;
   meant = refl;
 }

@@ -22,7 +22,8 @@ use Rattle.lane_machine.specs.Machine.{step, is_over, offered}
 use Rattle.lane_machine.specs.Readiness.{owed}
 use Rattle.turn_cell.specs.declared.entry.Entry.{Entry}
 use Rattle.lane_machine.specs.Histories.{History, replay, IsLegal}
-use Rattle.orb_command.specs.Setup.{built_in, pipe_conn, interface_of}
+use Rattle.orb_command.specs.Setup.{pipe_conn, interface_of}
+use Rattle.adapter_policies.specs.BuiltIn.{built_in}
 use Rattle.orb_command.specs.Said.{call_bytes, said, item_bytes}
 use Rattle.orb_command.specs.Piped.{Run, settled, grouped, answer_of}
 use Rattle.orb_command.specs.Stops.{has_closing, has_end}

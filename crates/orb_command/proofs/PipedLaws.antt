@@ -38,7 +38,8 @@ use Rattle.orb_command.specs.declared.ends.ReadEnd.{ReadEnd}
 use Rattle.orb_command.specs.declared.ends.ReadEnd.TheVariants as read
 use Rattle.orb_command.specs.declared.ends.WriteEnd.{WriteEnd}
 use Rattle.orb_command.specs.declared.ends.WriteEnd.TheVariants as write
-use Rattle.orb_command.specs.Setup.{built_in, pipe_conn}
+use Rattle.orb_command.specs.Setup.{pipe_conn}
+use Rattle.adapter_policies.specs.BuiltIn.{built_in}
 use Rattle.orb_command.specs.Said.{item_bytes, call_bytes, said}
 use Rattle.orb_command.specs.Piped.{Run, closed_by, answer_of, piped}
 use Rattle.orb_command.specs.Built.{IsBuilt, IsPiped}

@@ -15,7 +15,8 @@ use Rattle.lane_machine.specs.Machine.{step, item_place}
 use Rattle.lane_machine.specs.Readiness.{is_ready}
 use Rattle.turn_cell.specs.declared.entry.Entry.{Entry}
 use Rattle.turn_cell.specs.History as history
-use Rattle.orb_command.specs.Setup.{Setup, pipe_conn}
+use Rattle.orb_command.specs.Setup.{pipe_conn}
+use Rattle.adapter_policies.specs.SetupData.{SetupData}
 use Rattle.orb_command.specs.Piped.{Run, applied, first_given, finished_by, turned, rested_after, rested, in_hand, collected, emptied_after, settled, before_call, room_behind, behind_call, grouped, answer_of, piped, IsReplayed}
 
 -- one more entry is one more step
@@ -80,7 +81,7 @@ grouped_keeps s servant batch room run (call ∷ calls) is =
     either_keeps s run.state.closing (settled servant run) _ (settled_keeps s servant run is)
     (grouped_keeps s servant batch (if left == 0 then batch else left) (behind_call servant left made) calls behind)
 
-pub piped_is_replayed : (setup : Setup) (outcome : List ℕ → JobRecord → Outcome) (batch : ℕ) (calls : List LaneCall) (how : How) (lacks : List ℕ) → IsReplayed (opening setup.pool setup.slots setup.per_slot) (piped setup outcome batch calls how lacks)
+pub piped_is_replayed : (setup : SetupData) (outcome : List ℕ → JobRecord → Outcome) (batch : ℕ) (calls : List LaneCall) (how : How) (lacks : List ℕ) → IsReplayed (opening setup.pool setup.slots setup.per_slot) (piped setup outcome batch calls how lacks)
 piped_is_replayed setup outcome batch calls how lacks =
     let s = opening setup.pool setup.slots setup.per_slot in
     let servant = answer_of setup outcome lacks in

@@ -27,7 +27,8 @@ use Rattle.lane_machine.specs.declared.call.How.TheVariants.{Quiet}
 use Rattle.lane_machine.specs.declared.call.LaneCall.{LaneCall}
 use Rattle.lane_machine.specs.State.{State}
 use Rattle.orb_command.specs.declared.request.TheConstants.{MAX_PIPED}
-use Rattle.orb_command.specs.Setup.{built_in, pipe_conn}
+use Rattle.orb_command.specs.Setup.{pipe_conn}
+use Rattle.adapter_policies.specs.BuiltIn.{built_in}
 use Rattle.orb_command.specs.Ping.{ping_outcome}
 use Rattle.orb_command.specs.Said.{reply_status, reply_body, bare, call_bytes, said}
 use Rattle.orb_command.specs.Piped.{Run, closed_by, answer_of, piped}

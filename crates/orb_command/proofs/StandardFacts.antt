@@ -7,7 +7,7 @@ use Rattle.lane_machine.specs.declared.call.LaneCall.TheVariants.{Offer}
 use Rattle.thread_borrowing.specs.Choice.{chosen_thread}
 use Rattle.request_buffer.specs.Next.{next_job}
 use Rattle.lane_machine.specs.Readiness.{owed}
-use Rattle.orb_command.specs.Setup.{built_in}
+use Rattle.adapter_policies.specs.BuiltIn.{built_in}
 use Rattle.orb_command.specs.Ping.{ping_outcome}
 use Rattle.orb_command.specs.PingRun.{ping_job}
 use Rattle.orb_command.specs.Piped.{piped_bytes}

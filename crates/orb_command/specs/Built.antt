@@ -15,7 +15,9 @@ use Rattle.lane_machine.specs.declared.call.How.TheVariants.{Quiet}
 use Rattle.lane_machine.specs.State.{opening}
 use Rattle.lane_machine.specs.Histories.{IsLegal}
 use Rattle.orb_command.specs.declared.request.TheConstants.{MAX_PIPED}
-use Rattle.orb_command.specs.Setup.{Setup, interface_of, built_in, pipe_conn}
+use Rattle.orb_command.specs.Setup.{interface_of, pipe_conn}
+use Rattle.adapter_policies.specs.BuiltIn.{built_in}
+use Rattle.adapter_policies.specs.SetupData.{SetupData}
 use Rattle.orb_command.specs.Ping.{ping_request}
 use Rattle.orb_command.specs.Heard.{Hears}
 use Rattle.orb_command.specs.Piped.{piped, piped_bytes}
@@ -34,7 +36,7 @@ pub record IsBuilt (input : List ℕ) : Type 0 where
   pub pings : AllByRecursion IsPing (stream MAX_MESSAGE input).messages
 
 -- memory is wanting to no job whose outcome is BAD_OPERATION, which takes none
-abbrev pub Spares : Setup → (List ℕ → JobRecord → Outcome) → List ℕ → List LaneCall → Type 0
+abbrev pub Spares : SetupData → (List ℕ → JobRecord → Outcome) → List ℕ → List LaneCall → Type 0
 Spares setup outcome lacks [] = Unit {0}
 Spares setup outcome lacks (Offer job ∷ calls) =
     (outcome (interface_of setup job.target) job ≡ bad_operation → list_any (λ serial. serial == job.serial) lacks ≡ false)

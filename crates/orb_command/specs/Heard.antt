@@ -1,8 +1,9 @@
 -- What the bytes of a connection mean to the lane machine. So far each message is a request that is offered; later pieces
 -- add cases.
-use Rattle.std.specs.Prelude.{◌≡◌, ℕ, suc, List, [], ◌∷◌, Some, None, length, slice_get, codes}
+use Rattle.std.specs.Prelude.{◌≡◌, ℕ, suc, List, [], ◌∷◌, Some, None, length, slice_get, codes, IsSome}
 use Rattle.orb_base.specs.Priorities.{mandated, lane_of}
 use Rattle.orb_base.specs.JobRecord.{JobRecord}
+use Rattle.priority_maps.specs.Maps.{to_native}
 use Rattle.orb_base.specs.declared.conn_id.ConnId.{ConnId}
 use Rattle.orb_base.specs.declared.order.Order.{Order}
 use Rattle.orb_base.specs.declared.limits.TheConstants.{MAX_MESSAGE}
@@ -15,7 +16,8 @@ use Rattle.lane_machine.specs.declared.call.LaneCall.{LaneCall}
 use Rattle.lane_machine.specs.declared.call.LaneCall.TheVariants.{Offer}
 use Rattle.lane_machine.specs.declared.call.How.{How}
 use Rattle.lane_machine.specs.declared.call.How.TheVariants.{Quiet}
-use Rattle.orb_command.specs.Setup.{Setup, Object}
+use Rattle.adapter_policies.specs.SetupData.{AdapterData, SetupData}
+use Rattle.adapter_policies.specs.declared.object_spec.ObjectSpec.{ObjectSpec}
 
 -- the job of a request that passed every judgement, as the call of this number of its connection
 abbrev pub job_of : ConnId → ℕ → Order → ℕ → Request → ℕ → ℕ → ℕ → JobRecord
@@ -37,34 +39,38 @@ job_of conn serial order size r target level lane = record {
 abbrev pub bind_operation : List ℕ
 bind_operation = codes "_bind_priority_band"
 
--- the request passes every judgement, and means this call. Its key is that of an object; it has no contexts, so that no
--- priority was sent; it binds no band, and none is bound; and a lane takes its mandated priority.
-pub record IsOffered (setup : Setup) (conn : ConnId) (serial : ℕ) (order : Order) (size : ℕ) (r : Request) (call : LaneCall) : Type 0 where
+-- the request passes every judgement, and means this call. Its key is that of an object, which an adapter serves; it has no
+-- contexts, so that no priority was sent; it binds no band, and none is bound; the map has a native priority for its mandated
+-- one, and a lane takes that.
+pub record IsOffered (setup : SetupData) (conn : ConnId) (serial : ℕ) (order : Order) (size : ℕ) (r : Request) (call : LaneCall) : Type 0 where
   pub target : ℕ
-  pub object : Object
+  pub object : ObjectSpec
+  pub adapter : AdapterData
   pub lane : ℕ
   pub known : slice_get setup.objects target ≡ Some object
-  pub addressed : r.target ≡ key object.object_key
+  pub served : slice_get setup.adapters object.adapter ≡ Some adapter
+  pub addressed : r.target ≡ key object.key
   pub plain : r.contexts ≡ []
   pub no_bind : ¬ (r.operation ≡ bind_operation)
-  pub placed : lane_of setup.pool (mandated object.model object.server None) ≡ Some lane
-  pub meant : call ≡ Offer (job_of conn serial order size r target (mandated object.model object.server None) lane)
+  pub mapped : IsSome (to_native setup.mapping (mandated adapter.model object.priority None))
+  pub placed : lane_of setup.pool (mandated adapter.model object.priority None) ≡ Some lane
+  pub meant : call ≡ Offer (job_of conn serial order size r target (mandated adapter.model object.priority None) lane)
 
 -- the message is a request that passes every judgement, and means this call
-pub record IsHeard (setup : Setup) (conn : ConnId) (serial : ℕ) (m : Message) (call : LaneCall) : Type 0 where
+pub record IsHeard (setup : SetupData) (conn : ConnId) (serial : ℕ) (m : Message) (call : LaneCall) : Type 0 where
   pub r : Request
   pub reads : ReadsIn m.order (request r) m.bytes
   pub offered : IsOffered setup conn serial m.order (length m.bytes) r call
 
 -- the messages mean these calls, the first of which has this number
-abbrev pub HearsEach : Setup → ConnId → ℕ → List Message → List LaneCall → Type 0
+abbrev pub HearsEach : SetupData → ConnId → ℕ → List Message → List LaneCall → Type 0
 HearsEach setup conn serial [] [] = Unit {0}
 HearsEach setup conn serial [] (call ∷ calls) = ⊥
 HearsEach setup conn serial (m ∷ ms) [] = ⊥
 HearsEach setup conn serial (m ∷ ms) (call ∷ calls) = IsHeard setup conn serial m call × HearsEach setup conn (suc serial) ms calls
 
 -- the whole input of a connection means these calls, and ends so: its stream has no fault and leaves nothing unfinished
-pub record Hears (setup : Setup) (conn : ConnId) (bytes : List ℕ) (calls : List LaneCall) (how : How) : Type 0 where
+pub record Hears (setup : SetupData) (conn : ConnId) (bytes : List ℕ) (calls : List LaneCall) (how : How) : Type 0 where
   pub sound : (stream MAX_MESSAGE bytes).bad ≡ None
   pub whole : (stream MAX_MESSAGE bytes).rest ≡ None
   pub each : HearsEach setup conn 0 (stream MAX_MESSAGE bytes).messages calls

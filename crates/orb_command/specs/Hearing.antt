@@ -6,7 +6,8 @@ use Rattle.orb_base.specs.JobRecord.{JobRecord}
 use Rattle.orb_base.specs.declared.limits.TheConstants.{MAX_MESSAGE}
 use Rattle.giop_frames.specs.Messages.{Message}
 use Rattle.giop_frames.specs.Stream.{stream}
-use Rattle.orb_command.specs.Setup.{built_in, pipe_conn}
+use Rattle.orb_command.specs.Setup.{pipe_conn}
+use Rattle.adapter_policies.specs.BuiltIn.{built_in}
 use Rattle.orb_command.specs.Heard.{HearsEach}
 use Rattle.orb_command.specs.Built.{IsPing, IsBuilt}
 use Rattle.orb_command.specs.PingRun.{ping_job, ArePingJobs, offers}

@@ -22,7 +22,8 @@ use Rattle.orb_command.specs.declared.course.Course.TheVariants.{Whole, Closing,
 use Rattle.orb_command.specs.declared.ends.ReadEnd.TheVariants as read
 use Rattle.orb_command.specs.declared.ends.WriteEnd.TheVariants as write
 use Rattle.orb_command.specs.declared.ends.Piped.{Piped}
-use Rattle.orb_command.specs.Setup.{built_in_pool, pipe_conn}
+use Rattle.orb_command.specs.Setup.{pipe_conn}
+use Rattle.adapter_policies.specs.BuiltIn.{built_in_pool}
 use Rattle.orb_command.specs.Ping.{ping_request}
 use Rattle.orb_command.specs.Heard.{job_of}
 use Rattle.orb_command.specs.Said.{item_bytes}

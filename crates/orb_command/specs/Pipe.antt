@@ -12,7 +12,7 @@ use Rattle.orb_command.specs.declared.ends.Piped.{Piped}
 use Rattle.orb_command.specs.declared.ends.PipeFault.{PipeFault}
 use Rattle.orb_command.specs.declared.ends.PipeFault.TheVariants.{NotBuilt, NoMemory}
 use Rattle.orb_command.specs.declared.request.TheConstants.{MAX_PIPED}
-use Rattle.orb_command.specs.Setup.{built_in}
+use Rattle.adapter_policies.specs.BuiltIn.{built_in}
 use Rattle.orb_command.specs.Piped.{piped}
 use Rattle.orb_command.specs.Stops.{StopsAt}
 use Rattle.orb_command.specs.Built.{IsBuilt, IsPiped}

@@ -19,7 +19,8 @@ use Rattle.thread_borrowing.specs.ThreadList.{is_free}
 use Rattle.lane_machine.specs.Machine.{step, item_place}
 use Rattle.lane_machine.specs.Readiness.{is_ready}
 use Rattle.lane_machine.specs.Histories.{History, replay}
-use Rattle.orb_command.specs.Setup.{Setup, interface_of, pipe_conn}
+use Rattle.orb_command.specs.Setup.{interface_of, pipe_conn}
+use Rattle.adapter_policies.specs.SetupData.{SetupData}
 use Rattle.orb_command.specs.Said.{said}
 
 -- where a run stands: its state, and the history that led to it
@@ -116,16 +117,16 @@ closed_by servant how run =
     applied (settled servant (applied run (End pipe_conn (if run.state.closing then Shut else how)))) (Collect pipe_conn)
 
 -- a servant answers the outcome, or NO_MEMORY to the jobs with these serials
-abbrev pub answer_of : Setup → (List ℕ → JobRecord → Outcome) → List ℕ → JobRecord → Outcome
+abbrev pub answer_of : SetupData → (List ℕ → JobRecord → Outcome) → List ℕ → JobRecord → Outcome
 answer_of setup outcome lacks job =
     if list_any (λ serial. serial == job.serial) lacks then no_memory else outcome (interface_of setup job.target) job
 
 -- the run of the pipe
-abbrev pub piped : Setup → (List ℕ → JobRecord → Outcome) → ℕ → List LaneCall → How → List ℕ → Run
+abbrev pub piped : SetupData → (List ℕ → JobRecord → Outcome) → ℕ → List LaneCall → How → List ℕ → Run
 piped setup outcome batch calls how lacks =
     let servant = answer_of setup outcome lacks in
     closed_by servant how (grouped servant batch batch (record { state = opening setup.pool setup.slots setup.per_slot; history = [] }) calls)
 
 -- the bytes that it writes
-abbrev pub piped_bytes : Setup → (List ℕ → JobRecord → Outcome) → ℕ → List LaneCall → How → List ℕ → List ℕ
+abbrev pub piped_bytes : SetupData → (List ℕ → JobRecord → Outcome) → ℕ → List LaneCall → How → List ℕ → List ℕ
 piped_bytes setup outcome batch calls how lacks = said pipe_conn (piped setup outcome batch calls how lacks).history

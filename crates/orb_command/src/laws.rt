@@ -6,20 +6,22 @@ ghost use Rattle.orb_base.specs.declared.outcome.Outcome.{Outcome};
 ghost use Rattle.lane_machine.specs.declared.call.How.{How};
 ghost use Rattle.lane_machine.specs.declared.call.LaneCall.{LaneCall};
 ghost use Rattle.lane_machine.specs.State.{opening};
-ghost use Rattle.orb_command.specs.Setup.{Setup, HasDistinctKeys, built_in};
+ghost use Rattle.orb_command.specs.Setup.{HasDistinctKeys};
+ghost use Rattle.adapter_policies.specs.BuiltIn.{built_in};
+ghost use Rattle.adapter_policies.specs.SetupData.{SetupData};
 ghost use Rattle.orb_command.specs.Heard.{Hears};
 ghost use Rattle.orb_command.specs.Piped.{piped, IsReplayed};
 ghost use Rattle.orb_command.specs.Replied.{PingsReplied, MeetsNoLimit};
 
 /// A run of the pipe, over any setup, servants, calls and groups, stands where its history leads.
 pub fn piped_is_replayed()
-    ensures { (setup : Setup) (outcome : List ℕ → JobRecord → Outcome) (batch : ℕ) (calls : List LaneCall) (how : How)
+    ensures { (setup : SetupData) (outcome : List ℕ → JobRecord → Outcome) (batch : ℕ) (calls : List LaneCall) (how : How)
         (lacks : List ℕ) → IsReplayed (opening setup.pool setup.slots setup.per_slot) (piped setup outcome batch calls how lacks) }
 {}
 
 /// A whole input means one list of calls, with one end, where no two objects have one key.
 pub fn hears_one_way()
-    ensures { (setup : Setup) (conn : ConnId) (bytes : List ℕ) (calls other : List LaneCall) (how ended : How)
+    ensures { (setup : SetupData) (conn : ConnId) (bytes : List ℕ) (calls other : List LaneCall) (how ended : How)
         → HasDistinctKeys setup → Hears setup conn bytes calls how → Hears setup conn bytes other ended
         → (calls ≡ other) × (how ≡ ended) }
 {}

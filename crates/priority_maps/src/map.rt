@@ -1,5 +1,5 @@
 //! Maps of either kind.
-ghost use Rattle.std.specs.Prelude.{◌≡◌, ◌↔◌, ◌≤ℤ◌, IsSome, IfSome};
+ghost use Rattle.std.specs.Prelude.{◌≡◌, ◌↔◌, ◌≤ℤ◌, IsSome, IfSome, IfOk};
 ghost use Rattle.priority_maps.specs.Least.{FindsLeast};
 ghost use Rattle.priority_maps.specs.Laws.{IsIdentity};
 ghost use Rattle.priority_maps.specs.Linear.{identity};
@@ -9,7 +9,7 @@ ghost use Rattle.priority_maps.specs.Rows.{Rises};
 use crate::linear::Linear;
 use crate::row::MapRow;
 use crate::table::Table;
-use orb_base::{Band, List, Priority};
+use orb_base::{Band, List, NoMemory, Priority};
 use std::alloc::Global;
 use std::marker::Model;
 
@@ -64,14 +64,17 @@ impl Map {
     }
 
     /// The map of these rows. None exactly where a row's low end isn't above the high end of the row before it. Rows
-    /// that are none give a map without native priorities. The work is that of sorting the rows; a tree of them is
-    /// kept where there is memory for it.
-    pub fn table(alloc: Global, rows: List<MapRow>) -> Option<Map>
-        ensures none { IsSome result ↔ Rises rows.items }
-        ensures value { IfSome result (λ m. m ≡ table rows.items) }
+    /// that are none give a map without native priorities. Takes memory for a tree of the rows, and so much work as
+    /// sorting them would; an error is want of memory.
+    pub fn table(alloc: Global, rows: List<MapRow>) -> Result<Option<Map>, NoMemory>
+        ensures none { IfOk result (λ found. IsSome found ↔ Rises rows.items) }
+        ensures value { IfOk result (λ found. IfSome found (λ m. m ≡ table rows.items)) }
     {
-        let shape = Shape::Table(Table::new(alloc, rows)?);
-        Some(Map { shape })
+        let Some(table) = Table::new(alloc, rows)? else {
+            return Ok(None);
+        };
+        let shape = Shape::Table(table);
+        Ok(Some(Map { shape }))
     }
 
     /// The native priority of a CORBA one, where it has one. Constant work for a linear map, and a logarithm of the rows for a
@@ -86,7 +89,7 @@ impl Map {
     }
 
     /// The least CORBA priority that has a native one, where one has. Constant work for a linear map, and a logarithm
-    /// of the rows for a table, or one pass over them if there was no memory for its tree. Takes no memory.
+    /// of the rows for a table. Takes no memory.
     pub fn to_corba(&self, n: i32) -> Option<Priority>
         ensures { FindsLeast (to_native self.now) n result }
     {

@@ -21,13 +21,12 @@ use std::marker::Model;
 #[derive(Debug, Drop)]
 pub struct Table {
     rows: List<MapRow>,
-    /// The low end of the first row of each native priority; None where there was no memory for it.
-    lows: Option<BTreeMap<i32, Priority>>,
+    /// The low end of the first row of each native priority.
+    lows: BTreeMap<i32, Priority>,
 }
 
 impl Model for Table {
     ghost use Rattle.std.specs.Prelude.{List};
-    ghost use Rattle.std.specs.Option.{IfSome};
     ghost use Rattle.priority_maps.specs.declared.row.MapRow.{MapRow};
     ghost use Rattle.priority_maps.specs.Rows.{Rises, HasBands};
     ghost use Rattle.priority_maps.specs.Search.{HasLows};
@@ -36,20 +35,20 @@ impl Model for Table {
 
     ghost view = { λ t. t.rows.items };
 
-    ghost invariant = { λ t. Rises t.rows.items × HasBands t.rows.items × IfSome t.lows (HasLows t.rows.items) };
+    ghost invariant = { λ t. Rises t.rows.items × HasBands t.rows.items × HasLows t.rows.items t.lows };
 }
 
 impl Table {
     /// The map of these rows. None exactly where a row's low end isn't above the high end of the row before it.
-    pub fn new(alloc: Global, rows: List<MapRow>) -> Option<Table>
-        ensures none { IsSome result ↔ Rises rows.items }
-        ensures value { IfSome result (λ t. t ≡ rows.items) }
+    pub fn new(alloc: Global, rows: List<MapRow>) -> Result<Option<Table>, NoMemory>
+        ensures none { IfOk result (λ found. IsSome found ↔ Rises rows.items) }
+        ensures value { IfOk result (λ found. IfSome found (λ t. t ≡ rows.items)) }
     {
         if !have_ends(rows.as_slice()) || !rises(rows.as_slice()) {
-            return None;
+            return Ok(None);
         }
-        let lows = lows_of(alloc, rows.as_slice()).ok();
-        Some(Table { rows, lows })
+        let lows = lows_of(alloc, rows.as_slice())?;
+        Ok(Some(Table { rows, lows }))
     }
 
     /// The native priority of a CORBA one. The work is a logarithm of the rows; no memory.
@@ -82,8 +81,7 @@ impl Table {
             .partition_point(|row| row.band.high() < p)
     }
 
-    /// The least CORBA priority of a native one. The work is a logarithm of the rows, or one pass over them where the
-    /// map was made without memory for its tree; no memory.
+    /// The least CORBA priority of a native one. The work is a logarithm of the rows; no memory.
     #[tactic(auto, using(crate::proofs::Lows::least_low))]
     pub fn to_corba(&self, n: i32) -> Option<Priority>
         ensures { FindsLeast (rows_native self.now) n result }
@@ -97,10 +95,8 @@ impl Table {
         ensures rises { Rises self.now }
         ensures bands { HasBands self.now }
     {
-        match &self.lows {
-            Some(lows) => lows.get(&n).copied(),
-            None => low_by_rows(self.rows.as_slice(), n),
-        }
+        let _ = &self.rows;
+        self.lows.get(&n).copied()
     }
 }
 
@@ -113,18 +109,6 @@ fn native_in(row: &MapRow, p: Priority) -> Option<i32>
     } else {
         None
     }
-}
-
-/// The low end of the first row with a native priority.
-fn low_by_rows(rows: &[MapRow], n: i32) -> Option<Priority>
-    ensures { result ≡ first_low n rows.now }
-{
-    for row in rows {
-        if row.native == n {
-            return Some(row.band.low());
-        }
-    }
-    None
 }
 
 /// Whether no row's ends are reversed, as is so of every band.

@@ -146,7 +146,7 @@ fn the_identity_gives_each_priority_itself(rt: HostRuntime) -> Result<(), Fail> 
 #[test]
 fn a_table_has_gaps_and_a_native_twice(rt: HostRuntime) -> Result<(), Fail> {
     let list = rows(rt.alloc(), &[(10, 19, 5), (30, 30, -7), (40, 50, 5)])?;
-    let map = Map::table(rt.alloc(), list).ok_or("a map")?;
+    let map = Map::table(rt.alloc(), list)?.ok_or("a map")?;
     for (level, expected) in [(10, 5), (19, 5), (30, -7), (40, 5), (50, 5)] {
         assert_eq!(rt; native(&map, level)?, Some(expected));
     }
@@ -162,11 +162,11 @@ fn a_table_has_gaps_and_a_native_twice(rt: HostRuntime) -> Result<(), Fail> {
 
 #[test]
 fn a_table_may_be_empty_or_have_the_last_priority_alone(rt: HostRuntime) -> Result<(), Fail> {
-    let empty = Map::table(rt.alloc(), List::new(rt.alloc())).ok_or("a map")?;
+    let empty = Map::table(rt.alloc(), List::new(rt.alloc()))?.ok_or("a map")?;
     assert_eq!(rt; native(&empty, 0)?, None);
     assert_eq!(rt; corba(&empty, 0), None);
     let list = rows(rt.alloc(), &[(32767, 32767, 1)])?;
-    let last = Map::table(rt.alloc(), list).ok_or("a map")?;
+    let last = Map::table(rt.alloc(), list)?.ok_or("a map")?;
     assert_eq!(rt;
         [native(&last, 32766)?, native(&last, 32767)?],
         [None, Some(1)]
@@ -178,10 +178,10 @@ fn a_table_may_be_empty_or_have_the_last_priority_alone(rt: HostRuntime) -> Resu
 #[test]
 fn rows_that_touch_or_fall_are_no_table(rt: HostRuntime) -> Result<(), Fail> {
     let touching = rows(rt.alloc(), &[(0, 10, 1), (10, 20, 2)])?;
-    assert!(rt; Map::table(rt.alloc(), touching).is_none());
+    assert!(rt; Map::table(rt.alloc(), touching)?.is_none());
     let falling = rows(rt.alloc(), &[(20, 30, 1), (0, 10, 2)])?;
-    assert!(rt; Map::table(rt.alloc(), falling).is_none());
+    assert!(rt; Map::table(rt.alloc(), falling)?.is_none());
     let rising = rows(rt.alloc(), &[(0, 10, 1), (11, 20, 2)])?;
-    assert!(rt; Map::table(rt.alloc(), rising).is_some());
+    assert!(rt; Map::table(rt.alloc(), rising)?.is_some());
     Ok(())
 }
