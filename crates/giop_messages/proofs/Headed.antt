@@ -12,7 +12,8 @@ use Rattle.cdr_core.proofs.Parts.{AreBytes-drop, AreBytes-take}
 use Rattle.giop_frames.specs.Messages as Frames
 use Rattle.giop_frames.specs.Pieces.{order_of, has_more, kind_of, piece_len}
 use Rattle.giop_frames.specs.Headers.{has_magic, has_version}
-use Rattle.giop_messages.specs.Layout.{header, order_flag}
+use Rattle.cdr_core.specs.Encapsulation.{order_byte}
+use Rattle.giop_messages.specs.Layout.{header}
 use Rattle.giop_messages.specs.MessageReading.{IsMessage}
 
 -- a header in front of what it counts
@@ -20,7 +21,7 @@ pub record IsHeaded (m : Frames.Message) : Type 0 where
   pub flags : ℕ
   pub behind : List ℕ
   pub octet : flags < 2 ^ 8
-  pub order_bit : flags % 2 ≡ order_flag m.order
+  pub order_bit : flags % 2 ≡ order_byte m.order
   pub unfragmented : flags / 2 % 2 ≡ 0
   pub few_kinds : m.kind ≤ 6
   pub long : 12 ≤ length m.bytes
@@ -93,13 +94,13 @@ pub version_is : {bytes : List ℕ} (t : Twelve bytes) → has_version (joined t
 unfolding has_version
 version_is t h = let a = both_hold (t.b4 == 1) _ h in (is_number t.b4 1 a.0, is_number t.b5 2 a.1)
 
-flag_by : (n : ℕ) (b : Bool) → (n % 2 == 1) ≡ b → n % 2 ≡ order_flag (cond b Little Big)
+flag_by : (n : ℕ) (b : Bool) → (n % 2 == 1) ≡ b → n % 2 ≡ order_byte (cond b Little Big)
 flag_by n true h = is_number (n % 2) 1 h
 flag_by n false h = grind arith
 
-pub order_bit : {bytes : List ℕ} (t : Twelve bytes) (order : Order) → order_of (joined t) ≡ order → t.flags % 2 ≡ order_flag order
+pub order_bit : {bytes : List ℕ} (t : Twelve bytes) (order : Order) → order_of (joined t) ≡ order → t.flags % 2 ≡ order_byte order
 unfolding order_of
-order_bit t order h = flag_by t.flags (t.flags % 2 == 1) refl ∙ ap order_flag h
+order_bit t order h = flag_by t.flags (t.flags % 2 == 1) refl ∙ ap order_byte h
 
 not_one : (n : ℕ) → (n % 2 == 1) ≡ false → n % 2 ≡ 0
 not_one n h = grind arith

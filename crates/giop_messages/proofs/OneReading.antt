@@ -13,7 +13,8 @@ use Rattle.cdr_core.proofs.LawProofs.{reads_one_way_law}
 use Rattle.cdr_core.proofs.CallerLemmas.{split, spelled_run_is, length-number_bytes}
 use Rattle.giop_messages.specs.Message.{Message, Target, key, profile, addressing, Request, Reply, Locate, Located, request, reply, cancel, locate, located, close, error, kind_of, FitsText, FitsTarget, FitContexts, FitsRequest, FitsReply, FitsLocate, FitsLocated}
 use Rattle.cdr_core.specs.Lists.{tagged_fields, FitsTagged, context_fields, FitsContext}
-use Rattle.giop_messages.specs.Layout.{header, order_flag, target_fields, contexts_fields, named_fields}
+use Rattle.cdr_core.specs.Encapsulation.{order_byte}
+use Rattle.giop_messages.specs.Layout.{header, target_fields, contexts_fields, named_fields}
 use Rattle.giop_messages.specs.Reading.{ReadsIn, Reads}
 
 -- two lists of fields that are spelled from one place on, with what stands behind each, by the same bytes
@@ -260,7 +261,7 @@ pub behind_heads : (o z : Order) (s r : ℕ) (x y : List ℕ) → number_bytes o
 behind_heads o z s r x y e =
     sym (drop_at (number_bytes o w32 s) x 4 (length-number_bytes o w32 s)) ∙ ap (drop 4) e ∙ drop_at (number_bytes z w32 r) y 4 (length-number_bytes z w32 r)
 
-pub flag_order : (o z : Order) → order_flag o ≡ order_flag z → o ≡ z
+pub flag_order : (o z : Order) → order_byte o ≡ order_byte z → o ≡ z
 flag_order Big Big e = refl
 flag_order Little Little e = refl
 flag_order o z e = absurd (omega (arith, e))

@@ -9,19 +9,20 @@ use Rattle.cdr_core.specs.Field.{fields_end}
 use Rattle.cdr_core.specs.Spelling.{fields_bytes}
 use Rattle.cdr_core.proofs.CallerLemmas.{spelled_zeros, fields_bytes-append, fields_end-is}
 use Rattle.giop_messages.specs.Message.{Message, request, reply, cancel, locate, located, close, error, kind_of, Fits}
-use Rattle.giop_messages.specs.Layout.{order_flag, named_fields, body_fields, body_of}
+use Rattle.cdr_core.specs.Encapsulation.{order_byte}
+use Rattle.giop_messages.specs.Layout.{named_fields, body_fields, body_of}
 use Rattle.giop_messages.specs.Spelling.{all_fields, framed, spelled}
 use Rattle.giop_messages.specs.Reading.{HasBody, ReadsIn}
 
-flag_fits : (order : Order) → order_flag order < 2 ^ 8
+flag_fits : (order : Order) → order_byte order < 2 ^ 8
 flag_fits Big = lit< tt
 flag_fits Little = lit< tt
 
-flag_bit : (order : Order) → order_flag order % 2 ≡ order_flag order
+flag_bit : (order : Order) → order_byte order % 2 ≡ order_byte order
 flag_bit Big = refl
 flag_bit Little = refl
 
-flag_whole : (order : Order) → order_flag order / 2 % 2 ≡ 0
+flag_whole : (order : Order) → order_byte order / 2 % 2 ≡ 0
 flag_whole Big = refl
 flag_whole Little = refl
 
@@ -50,7 +51,7 @@ spelled_reads order message fits size =
     let rest = fields_bytes order (fields_end 12 names) (body_fields (body_of message)) in
     let both : fields_bytes order 12 (all_fields message) ≡ named ++ rest = fields_bytes-append order 12 names (body_fields (body_of message)) in
     record {
-      flags = order_flag order;
+      flags = order_byte order;
       reserved = 0 ∷ 0 ∷ 0 ∷ [];
       named = named;
       rest = rest;

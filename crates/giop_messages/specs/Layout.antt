@@ -2,25 +2,20 @@
 use Rattle.std.specs.Prelude.{ℕ, List, [], ◌∷◌, ◌++◌}
 use Rattle.std.specs.Int.{w8, w16, w32}
 use Rattle.orb_base.specs.declared.order.Order.{Order}
-use Rattle.orb_base.specs.declared.order.Order.TheVariants.{Big, Little}
+use Rattle.cdr_core.specs.Encapsulation.{order_byte}
 use Rattle.cdr_core.specs.Field.{Field, number, run, number_bytes, string_fields, octets_fields}
 use Rattle.cdr_core.specs.Lists.{tagged_fields, context_fields, list_fields}
 use Rattle.orb_base.specs.Tagged.{Context, Tagged}
 use Rattle.giop_frames.specs.Headers.{magic}
 use Rattle.giop_messages.specs.Message.{Target, key, profile, addressing, Message, request, reply, cancel, locate, located, close, error}
 
--- bit 0 of the flags
-abbrev pub order_flag : Order → ℕ
-order_flag Big = 0
-order_flag Little = 1
-
 -- the header of 12 bytes: version 1.2, the flags, the kind, and how many bytes stand behind it
 abbrev pub header : Order → ℕ → ℕ → ℕ → List ℕ
 header order flags kind size = magic ++ 1 ∷ 2 ∷ flags ∷ kind ∷ [] ++ number_bytes order w32 size
 
--- the same as fields at place 0
+-- the same as fields at place 0, where bit 0 of the flags is the order's byte and no other bit is set
 abbrev pub header_fields : Order → ℕ → ℕ → List Field
-header_fields order kind size = run 1 (magic ++ 1 ∷ 2 ∷ order_flag order ∷ kind ∷ []) ∷ number w32 size ∷ []
+header_fields order kind size = run 1 (magic ++ 1 ∷ 2 ∷ order_byte order ∷ kind ∷ []) ∷ number w32 size ∷ []
 
 -- profiles behind their number
 abbrev pub profiles_fields : List Tagged → List Field

@@ -5,7 +5,8 @@ use Rattle.orb_base.specs.declared.order.Order.{Order}
 use Rattle.cdr_core.specs.Alignment.{pad_len}
 use Rattle.cdr_core.specs.Spelling.{IsSpelled}
 use Rattle.giop_messages.specs.Message.{Message, Fits, request, reply, cancel, locate, located, close, error, kind_of}
-use Rattle.giop_messages.specs.Layout.{header, order_flag, named_fields}
+use Rattle.cdr_core.specs.Encapsulation.{order_byte}
+use Rattle.giop_messages.specs.Layout.{header, named_fields}
 
 -- the body is what stands from the next multiple of 8 on, or empty where no byte stands there; `place` is that behind
 -- the named fields, and `rest` the bytes from there on
@@ -25,7 +26,7 @@ pub record ReadsIn (order : Order) (message : Message) (bytes : List ℕ) : Type
   pub named : List ℕ
   pub rest : List ℕ
   pub octet : flags < 2 ^ 8
-  pub order_bit : flags % 2 ≡ order_flag order
+  pub order_bit : flags % 2 ≡ order_byte order
   pub whole : flags / 2 % 2 ≡ 0
   pub three : length reserved ≡ 3
   pub size : length (named ++ rest) < 2 ^ 32

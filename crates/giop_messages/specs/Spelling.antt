@@ -5,7 +5,8 @@ use Rattle.orb_base.specs.declared.order.Order.{Order}
 use Rattle.cdr_core.specs.Field.{Field}
 use Rattle.cdr_core.specs.Spelling.{fields_bytes}
 use Rattle.giop_messages.specs.Message.{Message, kind_of}
-use Rattle.giop_messages.specs.Layout.{header, order_flag, named_fields, body_fields, body_of}
+use Rattle.cdr_core.specs.Encapsulation.{order_byte}
+use Rattle.giop_messages.specs.Layout.{header, named_fields, body_fields, body_of}
 
 -- all fields of a message behind its header
 abbrev pub all_fields : Message → List Field
@@ -13,7 +14,7 @@ all_fields message = named_fields (0 ∷ 0 ∷ 0 ∷ []) message ++ body_fields 
 
 -- a header of this kind in front of what stands behind it
 abbrev pub framed : Order → ℕ → List ℕ → List ℕ
-framed order kind inner = header order (order_flag order) kind (length inner) ++ inner
+framed order kind inner = header order (order_byte order) kind (length inner) ++ inner
 
 -- the spelling of a message
 abbrev pub spelled : Order → Message → List ℕ

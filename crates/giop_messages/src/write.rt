@@ -6,7 +6,8 @@ ghost use Rattle.cdr_core.specs.Writing.{Puts};
 ghost use Rattle.giop_frames.specs.declared.kind.Kind.TheVariants as kinds;
 ghost use Rattle.giop_frames.specs.Kinds.{number as kind_number};
 ghost use Rattle.giop_messages.specs.Message as Spec;
-ghost use Rattle.giop_messages.specs.Layout.{order_flag, header_fields};
+ghost use Rattle.cdr_core.specs.Encapsulation.{order_byte};
+ghost use Rattle.giop_messages.specs.Layout.{header_fields};
 ghost use Rattle.giop_messages.specs.Spelling.{all_fields, spelled};
 ghost use Rattle.giop_messages.specs.Views.{message_of};
 ghost use Rattle.giop_messages.specs.Reading.{ReadsIn};
@@ -27,7 +28,7 @@ use orb_base::{Context, NoMemory, Order};
 
 /// Bit 0 of the flags.
 fn flag(order: Order) -> u8
-    ensures { result ≡ order_flag order }
+    ensures { result ≡ order_byte order }
 {
     match order {
         Order::Big => 0,

@@ -14,7 +14,7 @@ use Rattle.giop_frames.specs.Stream.{Said, stream}
 use Rattle.giop_frames.specs.Feeds.{Feed, said, Tells}
 use Rattle.giop_messages.specs.Message as Spec
 use Rattle.giop_messages.specs.Message.{Request, request}
-use Rattle.giop_messages.specs.Layout.{order_flag}
+use Rattle.cdr_core.specs.Encapsulation.{order_byte}
 use Rattle.giop_messages.specs.Reading.{ReadsIn, Reads}
 use Rattle.giop_messages.specs.declared.message_fault.MessageFault.{MessageFault}
 use Rattle.giop_messages.specs.declared.message_fault.MessageFault.TheVariants as faults
@@ -34,7 +34,7 @@ use Rattle.orb_command.proofs.StreamCounts.{few_messages}
 
 -- ---- the order of a message
 
-flag_order : (flags : ℕ) (order : Order) → flags % 2 ≡ order_flag order → (if flags % 2 == 1 then Little else Big) ≡ order
+flag_order : (flags : ℕ) (order : Order) → flags % 2 ≡ order_byte order → (if flags % 2 == 1 then Little else Big) ≡ order
 flag_order flags Big bit = ap (λ (x : ℕ). if x == 1 then Little else Big) bit
 flag_order flags Little bit = ap (λ (x : ℕ). if x == 1 then Little else Big) bit
 

@@ -5,6 +5,7 @@ ghost use Rattle.cdr_core.specs.Field.{number_bytes};
 ghost use Rattle.orb_base.specs.declared.outcome.Outcome.TheVariants.{System};
 ghost use Rattle.orb_command.specs.Ping.{ping_outcome};
 
+use cdr_core::bytes_of_u16;
 use orb_base::{
     Completed, Job, List, NoMemory, Order, Outcome, Priority, Serving, SharedOctets, Sys, SysName,
     Text,
@@ -49,7 +50,6 @@ fn system(name: SysName, completed: Completed) -> Outcome
 }
 
 /// The priority as a short in the order.
-#[tactic(auto, unfolding(cdr_core::specs::Field::number_bytes))]
 fn spelled_priority(
     alloc: Global,
     order: Order,
@@ -58,10 +58,6 @@ fn spelled_priority(
     ensures spelled { IfOk result (λ body. body ≡ number_bytes order w16 priority) }
     ensures short { IfOk result (λ body. length body ≡ 2) }
 {
-    let level = priority.get() as u16;
-    let bytes = match order {
-        Order::Big => level.to_be_bytes(),
-        Order::Little => level.to_le_bytes(),
-    };
+    let bytes = bytes_of_u16(order, priority.level());
     SharedOctets::new(alloc, List::from_vec(Vec::from_slice(alloc, &bytes)?))
 }

@@ -8,7 +8,7 @@ pub fn level_of(p: Priority) -> u16
     ensures value { result ≡ p }
     ensures small { result < 2 ^ 15 }
 {
-    p.get() as u16
+    p.level()
 }
 
 /// The priority of an unsigned number. It is always there.

@@ -241,7 +241,7 @@ fn lane_of(job: &Job) -> u8
 fn priority_of(job: &Job) -> u16
     ensures { result ≡ job.now.priority }
 {
-    job.priority.get() as u16
+    job.priority.level()
 }
 
 /// The size of a request.

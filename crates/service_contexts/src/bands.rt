@@ -17,7 +17,6 @@ ghost use Rattle.service_contexts.specs.Moves.{Moves, items_of};
 ghost use Rattle.service_contexts.specs.Reading.{band_at, bands_at, carried, or_refused};
 
 use crate::read::take_band;
-use crate::short::short_of;
 use cdr_core::{Reader, Writer};
 use orb_base::{Band, NoMemory, Octets, Order};
 use std::alloc::Global;
@@ -39,8 +38,8 @@ pub fn bands_policy(alloc: Global, bands: &[Band]) -> Result<Octets, NoMemory>
 fn put_band(into: &mut Writer, band: Band) -> Result<(), NoMemory>
     ensures { Puts result into.old into.new (band_fields band) }
 {
-    into.put_u16(short_of(band.low()))?;
-    into.put_u16(short_of(band.high()))
+    into.put_u16(band.low().level())?;
+    into.put_u16(band.high().level())
 }
 
 /// Puts one band behind the other.

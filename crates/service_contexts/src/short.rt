@@ -6,16 +6,9 @@ ghost use Rattle.cdr_core.specs.Field.{number_bytes};
 use cdr_core::bytes_of_u16;
 use orb_base::{Order, Priority};
 
-/// The number that a short carries.
-pub fn short_of(priority: Priority) -> u16
-    ensures { result ≡ priority }
-{
-    priority.get() as u16
-}
-
 /// The short's bytes in this order.
 pub fn short_bytes(order: Order, priority: Priority) -> [u8; 2]
     ensures { result ≡ number_bytes order w16 priority }
 {
-    bytes_of_u16(order, short_of(priority))
+    bytes_of_u16(order, priority.level())
 }

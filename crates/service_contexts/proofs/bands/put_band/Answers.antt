@@ -9,7 +9,7 @@ use Rattle.service_contexts.proofs.bands.put_band.Goals as goal
 pub returns-in_err-put_u16 : goal.returns-in_err-put_u16
 returns-in_err-put_u16 c =
     let p = err_from_is_err_and c.from_residual.result c.from_residual.ensures.1 in
-    let low : c.short_of.result ≡ c.args.band.low = c.short_of.ensures ∙ c.low.ensures.value in
+    let low : c.level.result ≡ c.args.band.low = c.level.ensures ∙ c.low.ensures.value in
     let front : HasFront c.args.into.now c.put_u16.new.self (number w16 c.args.band.low ∷ []) =
     subst (λ (n : ℕ). HasFront c.args.into.now c.put_u16.new.self (number w16 n ∷ [])) low c.in_err-put_u16.ensures in
     rw p.1 (puts_first c.args.into.now c.put_u16.new.self (number w16 c.args.band.low ∷ [])
@@ -17,8 +17,8 @@ returns-in_err-put_u16 c =
 
 pub returns : goal.returns
 returns c =
-    let low : c.short_of.result ≡ c.args.band.low = c.short_of.ensures ∙ c.low.ensures.value in
-    let high : c.short_of-2.result ≡ c.args.band.high = c.short_of-2.ensures ∙ c.high.ensures.value in
+    let low : c.level.result ≡ c.args.band.low = c.level.ensures ∙ c.low.ensures.value in
+    let high : c.level-2.result ≡ c.args.band.high = c.level-2.ensures ∙ c.high.ensures.value in
     let first : c.put_u16.new.self ≡ written c.args.into.now (number w16 c.args.band.low ∷ []) =
     subst (λ (n : ℕ). c.put_u16.new.self ≡ written c.args.into.now (number w16 n ∷ [])) low c.in_ok-put_u16.ensures in
     let second : Puts c.put_u16-2.result c.put_u16.new.self c.put_u16-2.new.self (number w16 c.args.band.high ∷ []) =
