@@ -47,3 +47,7 @@ pub record TakesIn (cell : CellView State) (passes : List Pass) (old new : Sitti
   pub ended : new.ended ≡ old.ended ++ left_by passes
   pub seen : AreSeen new.seen passes
   pub later : StartsWith new.seen old.seen
+
+-- the passes of slots and then those of workers were joined into the first one
+abbrev pub TakesAll : CellView State → List Pass → List Pass → Sitting → Sitting → Type 0
+TakesAll cell slots workers old new = (mid : Sitting) × TakesIn cell slots old mid × TakesIn cell workers mid new

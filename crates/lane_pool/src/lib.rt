@@ -25,7 +25,7 @@ mod returning;
 mod shared;
 
 pub use answers::{Cancelling, Collected, Offered, Posting, Taken};
-pub use laws::limits_are_kept;
+pub use laws::{is_at_rest, limits_are_kept};
 pub use opening::{Opened, open};
 pub use passes::{ReaderPass, RootPass, SlotPass, WorkerPass, WriterPass};
 pub use pool::LanePool;

@@ -3,7 +3,7 @@ ghost use Rattle.std.specs.Prelude.{◌≡◌, ◌<◌, ◌++◌, [], IfOk, IfEr
 ghost use Rattle.turn_cell.specs.Calls.{IsOf, IsJoined};
 ghost use Rattle.lane_pool.specs.Passes.{IsIn, IsLinked, IsUnlinked};
 ghost use Rattle.lane_pool.specs.Turns.{Rests, Listens, Writes, HasEnded, heard_by};
-ghost use Rattle.lane_pool.specs.Returning.{AreIn, AreSeen, left_by, AllBack, IsHistory, TakesIn};
+ghost use Rattle.lane_pool.specs.Returning.{AreIn, AreSeen, left_by, AllBack, IsHistory, TakesIn, TakesAll};
 
 use crate::passes::{ReaderPass, RootPass, SlotPass, WorkerPass, WriterPass};
 use crate::pool::LanePool;
@@ -131,10 +131,25 @@ fn end(
     ensures workers { AreSeen result.items workers.items }
 {
     let mut main = main;
-    take_slots(&cell, &mut main, slots);
-    take_workers(&cell, &mut main, workers);
+    take_all(&cell, &mut main, slots, workers);
     let (_, history) = cell.close(main);
     history
+}
+
+/// Joins the seats of slots and workers into the first one.
+fn take_all(
+    cell: &TurnCell<Lanes>,
+    main: &mut Seat<Lanes>,
+    slots: Vec<SlotPass>,
+    workers: Vec<WorkerPass>,
+)
+    requires main { IsOf cell.now main.old }
+    requires passes { AreIn cell.now slots.items × AreIn cell.now workers.items }
+    ensures in_cell { IsOf cell.now main.new }
+    ensures taken { TakesAll cell.now slots.items workers.items main.old main.new }
+{
+    take_slots(cell, main, slots);
+    take_workers(cell, main, workers);
 }
 
 /// Joins the seats of slots into the first one.
@@ -144,11 +159,11 @@ fn take_slots(cell: &TurnCell<Lanes>, main: &mut Seat<Lanes>, slots: Vec<SlotPas
     requires slots { AreIn cell.now slots.items }
     ensures { TakesIn cell.now slots.items main.old main.new }
 {
-    let mut slots = slots;
-    match slots.pop() {
+    let mut before = slots;
+    match before.pop() {
         None => {}
         Some(pass) => {
-            take_slots(cell, main, slots);
+            take_slots(cell, main, before);
             join_slot(cell, main, pass);
         }
     }
@@ -169,11 +184,11 @@ fn take_workers(cell: &TurnCell<Lanes>, main: &mut Seat<Lanes>, workers: Vec<Wor
     requires workers { AreIn cell.now workers.items }
     ensures { TakesIn cell.now workers.items main.old main.new }
 {
-    let mut workers = workers;
-    match workers.pop() {
+    let mut before = workers;
+    match before.pop() {
         None => {}
         Some(pass) => {
-            take_workers(cell, main, workers);
+            take_workers(cell, main, before);
             join_worker(cell, main, pass);
         }
     }

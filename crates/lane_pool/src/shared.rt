@@ -8,7 +8,7 @@ fn may_go<T: Send>(_x: &T) {}
 fn may_share<T: Sync>(_x: &T) {}
 
 /// A pool is shared, and each pass goes to the thread that calls by it.
-pub fn see_shared(
+fn see_shared(
     pool: &LanePool,
     root: &RootPass,
     slot: &SlotPass,
