@@ -1,0 +1,10 @@
+pub mod Places
+pub mod NamesKept
+pub mod Parts
+pub mod Holding
+pub mod Marking
+pub mod Walks
+pub mod Descent
+pub mod Budgets
+pub mod Judging
+pub mod NamesTold

@@ -1,0 +1,16 @@
+pub mod Things
+pub mod Views
+pub mod Finding
+pub mod Counting
+pub mod Budget
+pub mod Apart
+pub mod Sound
+pub mod Bases
+pub mod Names
+pub mod Marked
+pub mod Walk
+pub mod Entries
+pub mod Contents
+pub mod BuiltIn
+pub mod Declaring
+pub mod References
