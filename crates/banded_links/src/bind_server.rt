@@ -1,7 +1,7 @@
 //! The serving side of a connection, as to bands.
-ghost use Rattle.std.specs.Prelude.{◌≡◌, None};
+ghost use Rattle.std.specs.Prelude.{◌≡◌, ◌&&◌, nat_le, None};
 ghost use Rattle.std.specs.List.{list_any};
-ghost use Rattle.banded_links.specs.Binding.{answer, band_behind, holds, serves};
+ghost use Rattle.banded_links.specs.Binding.{answer, band_behind, serves};
 
 use crate::bind_answer::BindAnswer;
 use orb_base::{Band, LaneSpec, PoolSpec};
@@ -68,14 +68,14 @@ fn serves(pool: &PoolSpec, band: Band) -> bool
 
 /// Whether one of the lanes has a priority of the band.
 fn has_lane(lanes: &[LaneSpec], band: Band) -> bool
-    ensures { result ≡ list_any (λ lane. holds band lane.priority) lanes.now }
+    ensures { result ≡ list_any (λ lane. nat_le band.low lane.priority && nat_le lane.priority band.high) lanes.now }
 {
     lanes.iter().any(|lane| is_within(lane, band))
 }
 
 /// Whether the lane's priority lies in the band.
 fn is_within(lane: &LaneSpec, band: Band) -> bool
-    ensures { result ≡ holds band lane.now.priority }
+    ensures { result ≡ (nat_le band.low lane.now.priority && nat_le lane.now.priority band.high) }
 {
     band.low() <= lane.priority && lane.priority <= band.high()
 }
