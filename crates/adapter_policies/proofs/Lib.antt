@@ -1,3 +1,4 @@
 pub mod FirstClash
 pub mod Keyed
+pub mod Published
 pub mod Rising

@@ -11,3 +11,4 @@ pub mod SetupData
 pub mod BuiltIn
 pub mod Index
 pub mod Configuration
+pub mod Publishing

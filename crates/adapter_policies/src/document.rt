@@ -1,11 +1,13 @@
 //! The whole document.
-ghost use Rattle.std.specs.Prelude.{◌≡◌, ◌≤◌, IfOk, IfErr, codes, length, map, option_map};
-ghost use Rattle.toml.specs.Data.{table};
+ghost use Rattle.std.specs.Prelude.{◌≡◌, ◌≤◌, [], IfOk, IfErr, codes, length, map, option_map};
+ghost use Rattle.toml.specs.Data.{get_member, table};
 ghost use Rattle.toml.specs.View.{table_view, items_view};
 ghost use Rattle.config_tables.specs.Fault.{Judged, Tells};
+ghost use Rattle.config_tables.specs.Held.{text_of, where_there};
 ghost use Rattle.config_tables.specs.Judging.{section_fault, table_fault, key_fault, entries_fault};
+ghost use Rattle.config_tables.specs.Rules.{along_with, key_of, one};
 ghost use Rattle.config_tables.specs.Values.{tables_in};
-ghost use Rattle.adapter_policies.specs.Schema.{map_rules, server_rules, adapter_rules, object_rules};
+ghost use Rattle.adapter_policies.specs.Schema.{any_text, map_rules, server_rules, adapter_rules, object_rules};
 ghost use Rattle.adapter_policies.specs.Tables.{map_of, server_of, adapter_of, object_of};
 ghost use Rattle.adapter_policies.specs.Document.{IsDocument, IsNotToml, document_fault, document_of, section_in};
 
@@ -68,22 +70,8 @@ pub fn read_tables(alloc: Global, document: &Table) -> Result<Document, SetupErr
             "idl", "scripts", "map", "pool", "server", "adapter", "object",
         ],
     )?;
-    let idl = text_along(
-        alloc,
-        "",
-        document,
-        "idl",
-        (0, usize::MAX),
-        stands(document, "scripts"),
-    )?;
-    let scripts = text_along(
-        alloc,
-        "",
-        document,
-        "scripts",
-        (0, usize::MAX),
-        stands(document, "idl"),
-    )?;
+    let idl = file_name(alloc, document, "idl", "scripts")?;
+    let scripts = file_name(alloc, document, "scripts", "idl")?;
     let mapping = free_table(alloc, "", document, "map")?;
     let pool = due_table(alloc, "", document, "pool")?;
     let server = free_table(alloc, "", document, "server")?;
@@ -103,6 +91,20 @@ pub fn read_tables(alloc: Global, document: &Table) -> Result<Document, SetupErr
         adapters,
         objects,
     })
+}
+
+/// The name of a file, which is due where the key of another file stands.
+fn file_name(
+    alloc: Global,
+    document: &Table,
+    key: &str,
+    other: &str,
+) -> Result<Option<Text>, SetupError>
+    ensures judged { Judged result (key_fault (key_of key.now (along_with other.now) (one any_text)) [] (table_view document.now)) }
+    ensures value { IfOk result (λ name. name ≡ where_there text_of (get_member key.now (table_view document.now))) }
+{
+    let beside = stands(document, other);
+    text_along(alloc, "", document, key, (0, usize::MAX), beside)
 }
 
 /// The map of a document, if it has one.

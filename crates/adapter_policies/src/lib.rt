@@ -23,6 +23,7 @@ mod pool;
 mod pool_relations;
 mod priorities;
 mod priority_relations;
+mod publishing;
 mod reading;
 mod refusals;
 mod relations;

@@ -1,10 +1,11 @@
 //! Setups.
-ghost use Rattle.std.specs.Prelude.{◌≡◌, ◌∷◌, [], IfOk, slice_get};
+ghost use Rattle.std.specs.Prelude.{◌≡◌, ◌<◌, ◌≤◌, ◌+◌, ◌^◌, ◌∷◌, [], IfOk, length, slice_get};
 ghost use Rattle.std.specs.Option.{option_copied};
 ghost use Rattle.orb_base.specs.Pool.{IsWellFormed};
 ghost use Rattle.adapter_policies.specs.BuiltIn.{built_in};
 ghost use Rattle.adapter_policies.specs.Index.{number_from};
 ghost use Rattle.adapter_policies.specs.MapRelations.{priority_map};
+ghost use Rattle.adapter_policies.specs.Publishing.{IsReferenceOf};
 ghost use Rattle.adapter_policies.specs.SetupData.{setup_of};
 
 use crate::adapter_spec::AdapterSpec;
@@ -14,6 +15,8 @@ use crate::index::indexed;
 use crate::making::{adapters_made, objects_made, pool_made};
 use crate::object_spec::ObjectSpec;
 use crate::pool_relations::{per_slot_of, slots_of};
+use crate::publishing::reference_of;
+use object_refs::Ior;
 use orb_base::{NoMemory, PoolSpec, Text};
 use priority_maps::Map;
 use std::alloc::Global;
@@ -37,6 +40,7 @@ pub struct Setup {
 }
 
 impl Model for Setup {
+    ghost use Rattle.std.specs.Prelude.{◌≤◌, length};
     ghost use Rattle.orb_base.specs.Pool.{IsWellFormed};
     ghost use Rattle.adapter_policies.specs.Index.{IsIndexed};
     ghost use Rattle.adapter_policies.specs.SetupData.{SetupData};
@@ -54,7 +58,7 @@ impl Model for Setup {
       objects = s.objects.items;
     } };
 
-    ghost invariant = { λ s. IsIndexed s.numbers 0 s.objects.items × IsWellFormed s.pool };
+    ghost invariant = { λ s. IsIndexed s.numbers 0 s.objects.items × (length s.objects.items ≤ 1024) × IsWellFormed s.pool };
 }
 
 impl Setup {
@@ -93,9 +97,10 @@ impl Setup {
         self.numbers.get(key).copied()
     }
 
-    /// The object of a number, if it is there.
+    /// The object of a number, if it is there: there are at most 1,024.
     pub fn object(&self, n: u16) -> Option<&ObjectSpec>
-        ensures { option_copied result ≡ slice_get self.now.objects n }
+        ensures few { length self.now.objects ≤ 1024 }
+        ensures value { option_copied result ≡ slice_get self.now.objects n }
     {
         self.objects.get(usize::from(n))
     }
@@ -148,6 +153,24 @@ impl Setup {
         ensures { option_copied result ≡ self.now.scripts }
     {
         self.scripts.as_ref()
+    }
+
+    /// The reference of the object of a number at a host and a port: its interface, and one profile of IIOP 1.2, whose one component
+    /// carries the adapter's priority model at the object's priority, and the adapter's bands where it has some. The number of the
+    /// adapter is tested once more, and so are the lengths that an unsigned long counts.
+    pub fn reference(&self, alloc: Global, n: u16, host: &Text, port: u16) -> Result<Ior, NoMemory>
+        requires there { n < length self.now.objects }
+        requires counted { length host.now + 1 < 2 ^ 32 }
+        ensures { IfOk result (IsReferenceOf self.now n host.now port) }
+    {
+        let object = &self.objects[usize::from(n)];
+        let Some(adapter) = self.adapters.get(usize::from(object.adapter)) else {
+            return Err(NoMemory);
+        };
+        if object.key.len() > 4_294_967_295 {
+            return Err(NoMemory);
+        }
+        reference_of(alloc, adapter, object, host, port)
     }
 }
 

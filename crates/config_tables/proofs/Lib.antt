@@ -3,3 +3,5 @@ pub mod Judging
 pub mod Reading
 pub mod Tables
 pub mod Each
+pub mod LeastKey
+pub mod RulesHold

@@ -7,3 +7,5 @@ pub mod Standing
 pub mod Values
 pub mod Judging
 pub mod Means
+pub mod Laws
+pub mod Holding

@@ -7,6 +7,7 @@
 
 mod entries;
 mod fault;
+mod laws;
 mod lists;
 mod members;
 mod numbers;
@@ -16,6 +17,10 @@ mod texts;
 
 pub use entries::{Entry, entries_where, free_entries, read_entries, read_list};
 pub use fault::{ConfigCause, ConfigFault, SetupError};
+pub use laws::{
+    keys_without_a_fault_are_known, tables_without_a_fault_meet_their_rules,
+    the_least_unknown_key_is_told,
+};
 pub use lists::{due_list, due_table, free_list, free_table, list_where};
 pub use members::{excluded, known_keys, member, stands};
 pub use numbers::{due_native, due_number, free_number, free_truth, native_where, number_where};
