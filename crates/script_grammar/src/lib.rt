@@ -1,0 +1,21 @@
+//! The grammar of servant scripts as data: own profile.
+//!
+//! `specs/` has the rules as they are published, each below its line; the statics here are the same rules, and reading
+//! goes by them. One token tells the rules apart, so that the laws of `grammar` hold for them. What is done along a rule
+//! is told by labels, whose meaning stands in the crate of scripts.
+#![tactic(auto)]
+
+mod fault;
+mod label;
+mod laws;
+mod operator;
+mod rules;
+
+pub use fault::{ScriptFault, stop_at};
+pub use label::{Inner, ScriptLabel};
+pub use laws::rules_are_plain;
+pub use operator::{Binary, Unary};
+pub use rules::{MAX_OPEN, ScriptRule, file_rule, inside};
+
+#[cfg(test)]
+mod tests;

@@ -1,0 +1,4 @@
+//! Scripts with the trees that the grammar spells, and others with their first token at fault. Trees and columns were
+//! worked out by hand.
+
+mod faults;
