@@ -14,6 +14,7 @@ use std::alloc::Global;
 use std::sync::Wait;
 use std::test::Fail;
 
+mod closing;
 mod connection;
 
 /// A pool without lanes, of so many static threads; as many requests may wait.

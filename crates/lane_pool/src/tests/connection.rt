@@ -18,7 +18,7 @@ use std::test::Fail;
 
 /// The pass of the one slot.
 #[tactic(auto, using(crate::proofs::Sending::slots_out, crate::proofs::Sending::one_slot))]
-fn one_slot(pool: &LanePool, slots: List<SlotPass>) -> Option<SlotPass>
+pub fn one_slot(pool: &LanePool, slots: List<SlotPass>) -> Option<SlotPass>
     requires rest { AllRest pool.now.cell 0 slots.items }
     requires fresh { AreFrom pool.now.cell 1 0 slots.items }
     requires one { length slots.items ≡ 1 }
