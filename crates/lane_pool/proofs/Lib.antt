@@ -6,3 +6,6 @@ pub mod Giving
 pub mod Heirs
 pub mod Turns
 pub mod Openings
+pub mod Returned
+pub mod Staying
+pub mod Sending

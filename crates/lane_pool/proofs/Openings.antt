@@ -12,7 +12,7 @@ use Rattle.orb_base.specs.declared.lane_spec.LaneSpec.{LaneSpec}
 use Rattle.lane_machine.specs.Readiness.{HasLane}
 use Rattle.lane_pool.specs.Pass.{Pass, Sitting}
 use Rattle.lane_pool.specs.Passes.{IsFresh, AreFrom, IsOpen}
-use Rattle.lane_pool.specs.Turns.{Rests, CanTake, AllRest, AllIdle, FitsLane}
+use Rattle.lane_pool.specs.Turns.{Rests, CanTake, AllRest, AllIdle, FitsLane, FitsFirst}
 
 fresh_rests : (cell : CellView State) (who : ℕ) (p : Pass) → who < cell.terms.opening.slots → IsFresh cell (1 + who) who p → Rests cell p
 fresh_rests cell who p l f = record {
@@ -42,23 +42,8 @@ pub all_idle : (cell : CellView State) (slots who : ℕ) (ps : List Pass) → sl
 all_idle cell slots who [] e l a = tt
 all_idle cell slots who (p ∷ ps) e l a = ((fresh_idle cell who p (omega arith) (subst (λ (n : ℕ). IsFresh cell (n + 1 + who) who p) e a.0), a.0.who_is), all_idle cell slots (who + 1) ps e (omega arith) a.1)
 
-rests_at_end : (cell : CellView State) (who : ℕ) (xs : List Pass) (x : Pass) → AllRest cell who (xs ++ x ∷ []) → Rests cell x × (x.nth ≡ 0)
-rests_at_end cell who [] x a = (a.0.0, a.0.2)
-rests_at_end cell who (y ∷ ys) x a = rests_at_end cell (who + 1) ys x a.1
-
-pub last_rests : (cell : CellView State) (all xs : List Pass) (x : Pass) → AllRest cell 0 all → all ≡ xs ++ x ∷ [] → Rests cell x × (x.nth ≡ 0)
-last_rests cell all xs x a e = rests_at_end cell 0 xs x (subst (AllRest cell 0) e a)
-
-idles_at_end : (cell : CellView State) (who : ℕ) (xs : List Pass) (x : Pass) → AllIdle cell who (xs ++ x ∷ []) → CanTake cell x
-idles_at_end cell who [] x a = a.0.0
-idles_at_end cell who (y ∷ ys) x a = idles_at_end cell (who + 1) ys x a.1
-
-pub last_idles : (cell : CellView State) (all xs : List Pass) (x : Pass) → AllIdle cell 0 all → all ≡ xs ++ x ∷ [] → CanTake cell x
-last_idles cell all xs x a e = idles_at_end cell 0 xs x (subst (AllIdle cell 0) e a)
-
--- a pool of one slot with one connection
-pub room_for_one : (cell : CellView State) (pool : Pool) (root : Sitting) (readers workers : List Pass) (pass : Pass) → IsOpen pool 1 1 cell root readers workers → pass.nth ≡ 0 → pass.nth < cell.terms.opening.per_slot
-room_for_one cell pool root readers workers pass o e = let a : cell.terms.opening.per_slot ≡ 1 = ap (λ (s : State). s.per_slot) o.opened in omega arith
+pub room_there : (slots per_slot : ℕ) (cell : CellView State) (pool : Pool) (root : Sitting) (readers workers : List Pass) → IsOpen pool slots per_slot cell root readers workers → cell.terms.opening.per_slot ≡ per_slot
+room_there slots per_slot cell pool root readers workers o = ap (λ (s : State). s.per_slot) o.opened
 
 first_there : (lanes : List LaneSpec) → length lanes ≡ 1 → slice_get lanes 0 ≡ None → ⊥
 first_there [] l e = absurd (omega arith)
@@ -69,6 +54,6 @@ no_lanes_fit laned job (Some lane) f n = λ t. absurd (both_ways laned f t)
 no_lanes_fit laned job None f n = absurd (n refl)
 
 -- without lanes each request fits the one lane
-pub flat_lane : (cell : CellView State) (pool : Pool) (root : Sitting) (readers workers : List Pass) → IsOpen pool 1 1 cell root readers workers → IsWellFormed pool → pool.laned ≡ false → (job : Job) → job.lane ≡ 0 → FitsLane cell job
-flat_lane cell pool root readers workers o w f job z = subst (λ (s : State). HasLane s.pool.laned job (slice_get s.pool.lanes job.lane)) (sym o.opened)
+pub flat_lane : (slots per_slot : ℕ) (cell : CellView State) (pool : Pool) (root : Sitting) (readers workers : List Pass) → IsOpen pool slots per_slot cell root readers workers → IsWellFormed pool → pool.laned ≡ false → FitsFirst cell
+flat_lane slots per_slot cell pool root readers workers o w f job z = subst (λ (s : State). HasLane s.pool.laned job (slice_get s.pool.lanes job.lane)) (sym o.opened)
     (no_lanes_fit pool.laned job (slice_get pool.lanes job.lane) f (λ e. first_there pool.lanes (w.flat.one_lane f) (ap (slice_get pool.lanes) (sym z) ∙ e)))

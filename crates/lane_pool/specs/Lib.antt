@@ -4,3 +4,4 @@ pub mod Passes
 pub mod Turns
 pub mod Returning
 pub mod Limits
+pub mod Returned

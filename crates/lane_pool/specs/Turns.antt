@@ -59,6 +59,10 @@ pub record GoesOn (cell : CellView State) (closing : Bool) (old new : Pass) : Ty
 abbrev pub FitsLane : CellView State → Job → Type 0
 FitsLane cell job = HasLane cell.terms.opening.pool.laned job (slice_get cell.terms.opening.pool.lanes job.lane)
 
+-- each request of the first lane fits it
+abbrev pub FitsFirst : CellView State → Type 0
+FitsFirst cell = (job : Job) → job.lane ≡ 0 → FitsLane cell job
+
 -- the pass is that of a worker
 pub record Works (cell : CellView State) (pass : Pass) : Type 0 where
   pub in_cell : IsIn cell pass
