@@ -2,3 +2,5 @@
 //! worked out by hand.
 
 mod faults;
+mod show;
+mod trees;
