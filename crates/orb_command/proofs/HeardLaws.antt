@@ -27,7 +27,7 @@ request_is r s e = cc
 
 one_call : (setup : SetupData) (conn : ConnId) (serial : ℕ) (order : Order) (size : ℕ) (r : Request) (call other : LaneCall) → HasDistinctKeys setup → IsOffered setup conn serial order size r call → IsOffered setup conn serial order size r other → call ≡ other
 one_call setup conn serial order size r call other distinct p q =
-    let keys : p.object.object_key ≡ q.object.object_key = key_is _ _ (sym p.addressed ∙ q.addressed) in
+    let keys : p.object.key ≡ q.object.key = key_is _ _ (sym p.addressed ∙ q.addressed) in
     let targets : p.target ≡ q.target = distinct p.target q.target p.object q.object p.known q.known keys in
     let objects : p.object ≡ q.object = same_Some _ _ (sym p.known ∙ ap (λ (t : ℕ). slice_get setup.objects t) targets ∙ q.known) in
     let adapters : p.adapter ≡ q.adapter = same_Some _ _ (sym p.served ∙ ap (λ (o : ObjectSpec). slice_get setup.adapters o.adapter) objects ∙ q.served) in

@@ -66,7 +66,7 @@ is_offered serial order size id = record {
   addressed = refl;
   plain = refl;
   no_bind = another_name;
-  mapped = tt;
+  mapped = refl;
   placed = refl;
   meant = refl;
 }
