@@ -65,8 +65,9 @@ fn is_lawful_struct(members: &[Member]) -> bool
     are_lawful(members)
 }
 
+/// Whether the type of each member is lawful. Work as for `is_lawful`. Takes no memory.
 #[cycle(is_lawful)]
-fn are_lawful(members: &[Member]) -> bool
+pub fn are_lawful(members: &[Member]) -> bool
     ensures { result ≡ law.are_lawful (members_of (members_view members.now)) }
 {
     for member in members {

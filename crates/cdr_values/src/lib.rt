@@ -23,7 +23,7 @@ pub use encoding::encode;
 pub use fault::DecodeFault;
 pub use fitting::fits;
 pub use kind::{Case, IdlType, Member};
-pub use lawful::is_lawful;
+pub use lawful::{are_lawful, is_lawful};
 pub use laws::{reads_back, reads_exactly, reads_one_way};
 pub use value::IdlValue;
 

@@ -405,6 +405,27 @@ fn unlawful_types_are_told(rt: HostRuntime) -> Result<(), Fail> {
     Ok(())
 }
 
+fn are_lawful_members(member: Member, mut members: Vec<Member>) -> Result<bool, NoMemory> {
+    members.push(member)?;
+    Ok(are_lawful(members.as_slice()))
+}
+
+#[test]
+fn members_are_lawful_where_each_type_is(rt: HostRuntime) -> Result<(), Fail> {
+    let alloc = rt.alloc();
+    let empty = Member {
+        name: text(alloc, b"x")?,
+        kind: IdlType::Struct(text(alloc, b"S")?, Vec::new(alloc)),
+    };
+    let octet = Member {
+        name: text(alloc, b"x")?,
+        kind: IdlType::Octet,
+    };
+    assert!(rt; !are_lawful_members(empty, Vec::new(alloc))?);
+    assert!(rt; are_lawful_members(octet, Vec::new(alloc))?);
+    Ok(())
+}
+
 #[test]
 fn unlawful_unions_are_told(rt: HostRuntime) -> Result<(), Fail> {
     let alloc = rt.alloc();

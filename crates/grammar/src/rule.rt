@@ -1,6 +1,23 @@
 //! Rules.
 use idl_tokens::Kind;
 
+/// The brackets that may be open at once in a text of IDL or of a script.
+pub const MAX_OPEN: u32 = 64;
+
+/// Rules one behind the other.
+#[macro_export]
+macro_rules! seq {
+    ($a:expr) => { $a };
+    ($a:expr, $($rest:expr),+) => { $crate::Rule::Then(&$a, &$crate::seq![$($rest),+]) };
+}
+
+/// One of several rules, told apart by the next token.
+#[macro_export]
+macro_rules! alt {
+    ($a:expr) => { $a };
+    ($a:expr, $($rest:expr),+) => { $crate::Rule::Or(&$a, &$crate::alt![$($rest),+]) };
+}
+
 /// A rule of a grammar, over labels for what is done and names of the rules that stand in brackets. Rules refer to
 /// their parts, so that a grammar is a set of constants.
 #[derive(Drop)]

@@ -31,7 +31,3 @@ behind_0 (c ∷ cs) = if nat_eq c 120 then number 16 cs else number 8 (c ∷ cs)
 abbrev pub integer_of : List ℕ → ℕ
 integer_of [] = 0
 integer_of (c ∷ cs) = if nat_eq c 48 then behind_0 cs else number 10 (c ∷ cs)
-
--- a text without the quotes around it
-abbrev pub unquoted : List ℕ → List ℕ
-unquoted cs = take (length cs - 2) (drop 1 cs)

@@ -10,7 +10,7 @@ mod value;
 
 pub use fitting::{bound_of, fit};
 pub use kinds::{may_be_constant, may_switch};
-pub use literal::{character_of, integer_of, unquoted};
+pub use literal::{character_of, integer_of};
 pub use misfit::Misfit;
 pub use value::ConstValue;
 

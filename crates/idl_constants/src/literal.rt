@@ -59,16 +59,6 @@ pub fn integer_of(text: &[u8]) -> u128
     }
 }
 
-/// The bytes of a text without the quotes around them.
-pub fn unquoted(text: &[u8]) -> &[u8]
-    ensures { result.now ≡ Spec.unquoted text.now }
-{
-    match text {
-        [_, inner @ .., _] => inner,
-        _ => b"".as_slice(),
-    }
-}
-
 /// The byte of a character between its quotes.
 pub fn character_of(text: &[u8]) -> u8
     ensures { result ≡ slice_index text.now 1 }

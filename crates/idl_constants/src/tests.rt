@@ -21,8 +21,6 @@ fn a_literal_spells_its_number(rt: HostRuntime) -> Result<(), Fail> {
     for (text, want) in rows {
         assert_eq!(rt; integer_of(text), want);
     }
-    assert_eq!(rt; unquoted(b"\"hi\""), b"hi".as_slice());
-    assert_eq!(rt; unquoted(b"\"\""), b"".as_slice());
     assert_eq!(rt; character_of(b"'a'"), b'a');
     Ok(())
 }

@@ -1,12 +1,10 @@
 -- One token tells the rules of IDL apart: each rule by computation, whatever is done along it.
 use Rattle.std.proofs.Common.{◌≡◌, ◌≤◌, lit≤, true, false, Result, refl}
 use Rattle.grammar.specs.Views.{size}
-use denote.Enum.Bare.{same_true}
 use Rattle.grammar.specs.Rules.{one, maybe, ◌then◌}
 use Rattle.grammar.specs.Plain.{is_plain, goes_on}
 use Rattle.idl_tokens.specs.Placed.{Placed, same_kind}
-use Rattle.idl_tokens.specs.contracts.kind.Kind.{the_type}
-use Rattle.idl_tokens.specs.declared.kind.Kind.{Kind}
+use Rattle.idl_tokens.proofs.Kinds.{same_is}
 use Rattle.idl_tokens.specs.declared.kind.Kind.TheVariants as token
 use Rattle.idl_grammar.specs.declared.fault.IdlFault.{IdlFault}
 use Rattle.idl_grammar.specs.declared.label.IdlLabel.{IdlLabel}
@@ -15,10 +13,6 @@ use Rattle.idl_grammar.specs.declared.label.Inner.{Inner}
 use Rattle.idl_grammar.specs.declared.label.Inner.TheVariants as inner
 use Rattle.idl_grammar.specs.IdlRules.{file, inside}
 use Rattle.idl_grammar.specs.Plain.{idl, IsPlainIdl}
-
-same_is : (a b : Kind) → same_kind a b ≡ true → a ≡ b
-unfolding same_kind
-same_is a b e = same_true the_type tt a b e
 
 plain_file : {B : Type 0} (act : IdlLabel → Placed Kind → B → Result B IdlFault) (judge : IdlLabel → B → Result B IdlFault) → is_plain (idl act judge) file ≡ true
 unfolding same_kind

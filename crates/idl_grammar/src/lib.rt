@@ -14,7 +14,7 @@ mod stopping;
 pub use fault::{IdlCause, IdlFault};
 pub use label::{Basic, IdlLabel, Inner};
 pub use laws::rules_are_plain;
-pub use rules::{IdlRule, MAX_OPEN, file_rule, inside};
+pub use rules::{IdlRule, file_rule, inside};
 pub use stopping::stop_at;
 
 #[cfg(test)]

@@ -4,24 +4,11 @@ ghost use Rattle.grammar.specs.Views.{rule_of};
 ghost use Rattle.idl_grammar.specs.IdlRules as Spec;
 
 use crate::{Basic, IdlCause, IdlLabel as Label, Inner};
-use grammar::Rule;
+use grammar::{Rule, alt, seq};
 use idl_tokens::Kind;
 
 /// A rule of IDL.
 pub type IdlRule = Rule<'static, Label, Inner>;
-
-/// The brackets that may be open at once.
-pub const MAX_OPEN: u32 = 64;
-
-macro_rules! seq {
-    ($a:expr) => { $a };
-    ($a:expr, $($rest:expr),+) => { Rule::Then(&$a, &seq![$($rest),+]) };
-}
-
-macro_rules! alt {
-    ($a:expr) => { $a };
-    ($a:expr, $($rest:expr),+) => { Rule::Or(&$a, &alt![$($rest),+]) };
-}
 
 macro_rules! word {
     ($kind:ident) => {

@@ -7,7 +7,8 @@ use Rattle.idl_tokens.specs.declared.kind.Kind.{Kind}
 use Rattle.idl_grammar.specs.declared.fault.IdlCause.TheVariants as cause
 use Rattle.idl_scopes.specs.Table.{other}
 use Rattle.idl_constants.specs.ConstValues.{Value, number, character, text, label_of}
-use Rattle.idl_constants.specs.Literals.{integer_of, unquoted}
+use Rattle.idl_tokens.specs.Quotes.{unquoted}
+use Rattle.idl_constants.specs.Literals.{integer_of}
 use Rattle.idl_constants.specs.Fitting.{Fit, fit, fit_number}
 use Rattle.idl_constants.specs.Standing.{may_be_constant}
 use Rattle.idl_constants.specs.declared.misfit.Misfit.TheVariants.{WrongKind, OutOfRange}

@@ -1,3 +1,4 @@
 pub mod Places
 pub mod Comments
 pub mod OneTurn
+pub mod Kinds

@@ -10,6 +10,7 @@ mod dialect;
 mod kind;
 mod lexing;
 mod marks;
+mod quotes;
 mod runs;
 mod spelling;
 mod token;
@@ -19,6 +20,7 @@ mod words;
 pub use cutting::{Found, tokens_of};
 pub use dialect::Dialect;
 pub use kind::Kind;
+pub use quotes::unquoted;
 pub use token::{MAX_TEXT, Token};
 pub use tokens::{Tokens, same_kind};
 

@@ -218,3 +218,11 @@ fn lines_and_columns_count_from_one_and_bytes(rt: HostRuntime) -> Result<(), Fai
     assert!(rt; same_kind(tokens.front().kind, Kind::End));
     Ok(())
 }
+
+#[test]
+fn what_stands_between_quotes_is_told(rt: HostRuntime) -> Result<(), Fail> {
+    assert_eq!(rt; unquoted(b"\"hi\""), b"hi".as_slice());
+    assert_eq!(rt; unquoted(b"\"\""), b"".as_slice());
+    assert_eq!(rt; unquoted(b"\""), b"".as_slice());
+    Ok(())
+}

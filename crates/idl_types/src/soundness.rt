@@ -19,7 +19,7 @@ use crate::leaves::{spend, spend_members};
 use crate::levels::{are_within_levels, is_within_levels};
 use crate::operation::Operation;
 use crate::param::Param;
-use cdr_values::{IdlType, Member, is_lawful};
+use cdr_values::{IdlType, Member, are_lawful, is_lawful};
 use indexmap::IndexSet;
 use orb_base::{NoMemory, Text};
 use std::alloc::Global;
@@ -73,17 +73,6 @@ fn are_sound(members: &[Member]) -> bool
         return false;
     }
     are_within_levels(members, MOST_LEVELS)
-}
-
-fn are_lawful(members: &[Member]) -> bool
-    ensures { result ≡ law.are_lawful (members_of (members_view members.now)) }
-{
-    for member in members {
-        if !is_lawful(&member.kind) {
-            return false;
-        }
-    }
-    true
 }
 
 fn are_sound_operations(alloc: Global, operations: &[Operation]) -> Result<bool, NoMemory>

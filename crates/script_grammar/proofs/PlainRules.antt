@@ -1,12 +1,10 @@
 -- One token tells the rules of scripts apart: each rule by computation, whatever is done along it.
 use Rattle.std.proofs.Common.{◌≡◌, ◌≤◌, lit≤, true, false, Result, refl}
 use Rattle.grammar.specs.Views.{size}
-use denote.Enum.Bare.{same_true}
 use Rattle.grammar.specs.Rules.{one, maybe, ◌then◌}
 use Rattle.grammar.specs.Plain.{is_plain, goes_on}
 use Rattle.idl_tokens.specs.Placed.{Placed, same_kind}
-use Rattle.idl_tokens.specs.contracts.kind.Kind.{the_type}
-use Rattle.idl_tokens.specs.declared.kind.Kind.{Kind}
+use Rattle.idl_tokens.proofs.Kinds.{same_is}
 use Rattle.idl_tokens.specs.declared.kind.Kind.TheVariants as token
 use Rattle.script_grammar.specs.declared.fault.ScriptFault.{ScriptFault}
 use Rattle.script_grammar.specs.declared.label.ScriptLabel.{ScriptLabel}
@@ -15,10 +13,6 @@ use Rattle.script_grammar.specs.declared.label.Inner.{Inner}
 use Rattle.script_grammar.specs.declared.label.Inner.TheVariants as inner
 use Rattle.script_grammar.specs.ScriptRules.{file, inside}
 use Rattle.script_grammar.specs.Plain.{script, IsPlainScript}
-
-same_is : (a b : Kind) → same_kind a b ≡ true → a ≡ b
-unfolding same_kind
-same_is a b e = same_true the_type tt a b e
 
 plain_file : {B : Type 0} (act : ScriptLabel → Placed Kind → B → Result B ScriptFault) (judge : ScriptLabel → B → Result B ScriptFault) → is_plain (script act judge) file ≡ true
 unfolding same_kind

@@ -15,7 +15,7 @@ pub use fault::{ScriptFault, stop_at};
 pub use label::{Inner, ScriptLabel};
 pub use laws::rules_are_plain;
 pub use operator::{Binary, Unary};
-pub use rules::{MAX_OPEN, ScriptRule, file_rule, inside};
+pub use rules::{ScriptRule, file_rule, inside};
 
 #[cfg(test)]
 mod tests;

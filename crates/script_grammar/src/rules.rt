@@ -4,24 +4,11 @@ ghost use Rattle.grammar.specs.Views.{rule_of};
 ghost use Rattle.script_grammar.specs.ScriptRules as Spec;
 
 use crate::{Binary, Inner, ScriptLabel as Label, Unary};
-use grammar::Rule;
+use grammar::{Rule, alt, seq};
 use idl_tokens::Kind;
 
 /// A rule of scripts.
 pub type ScriptRule = Rule<'static, Label, Inner>;
-
-/// The brackets that may be open at once.
-pub const MAX_OPEN: u32 = 64;
-
-macro_rules! seq {
-    ($a:expr) => { $a };
-    ($a:expr, $($rest:expr),+) => { Rule::Then(&$a, &seq![$($rest),+]) };
-}
-
-macro_rules! alt {
-    ($a:expr) => { $a };
-    ($a:expr, $($rest:expr),+) => { Rule::Or(&$a, &alt![$($rest),+]) };
-}
 
 macro_rules! word {
     ($kind:ident) => {

@@ -2,7 +2,7 @@
 ghost use Rattle.std.specs.Prelude.{◌≡◌};
 
 use super::*;
-use grammar::{Builder, ReadError, read_whole};
+use grammar::{Builder, MAX_OPEN, ReadError, read_whole};
 use idl_tokens::{Dialect, Kind, Token, tokens_of};
 use std::alloc::Global;
 use std::test::*;

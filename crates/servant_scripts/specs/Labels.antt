@@ -8,7 +8,8 @@ use Rattle.script_grammar.specs.declared.fault.ScriptFault.{ScriptFault}
 use Rattle.script_grammar.specs.declared.label.ScriptLabel.{ScriptLabel}
 use Rattle.script_grammar.specs.declared.label.ScriptLabel.TheVariants as l
 use Rattle.servant_scripts.specs.Trees.{say_number, say_truth, say_text, say_priority}
-use Rattle.servant_scripts.specs.Literals.{literal_of, unquoted}
+use Rattle.idl_tokens.specs.Quotes.{unquoted}
+use Rattle.servant_scripts.specs.Literals.{literal_of}
 use Rattle.servant_scripts.specs.Drafts.{Draft, keep, begin_unary, wrap, begin_binary, join, push, rooted, first_part, next_part, use_name, with_member, open_list, item, end_list, open_fields, wait, end_field, make, end_raise, open_block, end_let, end_set, end_if, leave, give, open_names, end_method, end_servant}
 
 -- what is built, or the fault

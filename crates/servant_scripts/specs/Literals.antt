@@ -18,7 +18,3 @@ is_decimal (c ∷ cs) = not (c == 48) || (length cs == 0)
 -- the number of an integer literal that is decimal and below 2^127
 abbrev pub literal_of : List ℕ → Option ℤ
 literal_of cs = if is_decimal cs && nat_lt (number cs) (2 ^ 127) then Some (pos (number cs)) else None
-
--- a text without the quotes around it
-abbrev pub unquoted : List ℕ → List ℕ
-unquoted cs = take (length cs - 2) (drop 1 cs)

@@ -5,15 +5,16 @@ ghost use Rattle.idl_tokens.specs.Placed.{seen};
 ghost use Rattle.servant_scripts.specs.Answers.{Does, Same};
 ghost use Rattle.servant_scripts.specs.DraftView.{draft_of};
 ghost use Rattle.servant_scripts.specs.Labels as Spec;
+ghost use Rattle.idl_tokens.specs.Quotes as Quotes;
 ghost use Rattle.servant_scripts.specs.Literals as Literal;
 ghost use Rattle.orb_base.specs.NulFree.{nul_at};
 ghost use Rattle.script_grammar.specs.Stopping.{stop};
 
 use crate::draft::Draft;
-use crate::literal::{literal_of, unquoted};
+use crate::literal::literal_of;
 use crate::{Form, ScriptError};
 use grammar::{Builder, ReadError};
-use idl_tokens::Token;
+use idl_tokens::{Token, unquoted};
 use orb_base::{NoMemory, Text, TextFault};
 use script_grammar::{Inner, ScriptFault, ScriptLabel as Label, ScriptRule, stop_at};
 
@@ -48,7 +49,7 @@ impl Draft {
 
     /// A text, which holds no NUL.
     fn text(&mut self, token: Token<'_>) -> Result<(), ScriptError>
-        ensures { Does result (draft_of self.new) (Spec.with_text (nul_at (Literal.unquoted (seen token.entry).text)) (seen token.entry) (draft_of self.old)) }
+        ensures { Does result (draft_of self.new) (Spec.with_text (nul_at (Quotes.unquoted (seen token.entry).text)) (seen token.entry) (draft_of self.old)) }
     {
         match Text::new(self.alloc, unquoted(token.text)) {
             Ok(text) => Ok(self.push(Form::Text(text), token)?),

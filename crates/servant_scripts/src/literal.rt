@@ -39,13 +39,3 @@ pub fn literal_of(text: &[u8]) -> Option<i128>
     let n = number(text);
     if n < LIMIT { Some(n as i128) } else { None }
 }
-
-/// The bytes of a text without the quotes around them.
-pub fn unquoted(text: &[u8]) -> &[u8]
-    ensures { result.now ≡ Spec.unquoted text.now }
-{
-    match text {
-        [_, inner @ .., _] => inner,
-        _ => b"".as_slice(),
-    }
-}

@@ -8,9 +8,9 @@ ghost use Rattle.servant_scripts.specs.Scripts.{script_reading, tokens_reading, 
 
 use crate::draft::Draft;
 use crate::{Script, ScriptError};
-use grammar::{ReadError, read_whole};
+use grammar::{MAX_OPEN, ReadError, read_whole};
 use idl_tokens::{Dialect, Found, Kind, tokens_of};
-use script_grammar::{MAX_OPEN, file_rule};
+use script_grammar::file_rule;
 use std::alloc::Global;
 
 /// Reads the tokens of a text.
