@@ -2,5 +2,6 @@
 //! worked out by hand.
 
 mod faults;
+mod places;
 mod show;
 mod trees;
