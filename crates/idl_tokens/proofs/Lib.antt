@@ -1,4 +1,4 @@
 pub mod Places
 pub mod Comments
 pub mod OneTurn
-pub mod Kinds
+pub mod SameKinds

@@ -6,3 +6,4 @@ pub mod Words
 pub mod Lexing
 pub mod Cutting
 pub mod Found
+pub mod Quotes
