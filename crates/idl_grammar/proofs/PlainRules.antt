@@ -4,6 +4,7 @@ use Rattle.grammar.specs.Views.{size}
 use Rattle.grammar.specs.Rules.{one, maybe, ◌then◌}
 use Rattle.grammar.specs.Plain.{is_plain, goes_on}
 use Rattle.idl_tokens.specs.Placed.{Placed, same_kind}
+use Rattle.idl_tokens.specs.declared.kind.Kind.{Kind}
 use Rattle.idl_tokens.proofs.SameKinds.{same_is}
 use Rattle.idl_tokens.specs.declared.kind.Kind.TheVariants as token
 use Rattle.idl_grammar.specs.declared.fault.IdlFault.{IdlFault}
