@@ -19,12 +19,14 @@ use Rattle.idl_types.specs.Things.{Thing, constant, named, exception, interface,
 use Rattle.idl_types.specs.Names.{names_in, operation_names}
 use Rattle.idl_types.specs.Apart.{are_apart}
 use Rattle.idl_types.specs.Sound.{is_sound_thing, is_sound_operation, is_reserved, ping_id, is_own, has_bases_in, are_based, file_leaves, counted_leaves, most_file_leaves}
-use Rattle.idl_types.specs.Declaring.{is_new, may_hold}
+use Rattle.idl_types.specs.Inherited.{inherits_in}
+use Rattle.idl_types.specs.Declaring.{is_new, is_derived_in, may_hold}
 use Rattle.idl_types.specs.Entries.{Entry, entry_thing, entry_things, AreKeyed, AreFolded, InsertsBehind, PutsBehind, SetsLeft}
 use Rattle.idl_types.specs.BuiltIn.{ping}
 use Rattle.idl_types.specs.Finding.{has_id, place_named}
 use Rattle.orb_base.proofs.Places.{any_map}
 use Rattle.idl_types.proofs.Places.{any_more, none_any}
+use Rattle.idl_types.proofs.Inheriting.{inherited_on}
 
 -- the operations of a sound thing have different names
 pub sound_names : (t : Thing) → is_sound_thing t ≡ true → differ bytes_eq (operation_names (operations_of t)) ≡ true
@@ -37,17 +39,19 @@ sound_names (interface i) s = (and_parts (list_all is_sound_operation i.operatio
 pub record Fresh (ts : List Thing) (t : Thing) : Type 0 where
   pub sound : is_sound_thing t ≡ true
   pub based : has_bases_in ts t ≡ true
+  pub inherited : inherits_in ts t ≡ true
   pub new : is_new ts t ≡ true
   pub own : is_own t ≡ true
   pub leaves : file_leaves ts + counted_leaves t ≤ most_file_leaves
 
 pub fresh : (ts : List Thing) (t : Thing) → may_hold ts t ≡ true → Fresh ts t
 fresh ts t h =
-    let p = and_parts (is_sound_thing t && has_bases_in ts t) ((is_new ts t && is_own t) && nat_le (file_leaves ts + counted_leaves t) most_file_leaves) h in
-    let q = and_parts (is_sound_thing t) (has_bases_in ts t) p.0 in
+    let p = and_parts (is_sound_thing t && is_derived_in ts t) ((is_new ts t && is_own t) && nat_le (file_leaves ts + counted_leaves t) most_file_leaves) h in
+    let q = and_parts (is_sound_thing t) (is_derived_in ts t) p.0 in
+    let d = and_parts (has_bases_in ts t) (inherits_in ts t) q.1 in
     let r = and_parts (is_new ts t && is_own t) (nat_le (file_leaves ts + counted_leaves t) most_file_leaves) p.1 in
     let s = and_parts (is_new ts t) (is_own t) r.0 in
-    record { sound = q.0; based = q.1; new = s.0; own = s.1; leaves = leb-true (file_leaves ts + counted_leaves t) most_file_leaves r.1 }
+    record { sound = q.0; based = d.0; inherited = d.1; new = s.0; own = s.1; leaves = leb-true (file_leaves ts + counted_leaves t) most_file_leaves r.1 }
 
 pub insert_behind_is : (eq : Vec ℕ Global → Vec ℕ Global → Bool) (k : Vec ℕ Global) (h : Held) (es : List Entry) → list_any (eq k) (keys_of es) ≡ false → insert_entry eq es k h ≡ es ++ (k, h) ∷ []
 insert_behind_is eq k h [] new = refl
@@ -142,6 +146,7 @@ pub record Kept (es : List Entry) (ns : List (Vec ℕ Global)) : Type 0 where
   pub each : list_all is_sound_thing (entry_things es) ≡ true
   pub ids : are_apart (map id_of (entry_things es)) ≡ true
   pub based : are_based [] (entry_things es) ≡ true
+  pub inherited : list_all (inherits_in (entry_things es)) (entry_things es) ≡ true
   pub own : list_all is_own (entry_things es) ≡ true
   pub by_case : AreFolded ns es
 
@@ -162,12 +167,13 @@ kept_on es e ns more low k room key is new f =
       each = ap (list_all is_sound_thing) (things_on es e) ∙ each_on ts t k.each f;
       ids = ap (λ (xs : List Thing). are_apart (map id_of xs)) (things_on es e) ∙ ids_on ts t k.ids f;
       based = ap (are_based []) (things_on es e) ∙ based_on ts t k.based f;
+      inherited = ap (λ (xs : List Thing). list_all (inherits_in xs) xs) (things_on es e) ∙ inherited_on ts t k.based k.inherited f.based f.inherited;
       own = ap (list_all is_own) (things_on es e) ∙ own_on ts t k.own f;
       by_case = folded_on es e ns more low k.by_case is new;
     }
 
 kept_same : (es : List Entry) (ns more : List (Vec ℕ Global)) → Kept es ns → names_in more ≡ names_in ns → Kept es more
-kept_same es ns more k is = record { keyed = k.keyed; room = k.room; each = k.each; ids = k.ids; based = k.based; own = k.own; by_case = is ∙ k.by_case }
+kept_same es ns more k is = record { keyed = k.keyed; room = k.room; each = k.each; ids = k.ids; based = k.based; inherited = k.inherited; own = k.own; by_case = is ∙ k.by_case }
 
 -- the entries go on keeping it, whether or not the entry was put behind them
 pub kept_after : (r : Result (Unit {0}) NoMemory) (es new : List Entry) (e : Entry) (ns more : List (Vec ℕ Global)) (low : List ℕ)
@@ -229,7 +235,7 @@ ping_free t is = ap counted_leaves is
 pub ping_may : (ts : List Thing) (t : Thing) → t ≡ ping → place_named ts ping_id ≡ None → list_all is_own ts ≡ true → file_leaves ts ≤ most_file_leaves → may_hold ts t ≡ true
 ping_may ts t is none own leaves =
     ap (may_hold ts) is
-    ∙ and_from (is_sound_thing ping && has_bases_in ts ping) ((is_new ts ping && is_own ping) && nat_le (file_leaves ts + counted_leaves ping) most_file_leaves) refl
+    ∙ and_from (is_sound_thing ping && is_derived_in ts ping) ((is_new ts ping && is_own ping) && nat_le (file_leaves ts + counted_leaves ping) most_file_leaves) refl
     (and_from (is_new ts ping && is_own ping) (nat_le (file_leaves ts + counted_leaves ping) most_file_leaves)
     (and_from (is_new ts ping) (is_own ping) new refl)
     (le-leb (file_leaves ts + counted_leaves ping) most_file_leaves (omega (arith, leaves))))

@@ -8,8 +8,8 @@ use Rattle.std.proofs.lemmas.Bool.{and_left, and_right, and_from, or_left, not_f
 use Rattle.idl_types.specs.Things.{Thing, id_of}
 use Rattle.idl_types.specs.Counting.{thing_leaves}
 use Rattle.idl_types.specs.Budget.{left}
-use Rattle.idl_types.specs.Sound.{ping_id, is_sound_thing, is_reserved, is_own, has_bases_in, counted_leaves, file_leaves, most_file_leaves}
-use Rattle.idl_types.specs.Declaring.{is_new, may_declare}
+use Rattle.idl_types.specs.Sound.{ping_id, is_sound_thing, is_reserved, is_own, counted_leaves, file_leaves, most_file_leaves}
+use Rattle.idl_types.specs.Declaring.{is_new, is_derived_in, may_declare}
 use Rattle.idl_types.specs.Entries.{Entry, entry_thing, entry_things, AreFolded}
 use Rattle.orb_base.proofs.Places.{any_map}
 use Rattle.idl_types.proofs.Budgets.{enough, short}
@@ -41,27 +41,27 @@ module _ (ts : List Thing) (t : Thing) where
   room = nat_le (file_leaves ts + counted_leaves t) most_file_leaves
 
   pub says_reserved : is_reserved (id_of t) ≡ true → false ≡ may_declare ts t
-  says_reserved e = in_front (is_reserved (id_of t)) (is_sound_thing t) (has_bases_in ts t) (is_new ts t) (is_own t) room e
+  says_reserved e = in_front (is_reserved (id_of t)) (is_sound_thing t) (is_derived_in ts t) (is_new ts t) (is_own t) room e
 
-  pub says_unbased : has_bases_in ts t ≡ false → false ≡ may_declare ts t
-  says_unbased e = no_base (is_reserved (id_of t)) (is_sound_thing t) (has_bases_in ts t) (is_new ts t) (is_own t) room e
+  pub says_underived : is_derived_in ts t ≡ false → false ≡ may_declare ts t
+  says_underived e = no_base (is_reserved (id_of t)) (is_sound_thing t) (is_derived_in ts t) (is_new ts t) (is_own t) room e
 
   pub says_known : is_new ts t ≡ false → false ≡ may_declare ts t
-  says_known e = not_new (is_reserved (id_of t)) (is_sound_thing t) (has_bases_in ts t) (is_new ts t) (is_own t) room e
+  says_known e = not_new (is_reserved (id_of t)) (is_sound_thing t) (is_derived_in ts t) (is_new ts t) (is_own t) room e
 
   all_counted : is_reserved (id_of t) ≡ false → counted_leaves t ≡ thing_leaves t
   all_counted e = ap (λ (b : Bool). if b then 0 else thing_leaves t) e
 
   pub says_large : (budget : ℕ) → is_reserved (id_of t) ≡ false → left budget (thing_leaves t) ≡ None → budget + file_leaves ts ≡ 1048576 → false ≡ may_declare ts t
   says_large budget e none all =
-      no_room (is_reserved (id_of t)) (is_sound_thing t) (has_bases_in ts t) (is_new ts t) (is_own t) room
+      no_room (is_reserved (id_of t)) (is_sound_thing t) (is_derived_in ts t) (is_new ts t) (is_own t) room
       (lt-leb (file_leaves ts + counted_leaves t) most_file_leaves (omega (arith, all, short budget (thing_leaves t) none, all_counted e)))
 
-  pub says_sound : (budget rest : ℕ) → is_reserved (id_of t) ≡ false → has_bases_in ts t ≡ true → is_new ts t ≡ true → left budget (thing_leaves t) ≡ Some rest
+  pub says_sound : (budget rest : ℕ) → is_reserved (id_of t) ≡ false → is_derived_in ts t ≡ true → is_new ts t ≡ true → left budget (thing_leaves t) ≡ Some rest
       → budget + file_leaves ts ≡ 1048576 → is_sound_thing t ≡ may_declare ts t
   says_sound budget rest er eb en some all =
       let h = enough budget (thing_leaves t) rest some in
-      by_soundness (is_reserved (id_of t)) (is_sound_thing t) (has_bases_in ts t) (is_new ts t) (is_own t) room er eb en
+      by_soundness (is_reserved (id_of t)) (is_sound_thing t) (is_derived_in ts t) (is_new ts t) (is_own t) room er eb en
       (or_left (not (is_reserved (id_of t))) (bytes_eq ping_id (id_of t)) (not_from_false (is_reserved (id_of t)) er))
       (le-leb (file_leaves ts + counted_leaves t) most_file_leaves (omega (arith, all, h.0, all_counted er)))
 

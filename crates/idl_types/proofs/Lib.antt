@@ -1,6 +1,8 @@
 pub mod Places
 pub mod NamesKept
 pub mod Parts
+pub mod EachOnce
+pub mod Inheriting
 pub mod Holding
 pub mod Marking
 pub mod Walks

@@ -5,8 +5,9 @@ pub mod Counting
 pub mod Budget
 pub mod Apart
 pub mod Sound
-pub mod Bases
 pub mod Names
+pub mod Inherited
+pub mod Bases
 pub mod Marked
 pub mod Walk
 pub mod Entries

@@ -1,7 +1,8 @@
 //! The repository of an IDL file: what it declares, found by repository id (CORBA 3.0.3, chapter 3 and section 10.6).
 //!
 //! A repository holds its declarations in order, and keeps what later crates rest on: types are lawful, ids and names
-//! are told apart, bases stand before what is derived from them, and leaves and levels are within their limits.
+//! are told apart, bases stand before what is derived from them and give it its first operations, and leaves and levels
+//! are within their limits.
 #![tactic(auto)]
 
 mod apart;
@@ -10,6 +11,7 @@ mod declaration;
 mod exception;
 mod folding;
 mod held;
+mod inheritance;
 mod interface;
 mod kinship;
 mod leaves;

@@ -5,11 +5,13 @@ ghost use Rattle.std.specs.Str.{bytes_eq};
 ghost use Rattle.indexmap.specs.IndexMap.{keys, spare};
 ghost use Rattle.std.specs.Option.{option_copied, option_map};
 ghost use Rattle.idl_types.specs.Things.{id_of};
+ghost use Rattle.idl_types.specs.Things as things;
 ghost use Rattle.idl_types.specs.Names.{names_in};
 ghost use Rattle.idl_types.specs.Views.{thing_of, constant_of, type_of, exception_of, interface_of, operation_of};
 ghost use Rattle.idl_types.specs.Finding as Found;
 ghost use Rattle.idl_types.specs.Sound.{is_sound_thing, are_based, file_leaves, counted_leaves, is_own};
 ghost use Rattle.idl_types.specs.Apart.{are_apart};
+ghost use Rattle.idl_types.specs.Inherited.{inherits_in};
 ghost use Rattle.idl_types.specs.Declaring.{may_declare, may_hold, is_new};
 ghost use Rattle.idl_types.specs.BuiltIn.{with_ping};
 ghost use Rattle.idl_types.specs.References.{kind_at};
@@ -51,6 +53,7 @@ pub struct Repository {
     ghost each: { IsTrue (list_all is_sound_thing (entry_things declared.entries)) },
     ghost ids: { IsTrue (are_apart (map id_of (entry_things declared.entries))) },
     ghost based: { IsTrue (are_based [] (entry_things declared.entries)) },
+    ghost inherited: { IsTrue (list_all (inherits_in (entry_things declared.entries)) (entry_things declared.entries)) },
     ghost own: { IsTrue (list_all is_own (entry_things declared.entries)) },
     ghost by_case: { AreFolded folded.keys declared.entries },
     ghost counted: { left + file_leaves (entry_things declared.entries) ≡ 1048576 },
@@ -158,9 +161,10 @@ impl Repository {
         }
     }
 
-    /// The interface of an id. Costs a hash. Takes no memory.
+    /// The interface of an id. Its operations begin with those that its bases give. Costs a hash. Takes no memory.
     pub fn interface(&self, id: &[u8]) -> Option<&Interface>
-        ensures { option_map interface_of (option_copied result) ≡ Found.interface_named (things_of self.now) id.now }
+        ensures inherited { IfSome result (λ i. IsTrue (inherits_in (things_of self.now) (things.interface (interface_of i.now)))) }
+        ensures found { option_map interface_of (option_copied result) ≡ Found.interface_named (things_of self.now) id.now }
     {
         match self.find(id) {
             Some(Declaration::Interface(interface)) => Some(interface),
@@ -205,15 +209,16 @@ impl Repository {
 
     /// Whether a file may declare this behind what is declared: its types are lawful and no larger than they may be, the
     /// names in them and its id are told apart from all others there, case aside, the id isn't in the module Orb, its
-    /// operations have different names, its bases are interfaces that are declared, and the file's leaves stay within
-    /// their limit. Work grows with the size of the declaration.
+    /// operations have different names, its bases are interfaces that are declared, its operations begin with those that
+    /// these give, and the file's leaves stay within their limit. Work grows with the size of the declaration and of its
+    /// bases.
     pub fn accepts(&self, declaration: &Declaration) -> Result<bool, NoMemory>
         ensures { IfOk result (λ b. b ≡ may_declare (things_of self.now) (thing_of declaration.now)) }
     {
         if is_reserved_id(declaration.id()) {
             return Ok(false);
         }
-        if !self.has_bases(declaration.bases()) {
+        if !self.is_derived(self.alloc, declaration)? {
             return Ok(false);
         }
         if !self.has_new_id(declaration)? {
@@ -223,18 +228,6 @@ impl Repository {
             Some(_) => is_sound(self.alloc, declaration),
             None => Ok(false),
         }
-    }
-
-    /// Whether ids are those of interfaces.
-    fn has_bases(&self, bases: &[Text]) -> bool
-        ensures { result ≡ list_all (Found.is_interface (things_of self.now)) bases.now }
-    {
-        for base in bases {
-            if !self.has_interface(base.as_slice()) {
-                return false;
-            }
-        }
-        true
     }
 
     /// Whether no thing has the id, case aside. Costs a hash.

@@ -34,7 +34,7 @@ invariant_of-self c =
     let es = s.declared.entries in
     let is : thing_of c.in_ok-held.held.declaration ≡ thing_of c.args.declaration = ap thing_of c.in_ok-held.ensures in
     let few : length es < 524288 = omega (arith, c.if-len-ge-MARKS.false, c.len.ensures.len) in
-    let old : Kept es s.folded.keys = record { keyed = s.keyed; room = s.room; each = s.each; ids = s.ids; based = s.based; own = s.own; by_case = s.by_case } in
+    let old : Kept es s.folded.keys = record { keyed = s.keyed; room = s.room; each = s.each; ids = s.ids; based = s.based; inherited = s.inherited; own = s.own; by_case = s.by_case } in
     let new = kept_after c.take_in.result es c.take_in.new.declared.entries (c.in_ok-key.key, c.in_ok-held.held) s.folded.keys c.take_in.new.folded.keys c.in_ok-low.low.items
     c.take_in.ensures.entries c.take_in.ensures.names old few
     (c.in_ok-key.ensures.items ∙ c.as_slice.ensures.bytes ∙ c.id-id.ensures ∙ ap id_of (sym is))
@@ -47,6 +47,7 @@ invariant_of-self c =
       each = new.each;
       ids = new.ids;
       based = new.based;
+      inherited = new.inherited;
       own = new.own;
       by_case = new.by_case;
       counted = counted_after c.take_in.result es c.take_in.new.declared.entries (c.in_ok-key.key, c.in_ok-held.held) s.left c.args.left c.take_in.new.free
