@@ -13,9 +13,12 @@ use orb_base::{
 use std::alloc::Global;
 use std::sync::Wait;
 use std::test::Fail;
+use std::thread;
 
 mod closing;
 mod connection;
+mod fates;
+mod storm;
 
 /// A pool without lanes, of so many static threads; as many requests may wait.
 fn pool_of(alloc: Global, threads: u8, run_calls: u32) -> Result<PoolSpec, Fail> {
@@ -70,6 +73,13 @@ fn request(alloc: Global, conn: ConnId, serial: u32) -> Option<Arc<Job>>
     Arc::new(alloc, job).ok()
 }
 
+/// Lets the other threads go on for a while.
+fn toil() {
+    for _ in 0..300 {
+        thread::yield_now();
+    }
+}
+
 /// Takes a task and carries it out; its id. None where all has ended.
 #[tactic(auto, using(crate::proofs::Staying::same_take, crate::proofs::Staying::same_finish, crate::proofs::Staying::same_then))]
 fn work_once<R: Wait>(rt: &R, pool: &LanePool, worker: &mut WorkerPass) -> Option<u32>
@@ -86,6 +96,7 @@ fn work_once<R: Wait>(rt: &R, pool: &LanePool, worker: &mut WorkerPass) -> Optio
         minor: 1,
         completed: Completed::Maybe,
     });
+    toil();
     pool.finish(rt, worker, Answer { job, outcome });
     Some(id)
 }
