@@ -1,0 +1,46 @@
+-- What comes of a setup, and of a configuration, by what was read and written.
+use Rattle.std.proofs.Common.{◌≡◌, ℕ, List, Option, None, inl, inr}
+use Rattle.std.specs.Prelude.{Result, Ok, Err}
+use Rattle.orb_base.specs.Filing.{FilesState}
+use Rattle.orb_base.specs.Outside.{SinkState}
+use Rattle.adapter_policies.specs.SetupData.{SetupData}
+use Rattle.object_lines.specs.declared.at_end.AtEnd.{AtEnd}
+use Rattle.object_lines.specs.declared.at_end.AtEnd.TheVariants.{Done, Refused, Absent, TooLong, NotBuilt, ReadFault, WriteFault, NoMemory}
+use Rattle.object_lines.specs.Serving.{unserved_fault}
+use Rattle.object_lines.specs.Setups.{GivesSetup, IsFile, ReadsBytes, ReadsConfig}
+use Rattle.object_lines.specs.Lines.{At, Comes, WritesLines, lines_text}
+
+-- a file's bytes give what the configuration of its name gives
+pub config_read : (answer : Result SetupData AtEnd) (name bytes : List ℕ) (old new : FilesState) → IsFile old name bytes → new.faults ≡ old.faults
+    → ReadsBytes answer bytes → ReadsConfig answer name old new
+config_read (Ok setup) name bytes old new file same h = ((bytes, file, h), same)
+config_read (Err (Refused f)) name bytes old new file same h = ((bytes, file, h), same)
+config_read (Err NoMemory) name bytes old new file same h = same
+config_read (Err Done) name bytes old new file same h = absurd h
+config_read (Err Absent) name bytes old new file same h = absurd h
+config_read (Err TooLong) name bytes old new file same h = absurd h
+config_read (Err NotBuilt) name bytes old new file same h = absurd h
+config_read (Err ReadFault) name bytes old new file same h = absurd h
+config_read (Err WriteFault) name bytes old new file same h = absurd h
+
+-- the lines of a whole setup
+pub comes_of : (end : AtEnd) (setup : SetupData) (host : List ℕ) (port : ℕ) (out out' : SinkState) → setup.idl ≡ None → unserved_fault setup ≡ None
+    → WritesLines end (lines_text setup host port) out out' → Comes end setup host port out out'
+comes_of Done setup host port out out' idl served h = ((idl, served), h)
+comes_of WriteFault setup host port out out' idl served h = ((idl, served), h)
+comes_of NoMemory setup host port out out' idl served h = h
+comes_of (Refused f) setup host port out out' idl served h = absurd h
+comes_of Absent setup host port out out' idl served h = absurd h
+comes_of TooLong setup host port out out' idl served h = absurd h
+comes_of NotBuilt setup host port out out' idl served h = absurd h
+comes_of ReadFault setup host port out out' idl served h = absurd h
+
+-- a setup is given, and this comes of it
+pub at_setup : (end : AtEnd) (config : Option (List ℕ)) (setup : SetupData) (host : List ℕ) (port : ℕ) (old new : FilesState) (out out' : SinkState)
+    → GivesSetup (Ok setup) config old new → Comes end setup host port out out' → At end config host port old new out out'
+at_setup end config setup host port old new out out' given comes = inl (setup, given, comes)
+
+-- no setup is given
+pub at_none : (end : AtEnd) (config : Option (List ℕ)) (host : List ℕ) (port : ℕ) (old new : FilesState) (out out' : SinkState)
+    → GivesSetup (Err end) config old new → out' ≡ out → At end config host port old new out out'
+at_none end config host port old new out out' none same = inr (none, same)

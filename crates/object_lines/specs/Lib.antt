@@ -1,0 +1,4 @@
+pub mod Addresses
+pub mod Setups
+pub mod Serving
+pub mod Lines

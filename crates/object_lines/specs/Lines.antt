@@ -1,0 +1,56 @@
+-- The line of each object of a setup, and what writing the lines comes to: own profile.
+use Rattle.std.specs.Prelude.{◌≡◌, ◌⊎◌, ℕ, List, [], ◌++◌, codes, Option, Some, None, Result, Ok, Err, IsSome, slice_get}
+use Rattle.std.specs.List.{flat_map}
+use Rattle.std.specs.Option.{option_map_or}
+use Rattle.orb_base.specs.Filing.{FilesState}
+use Rattle.orb_base.specs.Outside.{SinkState, Rose}
+use Rattle.object_refs.specs.Reference.{Reference}
+use Rattle.object_refs.specs.References.{stringified}
+use Rattle.config_tables.specs.Fault.{fault_of}
+use Rattle.adapter_policies.specs.Publishing.{reference_of}
+use Rattle.adapter_policies.specs.SetupData.{SetupData}
+use Rattle.adapter_policies.specs.declared.object_spec.ObjectSpec.{ObjectSpec}
+use Rattle.text_streams.specs.Shown.{shown}
+use Rattle.text_streams.specs.Streams.{WroteText, WroteFrontOf}
+use Rattle.object_lines.specs.Serving.{unserved_fault}
+use Rattle.object_lines.specs.Setups.{GivesSetup}
+use Rattle.object_lines.specs.declared.at_end.AtEnd.{AtEnd}
+use Rattle.object_lines.specs.declared.at_end.AtEnd.TheVariants.{Done, Refused, Absent, TooLong, NotBuilt, ReadFault, WriteFault, NoMemory}
+
+-- a key, and the text of a reference
+abbrev pub line_of : List ℕ → Reference → List ℕ
+line_of key r = shown key ++ codes " " ++ stringified r ++ codes "\n"
+
+-- the line of an object at a host and a port, by its adapter
+abbrev pub line_text : SetupData → List ℕ → ℕ → ObjectSpec → List ℕ
+line_text setup host port o = option_map_or (λ a. line_of o.key (reference_of a o host port)) (slice_get setup.adapters o.adapter) []
+
+-- the line of each object, by number
+abbrev pub lines_text : SetupData → List ℕ → ℕ → List ℕ
+lines_text setup host port = flat_map (line_text setup host port) setup.objects
+
+-- all lines were written, or a front of them up to a fault; nothing where memory was wanting
+abbrev pub WritesLines : AtEnd → List ℕ → SinkState → SinkState → Type 0
+WritesLines Done text out out' = WroteText text out out' × (out'.faults ≡ out.faults)
+WritesLines WriteFault text out out' = WroteFrontOf text out out' × Rose out.faults out'.faults
+WritesLines NoMemory text out out' = out' ≡ out
+WritesLines _ text out out' = ⊥
+
+-- a setup names no file of interfaces, and each of its objects is served
+abbrev pub IsWhole : SetupData → Type 0
+IsWhole setup = (setup.idl ≡ None) × (unserved_fault setup ≡ None)
+
+-- what comes of a setup: its lines where it is whole, else why there are none
+abbrev pub Comes : AtEnd → SetupData → List ℕ → ℕ → SinkState → SinkState → Type 0
+Comes Done setup host port out out' = IsWhole setup × WritesLines Done (lines_text setup host port) out out'
+Comes WriteFault setup host port out out' = IsWhole setup × WritesLines WriteFault (lines_text setup host port) out out'
+Comes (Refused f) setup host port out out' = (setup.idl ≡ None) × (unserved_fault setup ≡ Some (fault_of f)) × (out' ≡ out)
+Comes NotBuilt setup host port out out' = IsSome setup.idl × (out' ≡ out)
+Comes NoMemory setup host port out out' = out' ≡ out
+Comes _ setup host port out out' = ⊥
+
+-- what comes of the configuration of a name, or of the built-in setup: of its setup, or why there is none
+abbrev pub At : AtEnd → Option (List ℕ) → List ℕ → ℕ → FilesState → FilesState → SinkState → SinkState → Type 0
+At end config host port old new out out' =
+    ((setup : SetupData) × GivesSetup (Ok setup) config old new × Comes end setup host port out out')
+    ⊎ (GivesSetup (Err end) config old new × (out' ≡ out))
