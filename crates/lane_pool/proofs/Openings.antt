@@ -1,5 +1,5 @@
 -- Fresh passes may be called by.
-use Rattle.std.proofs.Common.{◌≡◌, ℕ, ◌+◌, ◌<◌, ◌≤◌, List, [], ◌∷◌, ◌++◌, length, Bool, false, Option, Some, None, sym, refl, ap, ◌∙◌, subst, arith}
+use Rattle.std.proofs.Common.{◌≡◌, ℕ, ◌+◌, ◌<◌, ◌≤◌, List, [], ◌∷◌, length, Bool, false, Option, Some, None, sym, refl, ap, ◌∙◌, subst, arith}
 use Rattle.turn_cell.specs.Seats.{CellView}
 use Rattle.lane_machine.specs.State.{State}
 use Rattle.lane_machine.specs.Callers.{worker_seat, ends, has_leave, heard_calls, latest, may_take}
@@ -12,7 +12,7 @@ use Rattle.orb_base.specs.declared.lane_spec.LaneSpec.{LaneSpec}
 use Rattle.lane_machine.specs.Readiness.{HasLane}
 use Rattle.lane_pool.specs.Pass.{Pass, Sitting}
 use Rattle.lane_pool.specs.Passes.{IsFresh, AreFrom, IsOpen}
-use Rattle.lane_pool.specs.Turns.{Rests, CanTake, AllRest, AllIdle, FitsLane, FitsFirst}
+use Rattle.lane_pool.specs.Turns.{Rests, CanTake, AllRest, AllIdle, FitsFirst}
 
 fresh_rests : (cell : CellView State) (who : ℕ) (p : Pass) → who < cell.terms.opening.slots → IsFresh cell (1 + who) who p → Rests cell p
 fresh_rests cell who p l f = record {

@@ -1,9 +1,8 @@
 -- Where every slot's pass and every worker's is back, no seat is missing.
-use Rattle.std.proofs.Common.{◌≡◌, ℕ, zero, suc, ◌+◌, ◌*◌, ◌-◌, ◌<◌, ◌≤◌, Bool, true, false, if◌then◌else◌, ◌&&◌, ltb, List, [], ◌∷◌, ◌++◌, length, map, Option, Some, None, inl, inr, ⊎_elim, sym, refl, ap, ◌∙◌, subst, arith, add-one}
+use Rattle.std.proofs.Common.{◌≡◌, ℕ, zero, suc, ◌+◌, ◌*◌, ◌-◌, ◌<◌, ◌≤◌, Bool, true, false, if◌then◌else◌, ◌&&◌, ltb, List, [], ◌∷◌, ◌++◌, length, Option, Some, None, inl, inr, ⊎_elim, sym, refl, ap, ◌∙◌, subst, arith, add-one}
 use Rattle.std.proofs.lemmas.Bool.{cases_lt}
 use Rattle.std.proofs.lemmas.Option.{none-some, same_Some}
 use Rattle.turn_cell.specs.Seats.{CellView}
-use Rattle.turn_cell.specs.Calls.{gone}
 use Rattle.turn_cell.specs.Numbers.{Each, Has, IsWhole}
 use Rattle.lane_machine.specs.State.{State}
 use Rattle.lane_machine.specs.Callers.{heir, slot_seat, writer_seat}

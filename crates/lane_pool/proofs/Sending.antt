@@ -1,5 +1,5 @@
 -- Passes that go out, and come back in their order.
-use Rattle.std.proofs.Common.{◌≡◌, ℕ, suc, ◌+◌, List, [], ◌∷◌, ◌++◌, length, length-append, refl, sym, ap, ◌∙◌, subst, arith}
+use Rattle.std.proofs.Common.{◌≡◌, ℕ, ◌+◌, List, [], ◌∷◌, ◌++◌, length, length-append, sym, ap, ◌∙◌, subst, arith}
 use Rattle.turn_cell.specs.Seats.{CellView}
 use Rattle.lane_machine.specs.State.{State}
 use Rattle.lane_pool.specs.Pass.{Pass}

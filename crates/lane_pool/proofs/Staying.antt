@@ -1,13 +1,13 @@
 -- What a pass keeps behind calls, and behind a connection.
-use Rattle.std.proofs.Common.{◌≡◌, ℕ, suc, ◌+◌, ◌<◌, ◌≤◌, List, [], ◌∷◌, ◌++◌, length, sym, refl, ap, ◌∙◌, subst, arith, add-one}
+use Rattle.std.proofs.Common.{◌≡◌, ℕ, suc, ◌+◌, [], ◌∷◌, ◌++◌, sym, refl, ap, ◌∙◌, subst, arith, add-one}
 use Rattle.orb_base.specs.declared.job.Job.{Job}
 use Rattle.turn_cell.specs.Seats.{CellView}
 use Rattle.turn_cell.specs.Calls.{gone}
 use Rattle.lane_machine.specs.State.{State}
-use Rattle.lane_machine.specs.Callers.{slot_seat, writer_seat}
+use Rattle.lane_machine.specs.Callers.{writer_seat}
 use Rattle.lane_machine.specs.declared.call.LaneCall.{LaneCall}
 use Rattle.lane_machine.specs.declared.call.LaneReply.{LaneReply}
-use Rattle.lane_pool.specs.Pass.{Pass, Leaving}
+use Rattle.lane_pool.specs.Pass.{Pass}
 use Rattle.lane_pool.specs.Passes.{IsIn, Makes, IsFresh, IsLinked, IsUnlinked}
 use Rattle.lane_pool.specs.Turns.{IsServing, Reads, Listens, CanTake, Carries, Writes}
 use Rattle.lane_pool.specs.Returned.{IsSame, IsHome, IsAlone, pairs, writers}
