@@ -1,5 +1,5 @@
 //! How passes are made of one another and come back, and how a pool ends.
-ghost use Rattle.std.specs.Prelude.{◌≡◌, ◌<◌, ◌++◌, [], IfOk, IfErr};
+ghost use Rattle.std.specs.Prelude.{◌≡◌, ◌<◌, ◌++◌, [], IfOk, IfErr, IsOk};
 ghost use Rattle.turn_cell.specs.Calls.{IsOf, IsJoined};
 ghost use Rattle.lane_pool.specs.Passes.{IsIn, IsLinked, IsUnlinked};
 ghost use Rattle.lane_pool.specs.Turns.{Rests, Listens, Writes, HasEnded, heard_by};
@@ -12,12 +12,13 @@ use orb_base::List;
 use turn_cell::{Entry, Seat, TurnCell};
 
 impl LanePool {
-    /// Makes the passes of the slot's next connection. Takes no memory; the answer of an error is there for the cell's
-    /// sake, whose seats can be split 2^32 - 1 times, and no slot has more than 128 connections.
+    /// Makes the passes of the slot's next connection. Takes no memory, and always makes them; the answer of an error is there
+    /// for the cell's sake, whose seats can be split 2^32 - 1 times, and no slot has more than 128 connections.
     #[tactic(auto, using(crate::proofs::Turns::writes_ok))]
     pub fn link(&self, pass: SlotPass) -> Result<(ReaderPass, WriterPass), SlotPass>
         requires rests { Rests self.now.cell pass }
         requires room { pass.nth < self.now.cell.terms.opening.per_slot }
+        ensures linked { IsOk result }
         ensures ok { IfOk result (λ p. IsLinked pass p.0 p.1) }
         ensures reader { IfOk result (λ p. Listens self.now.cell p.0) }
         ensures unheard { IfOk result (λ p. heard_by p.0 ≡ 0) }
@@ -32,6 +33,7 @@ impl LanePool {
     fn split_sides(&self, pass: SlotPass) -> Result<(ReaderPass, WriterPass), SlotPass>
         requires rests { Rests self.now.cell pass }
         requires room { pass.nth < self.now.cell.terms.opening.per_slot }
+        ensures linked { IsOk result }
         ensures ok { IfOk result (λ p. IsLinked pass p.0 p.1) }
         ensures err { IfErr result (λ back. back ≡ pass) }
     {
