@@ -1,0 +1,4 @@
+pub mod Lists
+pub mod Trees
+pub mod Parts
+pub mod Chains
