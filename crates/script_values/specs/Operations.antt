@@ -14,8 +14,8 @@ use Rattle.script_values.specs.declared.limit.Limit.TheVariants.{Arithmetic, Ind
 abbrev pub Comes : Type 0 → Type 0
 Comes A = Result A Limit
 
--- the second is asked of what the first gave
 infixl 10 ◌>>=◌
+-- the second is asked of what the first gave
 abbrev pub ◌>>=◌ : {A B : Type 0} → Comes A → (A → Comes B) → Comes B
 (Ok x) >>= f = f x
 (Err e) >>= f = Err e
