@@ -1,5 +1,5 @@
 //! Reading the words of a command line.
-ghost use Rattle.std.specs.Prelude.{◌≡◌, IfOk, OnErr, IsSome, None, is_none, string_bytes};
+ghost use Rattle.std.specs.Prelude.{◌≡◌, IfOk, OnErr, IsSome, None, string_bytes};
 ghost use Rattle.orb_base.specs.NulFree.{nul_at};
 ghost use Rattle.orb_command.specs.Words as Spec;
 
@@ -136,14 +136,14 @@ fn is_value(word: &[u8]) -> bool
 fn is_name(word: &[u8]) -> bool
     ensures { result ≡ Spec.is_name word.now }
 {
-    is_value(word) && is_whole(word)
+    is_value(word) && first_nul(word).is_none()
 }
 
-/// Whether a word holds no NUL.
-fn is_whole(word: &[u8]) -> bool
-    ensures { result ≡ is_none (nul_at word.now) }
+/// The place of the first NUL of a word.
+fn first_nul(word: &[u8]) -> Option<usize>
+    ensures { result ≡ nul_at word.now }
 {
-    word.iter().position(|byte| *byte == 0).is_none()
+    word.iter().position(|byte| *byte == 0)
 }
 
 /// The text of a word that holds no NUL.
