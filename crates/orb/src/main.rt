@@ -5,6 +5,7 @@ ghost use Rattle.std.specs.Prelude.{◌≡◌};
 ghost use Rattle.orb_command.specs.Command.{status_of};
 
 mod note_text;
+mod std_files;
 mod std_sink;
 mod std_source;
 #[cfg(test)]
@@ -16,6 +17,7 @@ use std::alloc::Global;
 use std::process::ExitCode;
 use std::rt::Env;
 use std::{env, io};
+use std_files::StdFiles;
 use std_sink::StdSink;
 use std_source::StdSource;
 
@@ -47,16 +49,23 @@ fn without_words(fault: &io::Error) -> Answered
 fn main(rt: HostRuntime) -> ExitCode {
     let answered = match words(&rt, rt.alloc()) {
         Ok(words) => {
+            let mut files = StdFiles::new(&rt, rt.alloc());
             let mut input = StdSource::new(rt.stdin());
             let mut out = StdSink::new(rt.stdout());
-            orb_main(rt.alloc(), words.as_slice(), &mut input, &mut out)
+            orb_main(
+                rt.alloc(),
+                words.as_slice(),
+                &mut files,
+                &mut input,
+                &mut out,
+            )
         }
         Err(fault) => without_words(&fault),
     };
-    if answered.note != Note::Nothing {
+    if !matches!(answered.note, Note::Nothing) {
         // A note that can't be printed changes nothing.
         let _ = rt.eprintln(NoteText {
-            note: answered.note,
+            note: &answered.note,
         });
     }
     ExitCode::from(answered.status)

@@ -1,22 +1,36 @@
 //! Printing of notes.
 
-use orb_command::Note;
+use orb_command::{Note, Role};
 use std::fmt;
+use text_streams::shown;
 
 /// The line that a note prints on standard error, without its line feed. `Nothing` prints nothing.
-#[derive(Clone, Copy, Debug, PartialEq, Eq)]
-pub struct NoteText {
-    pub note: Note,
+#[derive(Clone, Copy, Debug)]
+pub struct NoteText<'a> {
+    pub note: &'a Note,
 }
 
-impl fmt::Display for NoteText {
+/// The name of what a file is for.
+fn role_name(role: Role) -> &'static str {
+    match role {
+        Role::Config => "config",
+    }
+}
+
+impl fmt::Display for NoteText<'_> {
     fn fmt<W: fmt::Write>(&self, f: &mut fmt::Formatter<W>) -> fmt::Result {
         match self.note {
             Note::Nothing => Ok(()),
             Note::Usage => f.write_str("usage"),
+            Note::Config(fault) => {
+                let path = shown(fault.path.as_slice());
+                write!(f, "refused: config: {path}: {}", fault.cause)
+            }
+            Note::TooLong(role) => write!(f, "refused: {}: TooLong", role_name(*role)),
             Note::ReadFault => f.write_str("read fault"),
             Note::WriteFault => f.write_str("write fault"),
             Note::Input(offset, fault) => write!(f, "input: offset {offset}: {fault}"),
+            Note::Absent(role) => write!(f, "absent: {}", role_name(*role)),
             Note::Reference(fault) => write!(f, "reference: {fault}"),
             Note::Memory => f.write_str("memory"),
             Note::Limit => f.write_str("limit"),

@@ -1,12 +1,16 @@
 //! The lines that notes print.
 
 use crate::note_text::NoteText;
+use crate::std_files::StdFiles;
 use crate::without_words;
+use config_tables::{ConfigCause, ConfigFault};
 use giop_messages::Fault;
 use object_refs::{RefCause, RefFault};
-use orb_command::{Answered, Note};
-use std::io;
+use orb_base::{Filed, Files, List, Text};
+use orb_command::{Note, Role};
+use std::alloc::Global;
 use std::test::Fail;
+use std::{fs, io};
 
 #[test]
 fn each_note_has_its_line(rt: HostRuntime) -> Result<(), Fail> {
@@ -27,23 +31,88 @@ fn each_note_has_its_line(rt: HostRuntime) -> Result<(), Fail> {
             }),
             "reference: 215: OddHex",
         ),
+        (Note::TooLong(Role::Config), "refused: config: TooLong"),
+        (Note::Absent(Role::Config), "absent: config"),
         (Note::Memory, "memory"),
         (Note::Limit, "limit"),
         (Note::NotBuilt, "not built"),
     ] {
-        let text = NoteText { note }.to_string(rt.alloc())?;
+        let text = NoteText { note: &note }.to_string(rt.alloc())?;
+        assert_eq!(rt; text.as_str(), line);
+    }
+    Ok(())
+}
+
+fn text(alloc: Global, bytes: &[u8]) -> Result<Text, Fail> {
+    match Text::new(alloc, bytes) {
+        Ok(text) => Ok(text),
+        Err(_) => Err(Fail::new("a text")),
+    }
+}
+
+#[test]
+fn a_refused_configuration_has_its_path(rt: HostRuntime) -> Result<(), Fail> {
+    for (path, cause, line) in [
+        (
+            b"pool.lanes[1].priority".as_slice(),
+            ConfigCause::LaneOrder,
+            "refused: config: pool.lanes[1].priority: LaneOrder",
+        ),
+        (
+            b"".as_slice(),
+            ConfigCause::NotToml,
+            "refused: config: : NotToml",
+        ),
+        (
+            b"a b".as_slice(),
+            ConfigCause::UnknownKey,
+            "refused: config: a%20b: UnknownKey",
+        ),
+    ] {
+        let path = text(rt.alloc(), path)?;
+        let note = Note::Config(ConfigFault { cause, path });
+        let text = NoteText { note: &note }.to_string(rt.alloc())?;
         assert_eq!(rt; text.as_str(), line);
     }
     Ok(())
 }
 
 #[test]
-fn words_that_cannot_be_had_have_their_status(rt: HostRuntime) {
+fn files_are_told_apart(rt: HostRuntime) -> Result<(), Fail> {
+    let alloc = rt.alloc();
+    fs::write(&rt, "four.txt", "four")?;
+    let mut files = StdFiles::new(&rt, alloc);
+    let mut into = List::new(alloc);
+    for (name, limit, filed) in [
+        (b"four.txt".as_slice(), 4, Filed::Whole),
+        (b"four.txt".as_slice(), 3, Filed::TooLong),
+        (b"five.txt".as_slice(), 4, Filed::Absent),
+        (b"four.txt/five.txt".as_slice(), 4, Filed::Absent),
+        (b".".as_slice(), 4, Filed::Failed),
+        (b"\xff".as_slice(), 4, Filed::Absent),
+    ] {
+        let name = text(alloc, name)?;
+        assert_eq!(rt; files.read(&name, limit, &mut into), filed);
+        assert_eq!(rt; into.is_empty(), filed != Filed::Whole);
+    }
+    fs::remove_file(&rt, "four.txt")?;
+    Ok(())
+}
+
+#[test]
+fn words_that_cannot_be_had_have_their_status(rt: HostRuntime) -> Result<(), Fail> {
     for (kind, status, note) in [
-        (io::ErrorKind::OutOfMemory, 12, Note::Memory),
-        (io::ErrorKind::InvalidData, 1, Note::Usage),
+        (io::ErrorKind::OutOfMemory, 12, "memory"),
+        (io::ErrorKind::InvalidData, 1, "usage"),
     ] {
         let fault = io::Error::from(kind);
-        assert_eq!(rt; without_words(&fault), Answered { status, note });
+        let answered = without_words(&fault);
+        assert_eq!(rt; answered.status, status);
+        let text = NoteText {
+            note: &answered.note,
+        }
+        .to_string(rt.alloc())?;
+        assert_eq!(rt; text.as_str(), note);
     }
+    Ok(())
 }

@@ -26,12 +26,13 @@ use Rattle.orb_command.specs.Pipe.{Pipes, PipesTo, PipesBytes}
 use Rattle.orb_command.specs.PipeAnswer.{note_of, note_of_ends}
 use Rattle.orb_command.specs.DumpAnswer.{dump_note}
 use Rattle.orb_command.specs.RefsAnswer.{refs_note}
-use Rattle.orb_command.specs.Command.{status_of, FaultsAt, Answers}
+use Rattle.orb_command.specs.Command.{status_of, Answers}
+use Rattle.orb_command.specs.Faults.{StreamFaults}
 
 -- ---- the pipe
 
 ends_faults : (read_end : ReadEnd) (write_end : WriteEnd) (bytes : List ℕ) (before after : Moment)
-    → PipesTo read_end write_end ping_outcome bytes before.input after.input before.out after.out → FaultsAt (note_of_ends read_end write_end) before after
+    → PipesTo read_end write_end ping_outcome bytes before.input after.input before.out after.out → StreamFaults (note_of_ends read_end write_end) before after
 ends_faults read.Ended write.Done bytes before after h = (h.0.2, h.1.1)
 ends_faults read.RunClosed write.Closed bytes before after h = (h.0.2, h.1.1)
 ends_faults read.RunClosed write.WriteFault bytes before after h = (h.0.2, h.1.1)
@@ -45,23 +46,23 @@ ends_faults read.Stopped write.Closed bytes before after h = absurd h.1
 ends_faults read.ReadFault write.Closed bytes before after h = absurd h.1
 ends_faults read.ReadFault write.WriteFault bytes before after h = absurd h.1
 
-pipe_faults : (ran : Result Piped PipeFault) (bytes : List ℕ) (before after : Moment) → PipesBytes ran ping_outcome bytes before.input after.input before.out after.out → FaultsAt (note_of ran) before after
+pipe_faults : (ran : Result Piped PipeFault) (bytes : List ℕ) (before after : Moment) → PipesBytes ran ping_outcome bytes before.input after.input before.out after.out → StreamFaults (note_of ran) before after
 pipe_faults (Ok piped) bytes before after h = ends_faults piped.read piped.write bytes before after h
 pipe_faults (Err fault.NotBuilt) bytes before after h = (elim h.1 [ inl whole ↦ whole.2 | inr long ↦ long.1 ], ap (λ (o : SinkState). o.faults) h.2)
 pipe_faults (Err fault.NoMemory) bytes before after h = tt
 
-pub pipe_answers : (ran : Result Piped PipeFault) (answered : Answered) (before after : Moment) → Pipes ran ping_outcome before.input after.input before.out after.out
+pub pipe_answers : (ran : Result Piped PipeFault) (answered : Answered) (before after : Moment) → after.files ≡ before.files → Pipes ran ping_outcome before.input after.input before.out after.out
     → answered.note ≡ note_of ran → answered.status ≡ status_of (note_of ran) → Answers Pipe answered before after
-pipe_answers ran answered before after h note status = record {
+pipe_answers ran answered before after same h note status = record {
   status = status ∙ ap status_of (sym note);
   means = record { answer = ran; told = note; pipes = h };
-  faults = subst (λ n. FaultsAt n before after) (sym note) (pipe_faults ran h.bytes before after h.came);
+  faults = (same, subst (λ n. StreamFaults n before after) (sym note) (pipe_faults ran h.bytes before after h.came));
   few = record { bytes = h.bytes; few = h.few; gave = h.gave };
 }
 
 -- ---- a dump
 
-dump_faults : (ran : Result DumpEnd NoMemory) (before after : Moment) → FaultsOf ran before.input after.input before.out after.out → FaultsAt (dump_note ran) before after
+dump_faults : (ran : Result DumpEnd NoMemory) (before after : Moment) → FaultsOf ran before.input after.input before.out after.out → StreamFaults (dump_note ran) before after
 dump_faults (Ok dump.Done) before after h = h
 dump_faults (Ok (dump.Refused r)) before after h = h.1
 dump_faults (Ok dump.Spent) before after h = h
@@ -69,18 +70,18 @@ dump_faults (Ok dump.ReadFault) before after h = h
 dump_faults (Ok dump.WriteFault) before after h = h
 dump_faults (Err e) before after h = tt
 
-pub dump_answers : (ran : Result DumpEnd NoMemory) (answered : Answered) (before after : Moment) → Dumps ran before.input after.input before.out after.out
+pub dump_answers : (ran : Result DumpEnd NoMemory) (answered : Answered) (before after : Moment) → after.files ≡ before.files → Dumps ran before.input after.input before.out after.out
     → answered.note ≡ dump_note ran → answered.status ≡ status_of (dump_note ran) → Answers Dump answered before after
-dump_answers ran answered before after h note status = record {
+dump_answers ran answered before after same h note status = record {
   status = status ∙ ap status_of (sym note);
   means = record { answer = ran; told = note; dumps = h };
-  faults = subst (λ n. FaultsAt n before after) (sym note) (dump_faults ran before after h.faults);
+  faults = (same, subst (λ n. StreamFaults n before after) (sym note) (dump_faults ran before after h.faults));
   few = record { bytes = h.bytes; few = h.few; gave = h.gave };
 }
 
 -- ---- a reference
 
-refs_faults : (ran : Result RefsEnd NoMemory) (bytes : List ℕ) (before after : Moment) → RefsBytes ran bytes before.input after.input before.out after.out → FaultsAt (refs_note ran) before after
+refs_faults : (ran : Result RefsEnd NoMemory) (bytes : List ℕ) (before after : Moment) → RefsBytes ran bytes before.input after.input before.out after.out → StreamFaults (refs_note ran) before after
 refs_faults (Ok refs.Done) bytes before after h = (h.1, h.3.1)
 refs_faults (Ok (refs.Refused f)) bytes before after h = (h.1, ap (λ (o : SinkState). o.faults) h.3.2)
 refs_faults (Ok refs.TooLong) bytes before after h = ap (λ (o : SinkState). o.faults) h.1
@@ -88,12 +89,12 @@ refs_faults (Ok refs.ReadFault) bytes before after h = (h.2, ap (λ (o : SinkSta
 refs_faults (Ok refs.WriteFault) bytes before after h = (h.1, h.3.1)
 refs_faults (Err e) bytes before after h = tt
 
-pub refs_answers : (ran : Result RefsEnd NoMemory) (answered : Answered) (before after : Moment) → Refs ran before.input after.input before.out after.out
+pub refs_answers : (ran : Result RefsEnd NoMemory) (answered : Answered) (before after : Moment) → after.files ≡ before.files → Refs ran before.input after.input before.out after.out
     → answered.note ≡ refs_note ran → answered.status ≡ status_of (refs_note ran) → Answers RefsMeaning answered before after
-refs_answers ran answered before after h note status = record {
+refs_answers ran answered before after same h note status = record {
   status = status ∙ ap status_of (sym note);
   means = record { answer = ran; told = note; refs = h };
-  faults = subst (λ n. FaultsAt n before after) (sym note) (refs_faults ran h.bytes before after h.came);
+  faults = (same, subst (λ n. StreamFaults n before after) (sym note) (refs_faults ran h.bytes before after h.came));
   few = record { bytes = h.bytes; few = h.few; gave = h.gave };
 }
 
@@ -103,7 +104,7 @@ pub unbuilt_answers : (answered : Answered) (before : Moment) → answered.note 
 unbuilt_answers answered before note status = record {
   status = status ∙ ap status_of (sym note);
   means = (note, refl);
-  faults = subst (λ n. FaultsAt n before before) (sym note) (refl, refl);
+  faults = (refl, subst (λ n. StreamFaults n before before) (sym note) (refl, refl));
   few = gave_none 0 before.input;
 }
 
@@ -111,6 +112,6 @@ pub unread_answers : (answered : Answered) (before : Moment) → answered.note �
 unread_answers answered before note status = record {
   status = status ∙ ap status_of (sym note);
   means = (note, refl);
-  faults = subst (λ n. FaultsAt n before before) (sym note) (refl, refl);
+  faults = (refl, subst (λ n. StreamFaults n before before) (sym note) (refl, refl));
   few = gave_none 0 before.input;
 }

@@ -8,6 +8,7 @@ pub mod PingSizes
 pub mod Turns
 pub mod PipedLaws
 pub mod CommandLaws
+pub mod AtLaws
 pub mod Replays
 pub mod HeardLaws
 pub mod RepliedLaws

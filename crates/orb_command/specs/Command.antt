@@ -1,50 +1,42 @@
 -- The answers of the top call: for each note its cause, and what was written.
 use Rattle.std.specs.Prelude.{◌≡◌, ◌+◌, ℕ}
 use Rattle.orb_command.specs.declared.meaning.Meaning.{Meaning}
-use Rattle.orb_command.specs.declared.meaning.Meaning.TheVariants.{Pipe, Dump, Refs, Unbuilt, Unread}
+use Rattle.orb_command.specs.declared.meaning.Meaning.TheVariants.{Pipe, Dump, Refs, RefsAt, Unbuilt, Unread}
 use Rattle.orb_command.specs.declared.answered.Answered.{Answered}
 use Rattle.orb_command.specs.declared.note.Note.{Note}
-use Rattle.orb_command.specs.declared.note.Note.TheVariants.{Nothing, Usage, ReadFault, WriteFault, Input, Reference, Memory, Limit, NotBuilt}
+use Rattle.orb_command.specs.declared.note.Note.TheVariants.{Nothing, Usage, Config, TooLong, ReadFault, WriteFault, Input, Absent, Reference, Memory, Limit, NotBuilt}
 use Rattle.orb_command.specs.declared.request.TheConstants.{MAX_PIPED}
 use Rattle.giop_dump.specs.declared.dump_end.TheConstants.{MAX_DUMPED}
 use Rattle.reference_lines.specs.declared.refs_end.TheConstants.{MAX_REFERENCE}
 use Rattle.text_streams.specs.Streams.{GaveFew}
-use Rattle.text_streams.specs.Faults.{NoneFailed, ReadFailed, WriteFailed}
 use Rattle.orb_command.specs.Moment.{Moment}
+use Rattle.orb_command.specs.Faults.{FaultsAt}
 use Rattle.orb_command.specs.PipeAnswer.{PipeAnswers}
 use Rattle.orb_command.specs.DumpAnswer.{DumpAnswers}
 use Rattle.orb_command.specs.RefsAnswer.{RefsAnswers}
+use Rattle.orb_command.specs.AtAnswer.{AtAnswers}
 
 -- the exit status of a note
 abbrev pub status_of : Note → ℕ
 status_of Nothing = 0
 status_of Usage = 1
+status_of (Config _) = 2
+status_of (TooLong _) = 2
 status_of ReadFault = 3
 status_of WriteFault = 4
 status_of (Input _ _) = 8
 status_of (Reference _) = 8
+status_of (Absent _) = 10
 status_of Memory = 12
 status_of Limit = 13
 status_of NotBuilt = 14
-
--- which count of faults rose, by the note: none but at a fault, the input's alone at a read fault, and the output's alone at a
--- write fault. A reference that is too long is told also where the next read fails
-abbrev pub FaultsAt : Note → Moment → Moment → Type 0
-FaultsAt Nothing before after = NoneFailed before.input after.input before.out after.out
-FaultsAt Usage before after = NoneFailed before.input after.input before.out after.out
-FaultsAt ReadFault before after = ReadFailed before.input after.input before.out after.out
-FaultsAt WriteFault before after = WriteFailed before.input after.input before.out after.out
-FaultsAt (Input _ _) before after = after.out.faults ≡ before.out.faults
-FaultsAt (Reference _) before after = NoneFailed before.input after.input before.out after.out
-FaultsAt Memory before after = Unit {0}
-FaultsAt Limit before after = NoneFailed before.input after.input before.out after.out
-FaultsAt NotBuilt before after = NoneFailed before.input after.input before.out after.out
 
 -- how many bytes are taken at most: of an input of `pipe` or `refs` one more than it may have, so that a longer one is seen
 abbrev pub most_taken : Meaning → ℕ
 most_taken Pipe = MAX_PIPED + 1
 most_taken Dump = MAX_DUMPED
 most_taken Refs = MAX_REFERENCE + 2
+most_taken (RefsAt place config) = 0
 most_taken Unbuilt = 0
 most_taken Unread = 0
 
@@ -53,6 +45,7 @@ abbrev pub NoteMeans : Meaning → Note → Moment → Moment → Type 0
 NoteMeans Pipe note before after = PipeAnswers note before after
 NoteMeans Dump note before after = DumpAnswers note before after
 NoteMeans Refs note before after = RefsAnswers note before after
+NoteMeans (RefsAt place config) note before after = AtAnswers place config note before after
 NoteMeans Unbuilt note before after = (note ≡ NotBuilt) × (after ≡ before)
 NoteMeans Unread note before after = (note ≡ Usage) × (after ≡ before)
 
@@ -61,5 +54,5 @@ NoteMeans Unread note before after = (note ≡ Usage) × (after ≡ before)
 pub record Answers (command : Meaning) (answered : Answered) (before after : Moment) : Type 0 where
   pub status : answered.status ≡ status_of answered.note
   pub means : NoteMeans command answered.note before after
-  pub faults : FaultsAt answered.note before after
+  pub faults : FaultsAt command answered.note before after
   pub few : GaveFew (most_taken command) before.input after.input

@@ -14,4 +14,6 @@ pub mod Pipe
 pub mod PipeAnswer
 pub mod DumpAnswer
 pub mod RefsAnswer
+pub mod AtAnswer
+pub mod Faults
 pub mod Command

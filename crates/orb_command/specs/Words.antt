@@ -1,8 +1,11 @@
 -- What the words of a command line mean.
-use Rattle.std.specs.Prelude.{ℕ, Bool, ◌||◌, if◌then◌else◌, List, [], ◌∷◌, codes}
+use Rattle.std.specs.Prelude.{◌≡◌, ◌==◌, ℕ, Bool, true, not, ◌||◌, ◌&&◌, if◌then◌else◌, List, [], ◌∷◌, codes, Option, Some, None, is_none, Result, Ok, Err}
 use Rattle.std.specs.Str.{bytes_eq}
+use Rattle.object_lines.specs.Addresses.{Place, address_of}
+use Rattle.orb_base.specs.NulFree.{nul_at}
+use Rattle.orb_base.specs.declared.no_memory.NoMemory.{NoMemory}
 use Rattle.orb_command.specs.declared.meaning.Meaning.{Meaning}
-use Rattle.orb_command.specs.declared.meaning.Meaning.TheVariants.{Pipe, Dump, Refs, Unbuilt, Unread}
+use Rattle.orb_command.specs.declared.meaning.Meaning.TheVariants.{Pipe, Dump, Refs, RefsAt, Unbuilt, Unread}
 
 -- one of the seven commands
 abbrev pub is_command : List ℕ → Bool
@@ -10,14 +13,70 @@ is_command word =
     bytes_eq word (codes "pipe") || bytes_eq word (codes "serve") || bytes_eq word (codes "call") || bytes_eq word (codes "refs")
     || bytes_eq word (codes "dump") || bytes_eq word (codes "idl") || bytes_eq word (codes "load")
 
--- the words `pipe`, `dump` and `refs` alone are built; what else begins with a command isn't yet
-abbrev pub built_or_not : {W : Type 0} → List W → List ℕ → Meaning
-built_or_not [] word =
-    if bytes_eq word (codes "pipe") then Pipe else if bytes_eq word (codes "dump") then Dump
-    else if bytes_eq word (codes "refs") then Refs else Unbuilt
-built_or_not (_ ∷ _) word = Unbuilt
+-- a command other than `refs`: `pipe` and `dump` alone are built
+abbrev pub alone_of : {W : Type 0} → List ℕ → List W → Meaning
+alone_of word [] = if bytes_eq word (codes "pipe") then Pipe else if bytes_eq word (codes "dump") then Dump else Unbuilt
+alone_of word (_ ∷ _) = Unbuilt
+
+-- a word that can be the value of an option: it begins with no dash
+abbrev pub is_value : List ℕ → Bool
+is_value [] = true
+is_value (byte ∷ _) = not (byte == 45)
+
+-- a word that can be the name of a file: it is a value, and holds no NUL
+abbrev pub is_name : List ℕ → Bool
+is_name word = is_value word && is_none (nul_at word)
+
+-- the address that the value of an option is
+abbrev pub place_of : List ℕ → Option Place
+place_of word = if is_value word then address_of word else None
+
+-- the name of a file that the value of an option is
+abbrev pub name_of : List ℕ → Option (List ℕ)
+name_of word = if is_name word then Some word else None
+
+-- references at an address, by a configuration where there is one; without an address there is no such command
+abbrev pub at_place : Option Place → Option (List ℕ) → Meaning
+at_place (Some place) config = RefsAt place config
+at_place None config = Unbuilt
+
+-- references at an address by a configuration, which has to be there
+abbrev pub filed_at : Option Place → Option (List ℕ) → Meaning
+filed_at place (Some name) = at_place place (Some name)
+filed_at place None = Unbuilt
+
+-- the words behind `refs`: none, `--at` and an address, or these and `--config` and a name
+abbrev pub refs_of : {W : Type 0} → (W → List ℕ) → List W → Meaning
+refs_of spelling [] = Refs
+refs_of spelling (_ ∷ []) = Unbuilt
+refs_of spelling (option ∷ place ∷ []) =
+    if bytes_eq (spelling option) (codes "--at") then at_place (place_of (spelling place)) None else Unbuilt
+refs_of spelling (_ ∷ _ ∷ _ ∷ []) = Unbuilt
+refs_of spelling (option ∷ place ∷ other ∷ name ∷ []) =
+    if bytes_eq (spelling option) (codes "--at") && bytes_eq (spelling other) (codes "--config")
+    then filed_at (place_of (spelling place)) (name_of (spelling name))
+    else Unbuilt
+refs_of spelling (_ ∷ _ ∷ _ ∷ _ ∷ _ ∷ _) = Unbuilt
+
+-- what is built of a command; what else begins with a command isn't yet
+abbrev pub built_of : {W : Type 0} → (W → List ℕ) → List ℕ → List W → Meaning
+built_of spelling word words = if bytes_eq word (codes "refs") then refs_of spelling words else alone_of word words
 
 -- `spelling` gives the bytes of a word
 abbrev pub command_of : {W : Type 0} → (W → List ℕ) → List W → Meaning
 command_of spelling [] = Unread
-command_of spelling (word ∷ words) = if is_command (spelling word) then built_or_not words (spelling word) else Unread
+command_of spelling (word ∷ words) = if is_command (spelling word) then built_of spelling (spelling word) words else Unread
+
+-- the words mean references at an address
+abbrev pub IsRefsAt : Meaning → Type 0
+IsRefsAt (RefsAt place config) = Unit {0}
+IsRefsAt Pipe = ⊥
+IsRefsAt Dump = ⊥
+IsRefsAt Refs = ⊥
+IsRefsAt Unbuilt = ⊥
+IsRefsAt Unread = ⊥
+
+-- the words were read as what they mean; memory can be wanting where they mean references at an address
+abbrev pub Means : Result Meaning NoMemory → Meaning → Type 0
+Means (Ok meaning) meant = meaning ≡ meant
+Means (Err _) meant = IsRefsAt meant

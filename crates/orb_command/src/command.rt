@@ -6,6 +6,7 @@ ghost use Rattle.orb_command.specs.PipeAnswer.{note_of, note_of_read as note_of_
 ghost use Rattle.orb_command.specs.Command.{Answers, status_of};
 
 use crate::answered::Answered;
+use crate::at_note::note_at;
 use crate::dump_note::dump_note;
 use crate::ends::{PipeFault, Piped, ReadEnd, WriteEnd};
 use crate::meaning::Meaning;
@@ -15,7 +16,8 @@ use crate::pipe::pipe_run;
 use crate::refs_note::refs_note;
 use crate::words::read_words;
 use giop_dump::dump_run;
-use orb_base::{Sink, Source};
+use object_lines::at_run;
+use orb_base::{Files, NoMemory, Sink, Source};
 use reference_lines::refs_run;
 use std::alloc::Global;
 
@@ -24,12 +26,14 @@ fn answered(note: Note) -> Answered
     ensures note { result.note ≡ note }
     ensures status { result.status ≡ status_of note }
 {
-    let status = match note {
+    let status = match &note {
         Note::Nothing => 0,
         Note::Usage => 1,
+        Note::Config(_) | Note::TooLong(_) => 2,
         Note::ReadFault => 3,
         Note::WriteFault => 4,
         Note::Input(_, _) | Note::Reference(_) => 8,
+        Note::Absent(_) => 10,
         Note::Memory => 12,
         Note::Limit => 13,
         Note::NotBuilt => 14,
@@ -63,29 +67,36 @@ fn note_for(ran: Result<Piped, PipeFault>) -> Note
     }
 }
 
-/// Does all that the program does: reads the words, runs the command over the input and the output, and answers the
-/// status with its note. `pipe` answers each request of its input, `dump` writes a line for each message of it, and
-/// `refs` writes the parts of the reference that it is; the other commands aren't built yet. It returns where each read
-/// and write returns.
-#[tactic(auto, using(crate::proofs::CommandLaws::pipe_answers, crate::proofs::CommandLaws::dump_answers, crate::proofs::CommandLaws::refs_answers, crate::proofs::CommandLaws::unbuilt_answers, crate::proofs::CommandLaws::unread_answers))]
-pub fn orb_main<I: Source, O: Sink>(
+/// Does all that the program does: reads the words, runs the command over the files, the input and the output, and answers the
+/// status with its note. `pipe` answers each request of its input, `dump` writes a line for each message of it, and `refs` writes
+/// the parts of the reference that it is. `refs --at HOST:PORT` writes the reference of each object of the built-in setup at that
+/// address, and with `--config FILE` of each object of the configuration of this name. The other commands aren't built yet. It
+/// returns where each read and write returns.
+#[tactic(auto, using(crate::proofs::CommandLaws::pipe_answers, crate::proofs::CommandLaws::dump_answers, crate::proofs::CommandLaws::refs_answers, crate::proofs::CommandLaws::unbuilt_answers, crate::proofs::CommandLaws::unread_answers, crate::proofs::AtLaws::at_answers, crate::proofs::AtLaws::wanting_answers))]
+pub fn orb_main<F: Files, I: Source, O: Sink>(
     alloc: Global,
     words: &[String],
+    files: &mut F,
     input: &mut I,
     out: &mut O,
 ) -> Answered
     // The status is that of the note, and each note has its cause, by what the words mean: 1 exactly where they mean no
-    // command, 14 exactly where they mean one that isn't built, or an input of `pipe` isn't of the built form; 3 and 4 only
-    // where the input's or the output's count of faults rose, and the other's did not; 8 and 13 of `dump`, and 8 of `refs`,
-    // exactly where the bytes that it took say so.
+    // command, 14 exactly where they mean one that isn't built, an input of `pipe` isn't of the built form, or a configuration names
+    // files of interfaces; 3 and 4 only where the count of faults of the input, of the files, or of the output rose, and no other;
+    // 8 and 13 of `dump`, and 8 of `refs`, exactly where the bytes that it took say so; 2 and 10 exactly where the file says so.
     ensures { Answers (command_of string_bytes words.now) result
-        (moment (I.state input.old) (O.state out.old)) (moment (I.state input.new) (O.state out.new)) }
+        (moment (F.state files.old) (I.state input.old) (O.state out.old))
+        (moment (F.state files.new) (I.state input.new) (O.state out.new)) }
 {
-    match read_words(words) {
-        Meaning::Pipe => answered(note_for(pipe_run(alloc, input, out, &Ping::new(alloc)))),
-        Meaning::Dump => answered(dump_note(dump_run(alloc, input, out))),
-        Meaning::Refs => answered(refs_note(refs_run(alloc, input, out))),
-        Meaning::Unbuilt => answered(Note::NotBuilt),
-        Meaning::Unread => answered(Note::Usage),
+    match read_words(alloc, words) {
+        Ok(Meaning::Pipe) => answered(note_for(pipe_run(alloc, input, out, &Ping::new(alloc)))),
+        Ok(Meaning::Dump) => answered(dump_note(dump_run(alloc, input, out))),
+        Ok(Meaning::Refs) => answered(refs_note(refs_run(alloc, input, out))),
+        Ok(Meaning::RefsAt(at, config)) => {
+            answered(note_at(at_run(alloc, files, out, config.as_ref(), &at)))
+        }
+        Ok(Meaning::Unbuilt) => answered(Note::NotBuilt),
+        Ok(Meaning::Unread) => answered(Note::Usage),
+        Err(NoMemory) => answered(Note::Memory),
     }
 }

@@ -1,7 +1,8 @@
-//! The top call of the program: it does all that `orb` does, over the source and the sink that it is handed.
+//! The top call of the program: it does all that `orb` does, over the files, the source and the sink that it is handed.
 #![tactic(auto)]
 
 mod answered;
+mod at_note;
 mod command;
 mod course;
 mod dump_note;
@@ -22,10 +23,12 @@ pub use answered::Answered;
 pub use command::orb_main;
 pub use ends::{PipeFault, Piped, ReadEnd, WriteEnd};
 pub use laws::{built_in_is_distinct, hears_one_way, pings_are_replied, piped_is_replayed};
-pub use note::Note;
+pub use note::{Note, Role};
 pub use pipe::pipe_run;
 pub use request::MAX_PIPED;
 
+#[cfg(test)]
+mod at_tests;
 #[cfg(test)]
 mod tests;
 #[cfg(test)]

@@ -1,7 +1,10 @@
 //! What the words of a command line mean.
 
+use object_lines::Address;
+use orb_base::Text;
+
 /// What the words of a command line mean.
-#[derive(Clone, Copy, Debug, PartialEq, Eq, Hash)]
+#[derive(Debug, Drop)]
 pub enum Meaning {
     /// The command `pipe`.
     Pipe,
@@ -9,6 +12,8 @@ pub enum Meaning {
     Dump,
     /// The command `refs`.
     Refs,
+    /// The command `refs` at an address, with the name of a configuration where there is one.
+    RefsAt(Address, Option<Text>),
     /// A command, or options of one, that isn't built yet.
     Unbuilt,
     /// No command.

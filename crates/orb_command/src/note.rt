@@ -1,21 +1,35 @@
 //! What a run came to.
 
+use adapter_policies::ConfigFault;
 use giop_messages::Fault;
 use object_refs::RefFault;
 
-/// What a run came to, as the program prints it on standard error.
+/// What a file that the words name is for.
 #[derive(Clone, Copy, Debug, PartialEq, Eq, Hash)]
+pub enum Role {
+    /// It is the configuration.
+    Config,
+}
+
+/// What a run came to, as the program prints it on standard error.
+#[derive(Debug, Drop)]
 pub enum Note {
     /// It did what the words say; nothing is printed.
     Nothing,
     /// The words have no reading.
     Usage,
-    /// The input failed.
+    /// The configuration has this first fault.
+    Config(ConfigFault),
+    /// A file is longer than it may be.
+    TooLong(Role),
+    /// The input, or the store of files, failed.
     ReadFault,
     /// The output failed.
     WriteFault,
     /// The input is refused at this offset.
     Input(u64, Fault),
+    /// There is no file of the name that the words have.
+    Absent(Role),
     /// The text of a reference is refused.
     Reference(RefFault),
     /// Memory was wanting.

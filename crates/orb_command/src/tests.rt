@@ -3,8 +3,8 @@ ghost use Rattle.orb_base.specs.Outcomes.{bad_operation};
 
 use super::*;
 use orb_base::{
-    Completed, CountingSink, Job, List, MemSink, MemSource, Outcome, Serving, SteadySource, Sys,
-    SysName, Text,
+    Completed, CountingSink, Job, List, MemSink, MemSource, Outcome, Serving, SteadyFiles,
+    SteadySource, Sys, SysName, Text,
 };
 use std::alloc::Global;
 use std::test::Fail;
@@ -85,7 +85,7 @@ struct Row {
     writes: &'static [usize],
     failed_writes: &'static [u64],
     status: u8,
-    note: Note,
+    note: &'static str,
     output: &'static [u8],
 }
 
@@ -113,6 +113,12 @@ fn strings(alloc: Global, words: &[&str]) -> Result<Vec<String>, Fail> {
     Ok(all)
 }
 
+/// The note as it is written in a program.
+pub fn told(alloc: Global, answered: &Answered) -> Result<String, Fail> {
+    let note = &answered.note;
+    Ok(format!(in alloc; "{note:?}")?)
+}
+
 /// What a run answers and writes.
 fn ran(alloc: Global, row: &Row) -> Result<(Answered, Vec<u8>), Fail> {
     let words = strings(alloc, row.words)?;
@@ -126,7 +132,8 @@ fn ran(alloc: Global, row: &Row) -> Result<(Answered, Vec<u8>), Fail> {
         list(alloc, row.writes)?,
         list(alloc, row.failed_writes)?,
     );
-    let answered = orb_main(alloc, words.as_slice(), &mut input, &mut out);
+    let mut files = SteadyFiles::new(List::new(alloc));
+    let answered = orb_main(alloc, words.as_slice(), &mut files, &mut input, &mut out);
     Ok((answered, Vec::from_slice(alloc, out.held())?))
 }
 
@@ -142,7 +149,7 @@ fn the_pipe_answers_each_ping(rt: HostRuntime) -> Result<(), Fail> {
             writes: &[],
             failed_writes: &[],
             status: 0,
-            note: Note::Nothing,
+            note: "Nothing",
             output: PING_REPLY,
         },
         Row {
@@ -154,7 +161,7 @@ fn the_pipe_answers_each_ping(rt: HostRuntime) -> Result<(), Fail> {
             writes: &[],
             failed_writes: &[],
             status: 0,
-            note: Note::Nothing,
+            note: "Nothing",
             output: OTHER_REPLY,
         },
         Row {
@@ -166,7 +173,7 @@ fn the_pipe_answers_each_ping(rt: HostRuntime) -> Result<(), Fail> {
             writes: &[],
             failed_writes: &[],
             status: 0,
-            note: Note::Nothing,
+            note: "Nothing",
             output: PING_REPLY,
         },
         Row {
@@ -178,7 +185,7 @@ fn the_pipe_answers_each_ping(rt: HostRuntime) -> Result<(), Fail> {
             writes: ONES,
             failed_writes: &[],
             status: 0,
-            note: Note::Nothing,
+            note: "Nothing",
             output: PING_REPLY,
         },
         Row {
@@ -190,7 +197,7 @@ fn the_pipe_answers_each_ping(rt: HostRuntime) -> Result<(), Fail> {
             writes: &[],
             failed_writes: &[],
             status: 0,
-            note: Note::Nothing,
+            note: "Nothing",
             output: b"",
         },
         Row {
@@ -202,7 +209,7 @@ fn the_pipe_answers_each_ping(rt: HostRuntime) -> Result<(), Fail> {
             writes: &[],
             failed_writes: &[],
             status: 0,
-            note: Note::Nothing,
+            note: "Nothing",
             output: LITTLE_REPLY,
         },
         Row {
@@ -214,7 +221,7 @@ fn the_pipe_answers_each_ping(rt: HostRuntime) -> Result<(), Fail> {
             writes: &[],
             failed_writes: &[],
             status: 0,
-            note: Note::Nothing,
+            note: "Nothing",
             output: TWO_ORDERS_REPLIES,
         },
         Row {
@@ -226,7 +233,7 @@ fn the_pipe_answers_each_ping(rt: HostRuntime) -> Result<(), Fail> {
             writes: &[],
             failed_writes: &[],
             status: 0,
-            note: Note::Nothing,
+            note: "Nothing",
             output: INTERLEAVED_REPLIES,
         },
         Row {
@@ -238,7 +245,7 @@ fn the_pipe_answers_each_ping(rt: HostRuntime) -> Result<(), Fail> {
             writes: &[1; 64],
             failed_writes: &[],
             status: 0,
-            note: Note::Nothing,
+            note: "Nothing",
             output: INTERLEAVED_REPLIES,
         },
         Row {
@@ -250,7 +257,7 @@ fn the_pipe_answers_each_ping(rt: HostRuntime) -> Result<(), Fail> {
             writes: &[],
             failed_writes: &[],
             status: 0,
-            note: Note::Nothing,
+            note: "Nothing",
             output: PING_REPLY,
         },
         Row {
@@ -262,7 +269,7 @@ fn the_pipe_answers_each_ping(rt: HostRuntime) -> Result<(), Fail> {
             writes: &[],
             failed_writes: &[1],
             status: 4,
-            note: Note::WriteFault,
+            note: "WriteFault",
             output: PING_REPLY,
         },
         Row {
@@ -274,7 +281,7 @@ fn the_pipe_answers_each_ping(rt: HostRuntime) -> Result<(), Fail> {
             writes: &[],
             failed_writes: &[],
             status: 14,
-            note: Note::NotBuilt,
+            note: "NotBuilt",
             output: b"",
         },
         Row {
@@ -286,7 +293,7 @@ fn the_pipe_answers_each_ping(rt: HostRuntime) -> Result<(), Fail> {
             writes: &[],
             failed_writes: &[],
             status: 14,
-            note: Note::NotBuilt,
+            note: "NotBuilt",
             output: b"",
         },
         Row {
@@ -298,7 +305,7 @@ fn the_pipe_answers_each_ping(rt: HostRuntime) -> Result<(), Fail> {
             writes: &[],
             failed_writes: &[],
             status: 14,
-            note: Note::NotBuilt,
+            note: "NotBuilt",
             output: b"",
         },
         Row {
@@ -310,7 +317,7 @@ fn the_pipe_answers_each_ping(rt: HostRuntime) -> Result<(), Fail> {
             writes: &[],
             failed_writes: &[],
             status: 14,
-            note: Note::NotBuilt,
+            note: "NotBuilt",
             output: b"",
         },
         Row {
@@ -322,7 +329,7 @@ fn the_pipe_answers_each_ping(rt: HostRuntime) -> Result<(), Fail> {
             writes: &[],
             failed_writes: &[],
             status: 14,
-            note: Note::NotBuilt,
+            note: "NotBuilt",
             output: b"",
         },
         Row {
@@ -334,7 +341,7 @@ fn the_pipe_answers_each_ping(rt: HostRuntime) -> Result<(), Fail> {
             writes: &[],
             failed_writes: &[],
             status: 14,
-            note: Note::NotBuilt,
+            note: "NotBuilt",
             output: b"",
         },
         Row {
@@ -346,7 +353,7 @@ fn the_pipe_answers_each_ping(rt: HostRuntime) -> Result<(), Fail> {
             writes: &[],
             failed_writes: &[],
             status: 14,
-            note: Note::NotBuilt,
+            note: "NotBuilt",
             output: b"",
         },
         Row {
@@ -358,7 +365,7 @@ fn the_pipe_answers_each_ping(rt: HostRuntime) -> Result<(), Fail> {
             writes: &[],
             failed_writes: &[],
             status: 14,
-            note: Note::NotBuilt,
+            note: "NotBuilt",
             output: b"",
         },
         Row {
@@ -370,7 +377,7 @@ fn the_pipe_answers_each_ping(rt: HostRuntime) -> Result<(), Fail> {
             writes: &[],
             failed_writes: &[],
             status: 14,
-            note: Note::NotBuilt,
+            note: "NotBuilt",
             output: b"",
         },
         Row {
@@ -382,7 +389,7 @@ fn the_pipe_answers_each_ping(rt: HostRuntime) -> Result<(), Fail> {
             writes: &[],
             failed_writes: &[],
             status: 3,
-            note: Note::ReadFault,
+            note: "ReadFault",
             output: b"",
         },
         Row {
@@ -394,7 +401,7 @@ fn the_pipe_answers_each_ping(rt: HostRuntime) -> Result<(), Fail> {
             writes: &[],
             failed_writes: &[],
             status: 3,
-            note: Note::ReadFault,
+            note: "ReadFault",
             output: b"",
         },
         Row {
@@ -406,7 +413,7 @@ fn the_pipe_answers_each_ping(rt: HostRuntime) -> Result<(), Fail> {
             writes: &[],
             failed_writes: &[],
             status: 3,
-            note: Note::ReadFault,
+            note: "ReadFault",
             output: b"",
         },
         Row {
@@ -418,7 +425,7 @@ fn the_pipe_answers_each_ping(rt: HostRuntime) -> Result<(), Fail> {
             writes: &[],
             failed_writes: &[0],
             status: 4,
-            note: Note::WriteFault,
+            note: "WriteFault",
             output: b"",
         },
         Row {
@@ -430,16 +437,18 @@ fn the_pipe_answers_each_ping(rt: HostRuntime) -> Result<(), Fail> {
             writes: &[3, 1],
             failed_writes: &[2],
             status: 4,
-            note: Note::WriteFault,
+            note: "WriteFault",
             output: b"GIOP",
         },
     ] {
         let (answered, output) = ran(rt.alloc(), &row)?;
-        let wanted = Answered {
-            status: row.status,
-            note: row.note,
-        };
-        assert_eq!(rt; answered, wanted, "{}", row.name);
+        assert_eq!(rt; answered.status, row.status, "{}", row.name);
+        assert_eq!(rt;
+            told(rt.alloc(), &answered)?.as_str(),
+            row.note,
+            "{}",
+            row.name
+        );
         assert_eq!(rt; output.as_slice(), row.output, "{}", row.name);
     }
     Ok(())
@@ -448,36 +457,73 @@ fn the_pipe_answers_each_ping(rt: HostRuntime) -> Result<(), Fail> {
 #[test]
 fn words_are_read_first(rt: HostRuntime) -> Result<(), Fail> {
     for (name, words, status, note) in [
-        ("no words", NO_WORDS, 1, Note::Usage),
-        ("an unknown word", ["ping"].as_slice(), 1, Note::Usage),
+        ("no words", NO_WORDS, 1, "Usage"),
+        ("an unknown word", ["ping"].as_slice(), 1, "Usage"),
         (
             "a command behind a word",
             ["--", "pipe"].as_slice(),
             1,
-            Note::Usage,
+            "Usage",
         ),
         (
             "pipe with an option",
             ["pipe", "--batch"].as_slice(),
             14,
-            Note::NotBuilt,
+            "NotBuilt",
         ),
-        ("serve alone", ["serve"].as_slice(), 14, Note::NotBuilt),
-        ("call alone", ["call"].as_slice(), 14, Note::NotBuilt),
+        ("serve alone", ["serve"].as_slice(), 14, "NotBuilt"),
+        ("call alone", ["call"].as_slice(), 14, "NotBuilt"),
+        ("no address", ["refs", "--at"].as_slice(), 14, "NotBuilt"),
         (
-            "refs with an option",
-            ["refs", "--at"].as_slice(),
+            "an address with a dash",
+            ["refs", "--at", "-h:1"].as_slice(),
             14,
-            Note::NotBuilt,
+            "NotBuilt",
+        ),
+        (
+            "a port of 0",
+            ["refs", "--at", "h:0"].as_slice(),
+            14,
+            "NotBuilt",
+        ),
+        (
+            "a configuration without an address",
+            ["refs", "--config", "c"].as_slice(),
+            14,
+            "NotBuilt",
+        ),
+        (
+            "a configuration without a name",
+            ["refs", "--at", "h:1", "--config"].as_slice(),
+            14,
+            "NotBuilt",
+        ),
+        (
+            "a name with a dash",
+            ["refs", "--at", "h:1", "--config", "-c"].as_slice(),
+            14,
+            "NotBuilt",
+        ),
+        (
+            "a name with a NUL",
+            ["refs", "--at", "h:1", "--config", "a\0"].as_slice(),
+            14,
+            "NotBuilt",
+        ),
+        (
+            "a word too many",
+            ["refs", "--at", "h:1", "--config", "c", "c"].as_slice(),
+            14,
+            "NotBuilt",
         ),
         (
             "dump with an option",
             ["dump", "--config"].as_slice(),
             14,
-            Note::NotBuilt,
+            "NotBuilt",
         ),
-        ("idl alone", ["idl"].as_slice(), 14, Note::NotBuilt),
-        ("load alone", ["load"].as_slice(), 14, Note::NotBuilt),
+        ("idl alone", ["idl"].as_slice(), 14, "NotBuilt"),
+        ("load alone", ["load"].as_slice(), 14, "NotBuilt"),
     ] {
         let row = Row {
             name,
@@ -492,7 +538,8 @@ fn words_are_read_first(rt: HostRuntime) -> Result<(), Fail> {
             output: NOTHING,
         };
         let (answered, output) = ran(rt.alloc(), &row)?;
-        assert_eq!(rt; answered, Answered { status, note }, "{name}");
+        assert_eq!(rt; answered.status, status, "{name}");
+        assert_eq!(rt; told(rt.alloc(), &answered)?.as_str(), note, "{name}");
         assert_eq!(rt; output.len(), 0, "{name}");
     }
     Ok(())
@@ -512,10 +559,9 @@ fn ample_memory_always_gives_the_priority(rt: HostRuntime) -> Result<(), Fail> {
         assert!(rt; reply.append(&PING_REPLY[16..]).is_ok());
         let mut input = SteadySource::new(request, List::new(alloc));
         let mut out = MemSink::new(alloc, List::new(alloc), List::new(alloc));
-        assert_eq!(rt;
-            orb_main(alloc, words.as_slice(), &mut input, &mut out).note,
-            Note::Nothing
-        );
+        let mut files = SteadyFiles::new(List::new(alloc));
+        let answered = orb_main(alloc, words.as_slice(), &mut files, &mut input, &mut out);
+        assert_eq!(rt; answered.status, 0);
         assert_eq!(rt; out.held(), reply.as_slice());
     }
     Ok(())

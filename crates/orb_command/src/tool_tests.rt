@@ -1,9 +1,8 @@
 //! `orb dump` and `orb refs` over memory: each status with its note, and what is written then.
 
 use super::*;
-use giop_messages::Fault;
-use object_refs::{RefCause, RefFault};
-use orb_base::{List, MemSink, MemSource, Octets};
+use crate::tests::told;
+use orb_base::{List, MemSink, MemSource, Octets, SteadyFiles};
 use std::alloc::Global;
 use std::test::Fail;
 
@@ -50,7 +49,8 @@ fn ran(
     words.push(String::from_str(alloc, word)?)?;
     let mut input = MemSource::new(input, list(alloc, &[40, 24])?, list(alloc, failed_reads)?);
     let mut out = MemSink::new(alloc, list(alloc, &[9, 5])?, list(alloc, failed_writes)?);
-    let answered = orb_main(alloc, words.as_slice(), &mut input, &mut out);
+    let mut files = SteadyFiles::new(List::new(alloc));
+    let answered = orb_main(alloc, words.as_slice(), &mut files, &mut input, &mut out);
     Ok((answered, Vec::from_slice(alloc, out.held())?))
 }
 
@@ -61,68 +61,63 @@ fn a_told_input_gives_its_lines_and_status(rt: HostRuntime) -> Result<(), Fail> 
             "dump",
             PING,
             0,
-            Note::Nothing,
+            "Nothing",
             b"0 Request big 48 id 1 flags 3 key ping op current contexts 0 body 0\n".as_slice(),
         ),
         (
             "dump",
             INTERLEAVED,
             0,
-            Note::Nothing,
+            "Nothing",
             b"24 Request big 48 id 2 flags 3 key ping op current contexts 0 body 0\n104 Request big 48 id 1 flags 3 key ping op current contexts 0 body 0\n".as_slice(),
         ),
         (
             "dump",
             HERE,
             0,
-            Note::Nothing,
+            "Nothing",
             b"0 LocateReply big 20 id 5 status 1\n".as_slice(),
         ),
         (
             "dump",
             b"GIOP\x01\x02\0\0\0\0\0".as_slice(),
             8,
-            Note::Input(0, Fault::Cut),
+            "Input(0, Cut)",
             b"".as_slice(),
         ),
         (
             "dump",
             BAD_STATUS,
             8,
-            Note::Input(48, Fault::BadStatus),
+            "Input(48, BadStatus)",
             b"0 Request big 48 id 1 flags 3 key ping op current contexts 0 body 0\n".as_slice(),
         ),
-        ("refs", REFERENCE, 0, Note::Nothing, LINES),
+        ("refs", REFERENCE, 0, "Nothing", LINES),
         (
             "refs",
             b"corbaloc::1.2@h/a%2Fb\n".as_slice(),
             0,
-            Note::Nothing,
+            "Nothing",
             b"host h\nport 2809\nkey a/b\n".as_slice(),
         ),
         (
             "refs",
             b"corbaloc:iiop:1.1@h/a".as_slice(),
             8,
-            Note::Reference(RefFault {
-                cause: RefCause::BadVersion,
-                place: 14,
-            }),
+            "Reference(RefFault { cause: BadVersion, place: 14 })",
             b"".as_slice(),
         ),
         (
             "refs",
             ODD_REFERENCE,
             8,
-            Note::Reference(RefFault {
-                cause: RefCause::OddHex,
-                place: 215,
-            }),
+            "Reference(RefFault { cause: OddHex, place: 215 })",
             b"".as_slice(),
         ),
     ] {
         let (answered, text) = ran(rt.alloc(), word, list(rt.alloc(), input)?, &[], &[])?;
-        assert_eq!(rt; answered, Answered { status, note }, "{word}");
+        assert_eq!(rt; answered.status, status, "{word}");
+        assert_eq!(rt; told(rt.alloc(), &answered)?.as_str(), note, "{word}");
         assert_eq!(rt; text.as_slice(), written, "{word}");
     }
     Ok(())
@@ -130,21 +125,14 @@ fn a_told_input_gives_its_lines_and_status(rt: HostRuntime) -> Result<(), Fail> 
 
 #[test]
 fn a_failing_device_has_its_status(rt: HostRuntime) -> Result<(), Fail> {
-    let read_fault = Answered {
-        status: 3,
-        note: Note::ReadFault,
-    };
-    let write_fault = Answered {
-        status: 4,
-        note: Note::WriteFault,
-    };
-    for (word, input, failed_reads, failed_writes, wanted, written) in [
+    for (word, input, failed_reads, failed_writes, status, note, written) in [
         (
             "dump",
             PING,
             [1].as_slice(),
             [].as_slice(),
-            read_fault,
+            3,
+            "ReadFault",
             b"".as_slice(),
         ),
         (
@@ -152,7 +140,8 @@ fn a_failing_device_has_its_status(rt: HostRuntime) -> Result<(), Fail> {
             PING,
             [].as_slice(),
             [1].as_slice(),
-            write_fault,
+            4,
+            "WriteFault",
             b"0 Request".as_slice(),
         ),
         (
@@ -160,7 +149,8 @@ fn a_failing_device_has_its_status(rt: HostRuntime) -> Result<(), Fail> {
             REFERENCE,
             [2].as_slice(),
             [].as_slice(),
-            read_fault,
+            3,
+            "ReadFault",
             b"".as_slice(),
         ),
         (
@@ -168,13 +158,15 @@ fn a_failing_device_has_its_status(rt: HostRuntime) -> Result<(), Fail> {
             REFERENCE,
             [].as_slice(),
             [2].as_slice(),
-            write_fault,
+            4,
+            "WriteFault",
             b"type IDL:Orb/P".as_slice(),
         ),
     ] {
         let input = list(rt.alloc(), input)?;
         let (answered, text) = ran(rt.alloc(), word, input, failed_reads, failed_writes)?;
-        assert_eq!(rt; answered, wanted, "{word}");
+        assert_eq!(rt; answered.status, status, "{word}");
+        assert_eq!(rt; told(rt.alloc(), &answered)?.as_str(), note, "{word}");
         assert_eq!(rt; text.as_slice(), written, "{word}");
     }
     Ok(())
@@ -189,11 +181,8 @@ fn a_longer_reference_is_cut(rt: HostRuntime) -> Result<(), Fail> {
         url.push(b'a')?;
     }
     let (answered, text) = ran(alloc, "refs", List::from_vec(url), &[], &[])?;
-    let cut = Answered {
-        status: 8,
-        note: Note::Input(65_536, Fault::Cut),
-    };
-    assert_eq!(rt; answered, cut);
+    assert_eq!(rt; answered.status, 8);
+    assert_eq!(rt; told(alloc, &answered)?.as_str(), "Input(65536, Cut)");
     assert_eq!(rt; text.len(), 0);
     Ok(())
 }

@@ -1,40 +1,34 @@
 //! Reading the words of a command line.
-ghost use Rattle.std.specs.Prelude.{◌≡◌, string_bytes};
-ghost use Rattle.orb_command.specs.Words.{command_of, is_command as is_command_lem};
+ghost use Rattle.std.specs.Prelude.{◌≡◌, IfOk, OnErr, IsSome, None, string_bytes};
+ghost use Rattle.orb_base.specs.NulFree.{nul_at};
+ghost use Rattle.orb_command.specs.Words as Spec;
 
 use crate::meaning::Meaning;
+use object_lines::{Address, read_address};
+use orb_base::{NoMemory, Text};
+use std::alloc::Global;
 
-/// What the words mean, the first of which is the command.
-pub fn read_words(words: &[String]) -> Meaning
-    ensures { result ≡ command_of string_bytes words.now }
+/// What the words mean, the first of which is the command. Memory is asked for an address, and for the name of a configuration
+/// behind one.
+pub fn read_words(alloc: Global, words: &[String]) -> Result<Meaning, NoMemory>
+    ensures { Spec.Means result (Spec.command_of string_bytes words.now) }
 {
     match words {
-        [] => Meaning::Unread,
-        [word] => {
+        [] => Ok(Meaning::Unread),
+        [word, options @ ..] => {
             if !is_command(word.as_str()) {
-                Meaning::Unread
-            } else if word.as_str() == "pipe" {
-                Meaning::Pipe
-            } else if word.as_str() == "dump" {
-                Meaning::Dump
+                Ok(Meaning::Unread)
             } else if word.as_str() == "refs" {
-                Meaning::Refs
+                read_refs(alloc, options)
             } else {
-                Meaning::Unbuilt
-            }
-        }
-        [word, _, ..] => {
-            if is_command(word.as_str()) {
-                Meaning::Unbuilt
-            } else {
-                Meaning::Unread
+                Ok(alone(word.as_str(), options))
             }
         }
     }
 }
 
 fn is_command(word: &str) -> bool
-    ensures { result ≡ is_command_lem word.now }
+    ensures { result ≡ Spec.is_command word.now }
 {
     word == "pipe"
         || word == "serve"
@@ -43,4 +37,121 @@ fn is_command(word: &str) -> bool
         || word == "dump"
         || word == "idl"
         || word == "load"
+}
+
+/// What a command other than `refs` means.
+fn alone(word: &str, options: &[String]) -> Meaning
+    ensures { result ≡ Spec.alone_of word.now options.now }
+{
+    match options {
+        [] => {
+            if word == "pipe" {
+                Meaning::Pipe
+            } else if word == "dump" {
+                Meaning::Dump
+            } else {
+                Meaning::Unbuilt
+            }
+        }
+        [_, ..] => Meaning::Unbuilt,
+    }
+}
+
+/// What `refs` means with these words behind it.
+fn read_refs(alloc: Global, options: &[String]) -> Result<Meaning, NoMemory>
+    ensures { Spec.Means result (Spec.refs_of string_bytes options.now) }
+{
+    match options {
+        [] => Ok(Meaning::Refs),
+        [_] => Ok(Meaning::Unbuilt),
+        [option, place] => {
+            if option.as_str() == "--at" {
+                refs_at(alloc, place.as_str())
+            } else {
+                Ok(Meaning::Unbuilt)
+            }
+        }
+        [_, _, _] => Ok(Meaning::Unbuilt),
+        [option, place, other, name] => {
+            if option.as_str() == "--at" && other.as_str() == "--config" {
+                refs_with(alloc, place.as_str(), name.as_str())
+            } else {
+                Ok(Meaning::Unbuilt)
+            }
+        }
+        [_, _, _, _, _, ..] => Ok(Meaning::Unbuilt),
+    }
+}
+
+/// References at an address, where the word is one.
+#[tactic(auto, using(crate::proofs::AtLaws::refs_there))]
+fn refs_at(alloc: Global, place: &str) -> Result<Meaning, NoMemory>
+    ensures { Spec.Means result (Spec.at_place (Spec.place_of place.now) None) }
+{
+    match read_place(alloc, place.as_bytes())? {
+        Some(address) => Ok(Meaning::RefsAt(address, None)),
+        None => Ok(Meaning::Unbuilt),
+    }
+}
+
+/// References at an address by a configuration, where the words are an address and a name.
+#[tactic(auto, using(crate::proofs::AtLaws::refs_there))]
+fn refs_with(alloc: Global, place: &str, name: &str) -> Result<Meaning, NoMemory>
+    ensures { Spec.Means result (Spec.filed_at (Spec.place_of place.now) (Spec.name_of name.now)) }
+{
+    if !is_name(name.as_bytes()) {
+        return Ok(Meaning::Unbuilt);
+    }
+    match read_place(alloc, place.as_bytes())? {
+        Some(address) => {
+            let name = text_of(alloc, name.as_bytes())?;
+            Ok(Meaning::RefsAt(address, Some(name)))
+        }
+        None => Ok(Meaning::Unbuilt),
+    }
+}
+
+/// The address that the value of an option is. Memory is asked for where it is one.
+fn read_place(alloc: Global, word: &[u8]) -> Result<Option<Address>, NoMemory>
+    ensures found { IfOk result (λ found. found ≡ Spec.place_of word.now) }
+    ensures only { OnErr result (IsSome (Spec.place_of word.now)) }
+{
+    if !is_value(word) {
+        return Ok(None);
+    }
+    read_address(alloc, word)
+}
+
+/// Whether a word can be the value of an option: it begins with no dash.
+fn is_value(word: &[u8]) -> bool
+    ensures { result ≡ Spec.is_value word.now }
+{
+    match word {
+        [] => true,
+        [first, ..] => *first != b'-',
+    }
+}
+
+/// Whether a word can be the name of a file: it is a value, and holds no NUL.
+fn is_name(word: &[u8]) -> bool
+    ensures { result ≡ Spec.is_name word.now }
+{
+    is_value(word) && first_nul(word).is_none()
+}
+
+/// The place of the first NUL of a word.
+fn first_nul(word: &[u8]) -> Option<usize>
+    ensures { result ≡ nul_at word.now }
+{
+    word.iter().position(|byte| *byte == 0)
+}
+
+/// The text of a word that holds no NUL.
+fn text_of(alloc: Global, word: &[u8]) -> Result<Text, NoMemory>
+    ensures { IfOk result (λ text. text ≡ word.now) }
+{
+    match Text::new(alloc, word) {
+        Ok(text) => Ok(text),
+        Err(_) => Err(NoMemory),
+    }
 }

@@ -1,0 +1,27 @@
+use Rattle.std.proofs.Common.{◌≡◌, refl, sym, ap, ◌∙◌}
+use Rattle.orb_command.specs.Moment.{moment}
+use Rattle.orb_command.specs.Command.{status_of}
+use Rattle.orb_command.proofs.CommandLaws.{unbuilt_answers, unread_answers}
+use Rattle.orb_command.proofs.AtLaws.{at_answers, wanting_answers}
+use Rattle.orb_command.proofs.command.orb_main.Goals as goal
+
+pub returns-in-Ok-RefsAt : goal.returns-in-Ok-RefsAt
+returns-in-Ok-RefsAt g c =
+    let note = c.answered-in-Ok-RefsAt.ensures.note ∙ c.note_at.ensures in
+    let status = c.answered-in-Ok-RefsAt.ensures.status ∙ ap status_of c.note_at.ensures in
+    rw (sym c.in-Ok-RefsAt.ensures, c.in-Ok-RefsAt.field-0-is)
+    (at_answers c.at_run.result c.in-Ok-RefsAt.at c.in-Ok-RefsAt.config c.answered-in-Ok-RefsAt.result
+    (moment (g.F.Files.state c.args.files.now) (g.I.Source.state c.args.input.now) (g.O.Sink.state c.args.out.now))
+    (moment (g.F.Files.state c.at_run.new.files) (g.I.Source.state c.args.input.now) (g.O.Sink.state c.at_run.new.sink))
+    refl (rw (sym c.as_ref.ensures.value) c.at_run.ensures) note status)
+
+pub returns-in-Ok-Unbuilt : goal.returns-in-Ok-Unbuilt
+returns-in-Ok-Unbuilt g c =
+    rw (sym c.in-Ok-Unbuilt.ensures, c.in-Ok-Unbuilt.field-0-is) (unbuilt_answers c.answered-in-Ok-Unbuilt.result _ c.answered-in-Ok-Unbuilt.ensures.note c.answered-in-Ok-Unbuilt.ensures.status)
+
+pub returns-in-Ok-Unread : goal.returns-in-Ok-Unread
+returns-in-Ok-Unread g c =
+    rw (sym c.in-Ok-Unread.ensures, c.in-Ok-Unread.field-0-is) (unread_answers c.answered-in-Ok-Unread.result _ c.answered-in-Ok-Unread.ensures.note c.answered-in-Ok-Unread.ensures.status)
+
+pub returns-in-Err : goal.returns-in-Err
+returns-in-Err g c = wanting_answers _ c.answered-in-Err.result _ c.in-Err.ensures c.answered-in-Err.ensures.note c.answered-in-Err.ensures.status

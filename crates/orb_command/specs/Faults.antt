@@ -1,0 +1,54 @@
+-- Which counts of faults rose, by the command and its note.
+use Rattle.std.specs.Prelude.{◌≡◌}
+use Rattle.orb_base.specs.Outside.{Rose}
+use Rattle.text_streams.specs.Faults.{NoneFailed, ReadFailed, WriteFailed}
+use Rattle.orb_command.specs.Moment.{Moment}
+use Rattle.orb_command.specs.declared.meaning.Meaning.{Meaning}
+use Rattle.orb_command.specs.declared.meaning.Meaning.TheVariants.{Pipe, Dump, Refs, RefsAt, Unbuilt, Unread}
+use Rattle.orb_command.specs.declared.note.Note.{Note}
+use Rattle.orb_command.specs.declared.note.Note.TheVariants.{Nothing, Usage, Config, TooLong, ReadFault, WriteFault, Input, Absent, Reference, Memory, Limit, NotBuilt}
+
+-- of a command over the input: none but at a fault, the input's alone at a read fault, and the output's alone at a write fault. A
+-- reference that is too long is told also where the next read fails. Such a command refuses no file
+abbrev pub StreamFaults : Note → Moment → Moment → Type 0
+StreamFaults Nothing before after = NoneFailed before.input after.input before.out after.out
+StreamFaults Usage before after = NoneFailed before.input after.input before.out after.out
+StreamFaults ReadFault before after = ReadFailed before.input after.input before.out after.out
+StreamFaults WriteFault before after = WriteFailed before.input after.input before.out after.out
+StreamFaults (Input _ _) before after = after.out.faults ≡ before.out.faults
+StreamFaults (Reference _) before after = NoneFailed before.input after.input before.out after.out
+StreamFaults Memory before after = Unit {0}
+StreamFaults Limit before after = NoneFailed before.input after.input before.out after.out
+StreamFaults NotBuilt before after = NoneFailed before.input after.input before.out after.out
+StreamFaults (Config _) before after = ⊥
+StreamFaults (TooLong _) before after = ⊥
+StreamFaults (Absent _) before after = ⊥
+
+-- no read of a file and no write failed
+abbrev pub NoFileFailed : Moment → Moment → Type 0
+NoFileFailed before after = (after.files.faults ≡ before.files.faults) × (after.out.faults ≡ before.out.faults)
+
+-- of a command over files: none but at a fault, the store's alone at a read fault, and the output's alone at a write fault. Such a
+-- command refuses no input
+abbrev pub FiledFaults : Note → Moment → Moment → Type 0
+FiledFaults Nothing before after = NoFileFailed before after
+FiledFaults (Config _) before after = NoFileFailed before after
+FiledFaults (TooLong _) before after = NoFileFailed before after
+FiledFaults (Absent _) before after = NoFileFailed before after
+FiledFaults ReadFault before after = Rose before.files.faults after.files.faults × (after.out.faults ≡ before.out.faults)
+FiledFaults WriteFault before after = (after.files.faults ≡ before.files.faults) × Rose before.out.faults after.out.faults
+FiledFaults Memory before after = NoFileFailed before after
+FiledFaults NotBuilt before after = NoFileFailed before after
+FiledFaults Usage before after = ⊥
+FiledFaults (Input _ _) before after = ⊥
+FiledFaults (Reference _) before after = ⊥
+FiledFaults Limit before after = ⊥
+
+-- by the command: one over files leaves the input as it was, and one over the input the store of files
+abbrev pub FaultsAt : Meaning → Note → Moment → Moment → Type 0
+FaultsAt Pipe note before after = (after.files ≡ before.files) × StreamFaults note before after
+FaultsAt Dump note before after = (after.files ≡ before.files) × StreamFaults note before after
+FaultsAt Refs note before after = (after.files ≡ before.files) × StreamFaults note before after
+FaultsAt (RefsAt place config) note before after = (after.input ≡ before.input) × FiledFaults note before after
+FaultsAt Unbuilt note before after = (after.files ≡ before.files) × StreamFaults note before after
+FaultsAt Unread note before after = (after.files ≡ before.files) × StreamFaults note before after

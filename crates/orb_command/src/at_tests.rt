@@ -1,0 +1,175 @@
+//! `orb refs --at` over memory: each status with its note, and what is written then.
+
+use super::*;
+use crate::tests::told;
+use adapter_policies::ConfigCause;
+use orb_base::{List, MemFile, MemFiles, MemSink, Octets, SteadySource, Text};
+use std::alloc::Global;
+use std::test::Fail;
+
+/// The line of the built-in object at 127.0.0.1:2809.
+const PING: &[u8] =
+    b"ping IOR:000000000000001149444c3a4f72622f50696e673a312e3000000000000000010000000000000042000102000000000a3132372e302e302e31000af90000000470696e6700000001000000020000001a0000000000000001000000280000000a00000000000000000064\n";
+
+/// A configuration of an object of an interface, and what goes before its table.
+const OBJECT: &[u8] =
+    b"pool = { static = 1, dynamic = 0, default_priority = 100 }\nadapter = [{ name = \"a\", model = \"CLIENT_PROPAGATED\", priority = 100 }]\nobject = [{ key = \"ping\", adapter = \"a\", interface = \"IDL:Orb/Ping:1.0\" }]\n";
+
+const UNSERVED: &[u8] =
+    b"pool = { static = 1, dynamic = 0, default_priority = 1 }\nadapter = [{ name = \"a\", model = \"SERVER_DECLARED\", priority = 1 }]\nobject = [{ key = \"k\", adapter = \"a\", interface = \"IDL:M/V:1.0\" }]\n";
+
+const FILED: &[u8] =
+    b"idl = \"m.idl\"\nscripts = \"m.srv\"\npool = { static = 1, dynamic = 0, default_priority = 1 }\nadapter = [{ name = \"a\", model = \"SERVER_DECLARED\", priority = 1 }]\nobject = [{ key = \"v\", adapter = \"a\", interface = \"IDL:M/V:1.0\" }]\n";
+
+fn list<T: Copy>(alloc: Global, items: &[T]) -> Result<List<T>, Fail> {
+    Ok(List::from_vec(Vec::from_slice(alloc, items)?))
+}
+
+/// A store of the one file `c`, whose reads of these numbers fail.
+fn store(alloc: Global, bytes: Octets, failing: &[u64]) -> Result<MemFiles, Fail> {
+    let name = match Text::new(alloc, b"c") {
+        Ok(name) => name,
+        Err(_) => return Err(Fail::new("a name")),
+    };
+    let mut files = List::new(alloc);
+    match files.push(MemFile { name, bytes }) {
+        Ok(()) => Ok(MemFiles::new(files, list(alloc, failing)?)),
+        Err(_) => Err(Fail::new("a store")),
+    }
+}
+
+/// What `refs --at 127.0.0.1:2809` answers with this configuration, and writes; the read of a file and the writes of these numbers
+/// fail.
+fn ran(
+    alloc: Global,
+    config: Option<&str>,
+    bytes: Octets,
+    failed_reads: &[u64],
+    failed_writes: &[u64],
+) -> Result<(Answered, Vec<u8>), Fail> {
+    let mut words = Vec::new(alloc);
+    for word in ["refs", "--at", "127.0.0.1:2809"] {
+        words.push(String::from_str(alloc, word)?)?;
+    }
+    if let Some(name) = config {
+        words.push(String::from_str(alloc, "--config")?)?;
+        words.push(String::from_str(alloc, name)?)?;
+    }
+    let mut files = store(alloc, bytes, failed_reads)?;
+    let mut input = SteadySource::new(List::new(alloc), List::new(alloc));
+    let mut out = MemSink::new(alloc, list(alloc, &[9, 5])?, list(alloc, failed_writes)?);
+    let answered = orb_main(alloc, words.as_slice(), &mut files, &mut input, &mut out);
+    Ok((answered, Vec::from_slice(alloc, out.held())?))
+}
+
+#[test]
+fn references_at_an_address_have_their_status(rt: HostRuntime) -> Result<(), Fail> {
+    let alloc = rt.alloc();
+    for (config, bytes, failed_reads, failed_writes, status, note, written) in [
+        (
+            None,
+            OBJECT,
+            [0].as_slice(),
+            [].as_slice(),
+            0,
+            "Nothing",
+            PING,
+        ),
+        (
+            Some("c"),
+            OBJECT,
+            [].as_slice(),
+            [].as_slice(),
+            0,
+            "Nothing",
+            PING,
+        ),
+        (
+            Some("c"),
+            OBJECT,
+            [0].as_slice(),
+            [].as_slice(),
+            3,
+            "ReadFault",
+            b"".as_slice(),
+        ),
+        (
+            Some("c"),
+            OBJECT,
+            [].as_slice(),
+            [1].as_slice(),
+            4,
+            "WriteFault",
+            b"ping IOR:".as_slice(),
+        ),
+        (
+            Some("d"),
+            OBJECT,
+            [].as_slice(),
+            [].as_slice(),
+            10,
+            "Absent(Config)",
+            b"".as_slice(),
+        ),
+        (
+            Some("c"),
+            FILED,
+            [].as_slice(),
+            [].as_slice(),
+            14,
+            "NotBuilt",
+            b"".as_slice(),
+        ),
+    ] {
+        let bytes = list(alloc, bytes)?;
+        let (answered, text) = ran(alloc, config, bytes, failed_reads, failed_writes)?;
+        assert_eq!(rt; answered.status, status, "{note}");
+        assert_eq!(rt; told(alloc, &answered)?.as_str(), note);
+        assert_eq!(rt; text.as_slice(), written, "{note}");
+    }
+    Ok(())
+}
+
+/// Whether the configuration is refused with this cause at this path.
+fn refuses(answered: &Answered, cause: ConfigCause, path: &str) -> bool {
+    match &answered.note {
+        Note::Config(fault) => {
+            answered.status == 2 && fault.cause == cause && fault.path.as_slice() == path.as_bytes()
+        }
+        _ => false,
+    }
+}
+
+#[test]
+fn the_first_fault_of_a_configuration_is_told(rt: HostRuntime) -> Result<(), Fail> {
+    let alloc = rt.alloc();
+    for (bytes, cause, path) in [
+        (b"pool = 1".as_slice(), ConfigCause::WrongKind, "pool"),
+        (b"\xff".as_slice(), ConfigCause::NotToml, ""),
+        (
+            UNSERVED,
+            ConfigCause::UnknownInterface,
+            "object[0].interface",
+        ),
+    ] {
+        let (answered, text) = ran(alloc, Some("c"), list(alloc, bytes)?, &[], &[])?;
+        assert!(rt; refuses(&answered, cause, path), "{path}");
+        assert_eq!(rt; text.len(), 0, "{path}");
+    }
+    Ok(())
+}
+
+/// A configuration of one byte more than there may be, all of them blanks.
+#[test]
+fn a_longer_configuration_is_not_read(rt: HostRuntime) -> Result<(), Fail> {
+    let alloc = rt.alloc();
+    let mut bytes = Vec::new(alloc);
+    for _ in 0..1_048_577 {
+        bytes.push(b' ')?;
+    }
+    let (answered, text) = ran(alloc, Some("c"), List::from_vec(bytes), &[], &[])?;
+    assert_eq!(rt; answered.status, 2);
+    assert_eq!(rt; told(alloc, &answered)?.as_str(), "TooLong(Config)");
+    assert_eq!(rt; text.len(), 0);
+    Ok(())
+}
