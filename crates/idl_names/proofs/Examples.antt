@@ -13,7 +13,7 @@ use Rattle.idl_scopes.specs.Ids.{id_of, within}
 use Rattle.idl_names.specs.State.{Built}
 use Rattle.idl_names.specs.Declaring.{text_names}
 
-abbrev told : Result Built IdlFault → Option (IdlCause × ℕ)
+abbrev pub told : Result Built IdlFault → Option (IdlCause × ℕ)
 told (Ok s) = None
 told (Err f) = Some (f.cause, f.column)
 

@@ -1,2 +1,5 @@
 pub mod Arrays
+pub mod BoundSizes
+pub mod ChangedThings
 pub mod Examples
+pub mod MoreExamples

@@ -30,9 +30,13 @@ named thing s = record (become (newest s) other thing s) { lengths = [] }
 abbrev pub measured_name : Built → Done
 measured_name s = measured (declared_type s) (place_at s (newest s)) s
 
+-- the newest name stands for this type
+abbrev pub type_named : Sized → Built → Done
+type_named k s = Ok (named (type k) s)
+
 -- the newest name stands for its type, whose leaves are counted
 abbrev pub typedef : Built → Done
-typedef s = measured_name s >>= counted (declared_type s).leaves (place_at s (newest s)) >>= (λ s. Ok (named (type (declared_type s)) s))
+typedef s = measured_name s >>= counted (declared_type s).leaves (place_at s (newest s)) >>= type_named (declared_type s)
 
 -- a part adds its leaves, and lifts the levels
 abbrev pub with_part : Sized → Parts → Parts
@@ -42,17 +46,25 @@ with_part k p = record p { leaves = plus p.leaves k.leaves; levels = max p.level
 abbrev pub with_member : List ℕ → Sized → Parts → Parts
 with_member name k p = with_part k (record p { members = p.members ++ (name, k.kind) ∷ [] })
 
+-- the newest name is a member of this type
+abbrev pub member_named : Built → Done
+member_named s = Ok (named nothing (record s { parts = with_member (name_at s (newest s)) (declared_type s) s.parts }))
+
 -- the newest name is a member
 abbrev pub member : Built → Done
-member s = measured_name s >>= (λ s. Ok (named nothing (record s { parts = with_member (name_at s (newest s)) (declared_type s) s.parts })))
+member s = measured_name s >>= member_named
 
 -- one more case, with the labels that stand before it
 abbrev pub with_case : List ℕ → Sized → Parts → Parts
 with_case name k p = with_part k (record p { cases = p.cases ++ (p.labels, p.is_default, name, k.kind) ∷ []; labels = []; is_default = false })
 
+-- the newest name is a case of this type
+abbrev pub case_named : Built → Done
+case_named s = Ok (named nothing (record s { parts = with_case (name_at s (newest s)) (declared_type s) s.parts }))
+
 -- the newest name is a case
 abbrev pub case_member : Built → Done
-case_member s = measured_name s >>= (λ s. Ok (named nothing (record s { parts = with_case (name_at s (newest s)) (declared_type s) s.parts })))
+case_member s = measured_name s >>= case_named
 
 -- a type with a body, at its end
 abbrev pub ends_type : Sized → Built → Done
@@ -85,10 +97,13 @@ end_enum s = ends_type (leaf (scalar (enumeration (open_id s) s.parts.enumerator
 abbrev pub with_enumerator : List ℕ → Parts → Parts
 with_enumerator name p = record p { enumerators = p.enumerators ++ name ∷ [] }
 
+-- a token's text is one more label
+abbrev pub label_named : Placed Kind → Built → Done
+label_named t s = Ok (record s { parts = with_enumerator t.text s.parts })
+
 -- it is declared there, with the next number
 abbrev pub enumerate : Placed Kind → Built → Done
-enumerate t s =
-    declare_in (outer s.scopes s.here) other (enumerator (open_id s) (length s.parts.enumerators)) t s >>= (λ s. Ok (record s { parts = with_enumerator t.text s.parts }))
+enumerate t s = declare_in (outer s.scopes s.here) other (enumerator (open_id s) (length s.parts.enumerators)) t s >>= label_named t
 
 -- a union's discriminator, and its labels, each once
 abbrev pub switch : Built → Done
@@ -102,11 +117,15 @@ is_twice z p = has_label z p.labels || list_any (λ c. has_label z c.0) p.cases
 abbrev pub with_label : ℤ → Parts → Parts
 with_label z p = record p { labels = p.labels ++ z ∷ [] }
 
+-- the newest value is one more label
+abbrev pub labelled : Built → Done
+labelled s = Ok (record s { parts = with_label (label_of s.value.value) s.parts })
+
 -- the newest value is a label: it fits the discriminator, and is the first of its number
 abbrev pub case_label : Built → Done
 case_label s =
     fitting (fit s.parts.discriminator s.value.value) s >>= unless (is_twice (label_of s.value.value) s.parts) cause.TwiceCase s.value.at
-    >>= (λ s. Ok (record s { parts = with_label (label_of s.value.value) s.parts }))
+    >>= labelled
 
 -- the union has a default label already
 abbrev pub has_default : Parts → Bool

@@ -59,6 +59,10 @@ place_at s i = scopes.place_at s.scopes i
 abbrev pub name_at : Built → ℕ → List ℕ
 name_at s i = scopes.name_at s.scopes i
 
+-- one thing more
+abbrev pub with_thing : Thing → Built → Done
+with_thing thing s = Ok (record s { things = s.things ++ thing ∷ [] })
+
 -- a name is declared in a scope, unless it is taken there
 abbrev pub with_name : ℕ → Sort → Thing → Placed Kind → Built → Built
 with_name scope sort thing t s = record s { scopes = added scope t.text (place_of t) sort s.scopes; things = s.things ++ thing ∷ [] }
@@ -72,20 +76,36 @@ abbrev pub declare : Placed Kind → Built → Done
 declare t s = declare_in s.here unfinished nothing t s
 
 -- the newest name's body opens
+abbrev pub entered : Built → Built
+entered s = record s { here = length s.scopes.declared }
+
+-- so, as a step
 abbrev pub enter : Built → Done
-enter s = Ok (record s { here = length s.scopes.declared })
+enter s = Ok (entered s)
+
+-- a name is declared here, and its body opens
+abbrev pub open_body : Placed Kind → Built → Done
+open_body t s = declare t s >>= enter
+
+-- the declaration at a place stands for this
+abbrev pub set_thing : ℕ → Thing → Built → Built
+set_thing i thing s = record s { things = set s.things i thing }
 
 -- the declaration at a place becomes a thing
 abbrev pub become : ℕ → Sort → Thing → Built → Built
-become i sort thing s = record s { scopes = finished s.scopes i sort; things = set s.things i thing }
+become i sort thing s = set_thing i thing (record s { scopes = finished s.scopes i sort })
 
 -- the body ends, and with it what it was the body of
 abbrev pub leave : Built → Built
 leave s = record s { here = scopes.outer s.scopes s.here; parts = no_parts }
 
 -- the open declaration becomes this, and its body ends
+abbrev pub ended : Sort → Thing → Built → Built
+ended sort thing s = leave (become (opened s) sort thing s)
+
+-- so, as a step
 abbrev pub ends : Sort → Thing → Built → Done
-ends sort thing s = Ok (leave (become (opened s) sort thing s))
+ends sort thing s = Ok (ended sort thing s)
 
 -- so many leaves more, at most 1,048,576 a file
 abbrev pub counted : ℕ → Place → Built → Done

@@ -7,4 +7,5 @@ pub mod Bodies
 pub mod Interfaces
 pub mod Labels
 pub mod Declaring
+pub mod Memory
 pub mod Views

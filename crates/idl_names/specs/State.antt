@@ -4,25 +4,10 @@ use Rattle.cdr_values.specs.Trees.{size1, unsigned, Kind, scalar, Branch}
 use Rattle.idl_scopes.specs.declared.place.Place.{Place}
 use Rattle.idl_scopes.specs.Table.{Table, no_names}
 use Rattle.idl_constants.specs.ConstValues.{Value, number}
+use Rattle.idl_types.specs.declared.way.Way.{Way}
+use Rattle.idl_types.specs.declared.way.Way.TheVariants.{Input}
+use Rattle.idl_types.specs.Things.{ParamView, OperationView}
 use Rattle.idl_names.specs.Sizes.{Sized, leaf}
-
--- the way of a parameter
-pub data Way : Type 0 where
-  input output both : Way
-
--- a parameter of an operation
-pub record Parameter : Type 0 where
-  pub way : Way
-  pub name : List ℕ
-  pub kind : Kind
-
--- an operation: its name, its parameters, and the ids of the exceptions that it raises
-pub record Operation : Type 0 where
-  pub name : List ℕ
-  pub oneway : Bool
-  pub result : Option Kind
-  pub params : List Parameter
-  pub raises : List (List ℕ)
 
 -- what a declaration stands for beside its scope
 pub data Thing : Type 0 where
@@ -36,7 +21,7 @@ pub data Thing : Type 0 where
   -- of the enum with this id, and its number
   enumerator : List ℕ → ℕ → Thing
   -- an operation, or those of an attribute, and their leaves
-  operations : List Operation → ℕ → Thing
+  operations : List OperationView → ℕ → Thing
 
 -- the scoped name that is read
 pub data Search : Type 0 where
@@ -65,7 +50,7 @@ pub record Parts : Type 0 where
   pub oneway : Bool
   pub way : Way
   pub result : Option Kind
-  pub params : List Parameter
+  pub params : List ParamView
   pub raises : List (List ℕ)
   pub leaves : ℕ
   pub levels : ℕ
@@ -95,7 +80,7 @@ no_place = record { line = 0; column = 0 }
 
 -- no declaration is read
 abbrev pub no_parts : Parts
-no_parts = record { bases = []; members = []; enumerators = []; discriminator = scalar (unsigned size1); cases = []; labels = []; is_default = false; readonly = false; oneway = false; way = input; result = None; params = []; raises = []; leaves = 0; levels = 0 }
+no_parts = record { bases = []; members = []; enumerators = []; discriminator = scalar (unsigned size1); cases = []; labels = []; is_default = false; readonly = false; oneway = false; way = Input; result = None; params = []; raises = []; leaves = 0; levels = 0 }
 
 -- nothing is read
 abbrev pub nothing_built : Built

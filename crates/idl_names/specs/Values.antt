@@ -4,6 +4,7 @@ use Rattle.grammar.specs.Language.{Placed}
 use Rattle.grammar.specs.Reading.{◌>>=◌}
 use Rattle.cdr_values.specs.Trees.{words, scalar}
 use Rattle.idl_tokens.specs.declared.kind.Kind.{Kind}
+use Rattle.idl_grammar.specs.declared.fault.IdlFault.{IdlFault}
 use Rattle.idl_grammar.specs.declared.fault.IdlCause.TheVariants as cause
 use Rattle.idl_scopes.specs.Table.{other}
 use Rattle.idl_constants.specs.ConstValues.{Value, number, character, text, label_of}
@@ -11,10 +12,11 @@ use Rattle.idl_tokens.specs.Quotes.{unquoted}
 use Rattle.idl_constants.specs.Literals.{integer_of}
 use Rattle.idl_constants.specs.Fitting.{Fit, fit, fit_number}
 use Rattle.idl_constants.specs.Standing.{may_be_constant}
+use Rattle.idl_constants.specs.declared.misfit.Misfit.{Misfit}
 use Rattle.idl_constants.specs.declared.misfit.Misfit.TheVariants.{WrongKind, OutOfRange}
 use Rattle.idl_names.specs.Sizes.{leaf, sequence_of}
-use Rattle.idl_names.specs.State.{constant, Built}
-use Rattle.idl_names.specs.Changes.{Done, place_of, refused, unless, newest, place_at, become, counted}
+use Rattle.idl_names.specs.State.{constant, Valued, Built}
+use Rattle.idl_names.specs.Changes.{Done, place_of, fault, unless, newest, place_at, become, counted}
 use Rattle.idl_names.specs.ScopedNames.{typed}
 
 -- a literal is the value, and begins it
@@ -37,31 +39,46 @@ character_of t = character (slice_index t.text 1)
 abbrev pub text_of : Placed Kind → Value
 text_of t = text (unquoted t.text)
 
--- the value fits: of another kind it is at fault where it begins, and out of range at its literal
+-- a value that doesn't fit: of another kind it is at fault where it begins, and out of range at its literal
+abbrev pub misfit_at : Misfit → Valued → IdlFault
+misfit_at WrongKind v = fault cause.WrongKind v.at
+misfit_at OutOfRange v = fault cause.OutOfRange v.literal
+
+-- the newest value fits, or is at fault
 abbrev pub fitting : Fit → Built → Done
 fitting (Ok x) s = Ok s
-fitting (Err WrongKind) s = refused cause.WrongKind s.value.at
-fitting (Err OutOfRange) s = refused cause.OutOfRange s.value.literal
+fitting (Err misfit) s = Err (misfit_at misfit s.value)
 
--- the value as a bound or a length
+-- a number that isn't negative
 abbrev pub natural : ℤ → ℕ
 natural z = elim z [ pos n ↦ n | negsuc n ↦ 0 ]
 
--- the newest value as a bound or a length
-abbrev pub size_of : Built → ℕ
-size_of s = natural (label_of s.value.value)
+-- a value that fits, as a bound or a length
+abbrev pub size_so : Fit → Valued → Result ℕ IdlFault
+size_so (Ok x) v = Ok (natural (label_of v.value))
+size_so (Err misfit) v = Err (misfit_at misfit v)
 
--- it is a number from 1 to 65,536
-abbrev pub measuring : Built → Done
-measuring s = fitting (fit_number (pos 1) (pos 65536) s.value.value) s
+-- a bound or a length is a number from 1 to 65,536
+abbrev pub size_in : Valued → Result ℕ IdlFault
+size_in v = size_so (fit_number (pos 1) (pos 65536) v.value) v
+
+-- this is the bound, or is at fault
+abbrev pub bound_so : Result ℕ IdlFault → Built → Done
+bound_so (Ok n) s = Ok (record s { bound = n })
+bound_so (Err f) s = Err f
 
 -- the newest value is a bound
 abbrev pub bound : Built → Done
-bound s = measuring s >>= (λ s. Ok (record s { bound = size_of s }))
+bound s = bound_so (size_in s.value) s
+
+-- this is one more length of an array, or is at fault
+abbrev pub length_so : Result ℕ IdlFault → Built → Done
+length_so (Ok n) s = Ok (record s { lengths = n ∷ s.lengths })
+length_so (Err f) s = Err f
 
 -- the newest value is one more length of an array
 abbrev pub array_length : Built → Done
-array_length s = measuring s >>= (λ s. Ok (record s { lengths = size_of s ∷ s.lengths }))
+array_length s = length_so (size_in s.value) s
 
 -- the bound is a string's, or a sequence's, which is 0 where it has none
 abbrev pub bounded_text : Built → Done
@@ -75,6 +92,10 @@ sequenced s = Ok (record s { type = sequence_of s.bound s.type; bound = 0 })
 abbrev pub const_type : Built → Done
 const_type s = unless (not (may_be_constant s.type.kind)) cause.WrongKind s.last s
 
+-- the newest name stands for a constant of the newest type and value
+abbrev pub constant_named : Built → Done
+constant_named s = Ok (become (newest s) other (constant s.type.kind s.value.value) s)
+
 -- the value fits the type, a constant is one leaf, and the newest name stands for it
 abbrev pub end_const : Built → Done
-end_const s = fitting (fit s.type.kind s.value.value) s >>= counted 1 (place_at s (newest s)) >>= (λ s. Ok (become (newest s) other (constant s.type.kind s.value.value) s))
+end_const s = fitting (fit s.type.kind s.value.value) s >>= counted 1 (place_at s (newest s)) >>= constant_named
