@@ -1,5 +1,5 @@
 -- Literals, bounds, lengths and constants: CORBA 3.0.3, chapter 3, constant declarations.
-use Rattle.std.specs.Prelude.{ℕ, ℤ, pos, negsuc, neg_ℤ, min, not, List, ◌∷◌, slice_index, Result, Ok, Err, ◌^◌}
+use Rattle.std.specs.Prelude.{ℕ, ℤ, pos, negsuc, neg_ℤ, min, not, List, [], ◌∷◌, ◌++◌, slice_index, Result, Ok, Err, ◌^◌}
 use Rattle.grammar.specs.Language.{Placed}
 use Rattle.grammar.specs.Reading.{◌>>=◌}
 use Rattle.cdr_values.specs.Trees.{words, scalar}
@@ -73,7 +73,7 @@ bound s = bound_so (size_in s.value) s
 
 -- this is one more length of an array, or is at fault
 abbrev pub length_so : Result ℕ IdlFault → Built → Done
-length_so (Ok n) s = Ok (record s { lengths = n ∷ s.lengths })
+length_so (Ok n) s = Ok (record s { lengths = s.lengths ++ n ∷ [] })
 length_so (Err f) s = Err f
 
 -- the newest value is one more length of an array
