@@ -1,5 +1,5 @@
 -- Declarators, and types with a body: CORBA 3.0.3, chapter 3, type declarations and exceptions.
-use Rattle.std.specs.Prelude.{ℕ, ℤ, ◌||◌, nat_lt, max, reverse, Bool, true, false, not, List, [], ◌∷◌, ◌++◌, length, Ok, Err}
+use Rattle.std.specs.Prelude.{ℕ, ℤ, ◌||◌, nat_lt, max, reverse, Bool, true, false, not, List, [], ◌∷◌, ◌++◌, length, Ok}
 use Rattle.std.specs.List.{list_any}
 use Rattle.grammar.specs.Language.{Placed}
 use Rattle.grammar.specs.Reading.{◌>>=◌}

@@ -1,5 +1,5 @@
 -- Interfaces, operations and attributes: CORBA 3.0.3, chapter 3, interface declarations.
-use Rattle.std.specs.Prelude.{ℕ, ◌-◌, ◌&&◌, Bool, true, false, not, List, [], ◌∷◌, ◌++◌, set, slice_get, codes, Option, Some, None, Ok, Err}
+use Rattle.std.specs.Prelude.{ℕ, ◌-◌, ◌&&◌, Bool, true, false, not, List, [], ◌∷◌, ◌++◌, set, slice_get, codes, Some, None, Ok}
 use Rattle.grammar.specs.Language.{Placed}
 use Rattle.grammar.specs.Reading.{◌>>=◌}
 use Rattle.cdr_values.specs.Trees as trees

@@ -1,5 +1,5 @@
 -- What is known in the middle of a text: own profile.
-use Rattle.std.specs.Prelude.{ℕ, ℤ, pos, List, [], Bool, true, false, Option, None}
+use Rattle.std.specs.Prelude.{ℕ, ℤ, pos, List, [], Bool, false, Option, None}
 use Rattle.cdr_values.specs.Trees.{size1, unsigned, Kind, scalar, Branch}
 use Rattle.idl_scopes.specs.declared.place.Place.{Place}
 use Rattle.idl_scopes.specs.Table.{Table, no_names}
