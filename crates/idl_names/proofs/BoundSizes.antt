@@ -1,5 +1,5 @@
 -- Values as bounds and lengths.
-use Rattle.std.proofs.Common.{◌≡◌, ◌≤◌, ℕ, ℤ, pos, Result, Ok, Err, refl, ap, ◌∙◌}
+use Rattle.std.proofs.Common.{◌≡◌, ◌≤◌, ℕ, pos, Result, Ok, Err, refl, ap, ◌∙◌}
 use Rattle.std.proofs.lemmas.Bool.{le-leb}
 use Rattle.idl_grammar.specs.declared.fault.IdlFault.{IdlFault}
 use Rattle.idl_constants.specs.declared.misfit.Misfit.{Misfit}

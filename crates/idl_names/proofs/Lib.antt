@@ -3,3 +3,4 @@ pub mod BoundSizes
 pub mod ChangedThings
 pub mod Examples
 pub mod MoreExamples
+pub mod WholeNames

@@ -1,10 +1,10 @@
 -- Declarators, and types with a body: CORBA 3.0.3, chapter 3, type declarations and exceptions.
-use Rattle.std.specs.Prelude.{ℕ, ℤ, ◌||◌, nat_lt, max, Bool, true, false, not, List, [], ◌∷◌, ◌++◌, length, Ok, Err}
+use Rattle.std.specs.Prelude.{ℕ, ℤ, ◌||◌, nat_lt, max, reverse, Bool, true, false, not, List, [], ◌∷◌, ◌++◌, length, Ok}
 use Rattle.std.specs.List.{list_any}
 use Rattle.grammar.specs.Language.{Placed}
 use Rattle.grammar.specs.Reading.{◌>>=◌}
 use Rattle.cdr_values.specs.Trees.{scalar, structure, union, enumeration, members_of, cases_of}
-use Rattle.cdr_values.specs.Choice.{has_label}
+use Rattle.std.specs.Ordering.{int_eq}
 use Rattle.idl_tokens.specs.declared.kind.Kind.{Kind}
 use Rattle.idl_grammar.specs.declared.fault.IdlCause.TheVariants as cause
 use Rattle.idl_scopes.specs.Table.{other}
@@ -18,9 +18,13 @@ use Rattle.idl_names.specs.State.{Thing, nothing, type, exception, enumerator, P
 use Rattle.idl_names.specs.Changes.{Done, place_of, unless, newest, opened, place_at, name_at, declare_in, become, ends, counted, measured}
 use Rattle.idl_names.specs.Values.{fitting}
 
+-- the lengths of the newest array, the innermost first
+abbrev pub inner_lengths : Built → List ℕ
+inner_lengths s = reverse s.lengths
+
 -- a declarator: the newest name, of the newest type with these lengths
 abbrev pub declared_type : Built → Sized
-declared_type s = arrays_of s.lengths s.type
+declared_type s = arrays_of (inner_lengths s) s.type
 
 -- the newest name stands for this, and is finished; the lengths are used up
 abbrev pub named : Thing → Built → Built
@@ -111,21 +115,21 @@ switch s = unless (not (may_switch s.type.kind)) cause.WrongKind s.last s >>= (�
 
 -- the union has this label already
 abbrev pub is_twice : ℤ → Parts → Bool
-is_twice z p = has_label z p.labels || list_any (λ c. has_label z c.0) p.cases
+is_twice z p = list_any (int_eq z) p.taken
 
 -- one more label of the case that is read
 abbrev pub with_label : ℤ → Parts → Parts
-with_label z p = record p { labels = p.labels ++ z ∷ [] }
+with_label z p = record p { taken = p.taken ++ z ∷ []; labels = p.labels ++ z ∷ [] }
 
--- the newest value is one more label
+-- the newest value is one more label, if it is the first of its number
 abbrev pub labelled : Built → Done
-labelled s = Ok (record s { parts = with_label (label_of s.value.value) s.parts })
+labelled s =
+    unless (is_twice (label_of s.value.value) s.parts) cause.TwiceCase s.value.at s
+    >>= (λ s. Ok (record s { parts = with_label (label_of s.value.value) s.parts }))
 
 -- the newest value is a label: it fits the discriminator, and is the first of its number
 abbrev pub case_label : Built → Done
-case_label s =
-    fitting (fit s.parts.discriminator s.value.value) s >>= unless (is_twice (label_of s.value.value) s.parts) cause.TwiceCase s.value.at
-    >>= labelled
+case_label s = fitting (fit s.parts.discriminator s.value.value) s >>= labelled
 
 -- the union has a default label already
 abbrev pub has_default : Parts → Bool

@@ -1,5 +1,5 @@
 -- Interfaces, operations and attributes: CORBA 3.0.3, chapter 3, interface declarations.
-use Rattle.std.specs.Prelude.{ℕ, ◌-◌, ◌&&◌, Bool, true, false, not, List, [], ◌∷◌, ◌++◌, set, slice_get, codes, Option, Some, None, Ok, Err}
+use Rattle.std.specs.Prelude.{ℕ, ◌-◌, ◌&&◌, Bool, true, false, not, List, [], ◌∷◌, ◌++◌, set, slice_get, codes, Some, None, Ok}
 use Rattle.grammar.specs.Language.{Placed}
 use Rattle.grammar.specs.Reading.{◌>>=◌}
 use Rattle.cdr_values.specs.Trees as trees
@@ -8,33 +8,34 @@ use Rattle.idl_grammar.specs.declared.fault.IdlCause.TheVariants as cause
 use Rattle.idl_scopes.specs.Table as table
 use Rattle.idl_scopes.specs.Finding.{outer, scopes_of}
 use Rattle.idl_scopes.specs.Taking.{is_taken_part}
-use Rattle.idl_scopes.specs.Bases.{bases_clash, joined_to, scopes_from}
+use Rattle.idl_scopes.specs.Bases.{bases_clash}
 use Rattle.idl_scopes.specs.Ids.{id_of}
 use Rattle.idl_types.specs.declared.way.Way.{Way}
 use Rattle.idl_types.specs.declared.way.Way.TheVariants.{Input, Output, Both}
 use Rattle.idl_types.specs.Things.{OperationView}
 use Rattle.idl_names.specs.Sizes.{Sized, plus, times}
+use Rattle.idl_names.specs.Each.{and_each}
 use Rattle.idl_names.specs.State.{Thing, nothing, interface, exception, operations, Parts, no_parts, Built}
 use Rattle.idl_names.specs.Changes.{Done, place_of, unless, newest, opened, thing_in, thing_at, place_at, name_at, with_name, declare_in, enter, become, ends, counted}
 use Rattle.idl_names.specs.ScopedNames.{meant, renewed}
 use Rattle.idl_names.specs.Bodies.{with_part}
-
--- the scopes that the bases so far give
-abbrev pub base_scopes : Built → List ℕ
-base_scopes s = scopes_from s.scopes [] s.parts.bases
 
 -- a thing is an interface
 abbrev pub is_interface : Thing → Bool
 is_interface (interface bases os) = true
 is_interface thing = false
 
+-- one more base, which gives these scopes
+abbrev pub and_base : ℕ → List ℕ → Parts → Parts
+and_base base scopes p = record p { bases = p.bases ++ base ∷ []; given = and_each p.given scopes }
+
 -- the name is one more base
 abbrev pub with_base : Built → Done
-with_base s = Ok (renewed (record s { parts = record s.parts { bases = s.parts.bases ++ meant s ∷ [] } }))
+with_base s = Ok (renewed (record s { parts = and_base (meant s) (scopes_of s.scopes (meant s)) s.parts }))
 
 -- the name gives another thing of a name than the bases before it
 abbrev pub base_clashes : Built → Bool
-base_clashes s = bases_clash s.scopes (base_scopes s) (scopes_of s.scopes (meant s))
+base_clashes s = bases_clash s.scopes s.parts.given (scopes_of s.scopes (meant s))
 
 -- the name is a base: an interface, unless it clashes so
 abbrev pub base_named : Thing → Built → Done
@@ -48,7 +49,7 @@ operations_in thing = []
 -- those that so many bases add to others
 abbrev pub operations_from : List Thing → List ℕ → List ℕ → List ℕ
 operations_from things so_far [] = so_far
-operations_from things so_far (base ∷ bases) = operations_from things (joined_to so_far (operations_in (thing_in (slice_get things base)))) bases
+operations_from things so_far (base ∷ bases) = operations_from things (and_each so_far (operations_in (thing_in (slice_get things base)))) bases
 
 -- those of all bases so far
 abbrev pub inherited : Built → List ℕ
@@ -59,18 +60,18 @@ abbrev pub operation_leaves : Thing → ℕ
 operation_leaves (operations os n) = n
 operation_leaves thing = 0
 
--- those of several, counted no further than the most that a file may have
-abbrev pub leaves_in : List Thing → List ℕ → ℕ
-leaves_in things [] = 0
-leaves_in things (i ∷ is) = plus (operation_leaves (thing_in (slice_get things i))) (leaves_in things is)
+-- those of several, and so many before them, counted no further than the most that a file may have
+abbrev pub leaves_from : List Thing → ℕ → List ℕ → ℕ
+leaves_from things total [] = total
+leaves_from things total (i ∷ is) = leaves_from things (plus total (operation_leaves (thing_in (slice_get things i)))) is
 
 -- they are counted with the file's leaves
 abbrev pub inherit : Built → Done
-inherit s = counted (leaves_in s.things (inherited s)) (place_at s (newest s)) s
+inherit s = counted (leaves_from s.things 0 (inherited s)) (place_at s (newest s)) s
 
 -- the interface is known with its bases, and its body opens
 abbrev pub open_interface : Built → Done
-open_interface s = enter (record (become (newest s) (table.interface (base_scopes s)) (interface s.parts.bases (inherited s)) s) { parts = no_parts })
+open_interface s = enter (record (become (newest s) (table.interface s.parts.given) (interface s.parts.bases (inherited s)) s) { parts = no_parts })
 
 -- the interface whose scope this is has this operation too
 abbrev pub and_operation : ℕ → Thing → Thing

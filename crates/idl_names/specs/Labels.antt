@@ -1,5 +1,5 @@
 -- What is done at each token of IDL, and without one.
-use Rattle.std.specs.Prelude.{pos, neg_ℤ, true, false, Ok, Err}
+use Rattle.std.specs.Prelude.{pos, neg_ℤ, true, false, Ok}
 use Rattle.grammar.specs.Language.{Placed}
 use Rattle.cdr_values.specs.Trees.{words}
 use Rattle.idl_tokens.specs.declared.kind.Kind.{Kind}

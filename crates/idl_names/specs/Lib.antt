@@ -1,5 +1,6 @@
 pub mod Sizes
 pub mod State
+pub mod Each
 pub mod Changes
 pub mod ScopedNames
 pub mod Values
@@ -7,5 +8,6 @@ pub mod Bodies
 pub mod Interfaces
 pub mod Labels
 pub mod Declaring
+pub mod Whole
 pub mod Memory
 pub mod Views

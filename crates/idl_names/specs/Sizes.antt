@@ -39,6 +39,16 @@ abbrev pub arrays_of : List ℕ → Sized → Sized
 arrays_of [] k = k
 arrays_of (n ∷ ns) k = arrays_of ns (array_of n k)
 
+-- the leaves of such an array, whose element has so many
+abbrev pub array_leaves : List ℕ → ℕ → ℕ
+array_leaves [] leaves = leaves
+array_leaves (n ∷ ns) leaves = array_leaves ns (times leaves n)
+
+-- and its levels
+abbrev pub array_levels : List ℕ → ℕ → ℕ
+array_levels [] levels = levels
+array_levels (n ∷ ns) levels = array_levels ns (plus levels 1)
+
 -- a type has at most 65,536 leaves and 64 levels
 abbrev pub is_large : Sized → Bool
 is_large k = nat_lt 65536 k.leaves || nat_lt 64 k.levels

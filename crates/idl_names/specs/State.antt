@@ -1,5 +1,5 @@
 -- What is known in the middle of a text: own profile.
-use Rattle.std.specs.Prelude.{ℕ, ℤ, pos, List, [], Bool, true, false, Option, None}
+use Rattle.std.specs.Prelude.{ℕ, ℤ, pos, List, [], Bool, false, Option, None}
 use Rattle.cdr_values.specs.Trees.{size1, unsigned, Kind, scalar, Branch}
 use Rattle.idl_scopes.specs.declared.place.Place.{Place}
 use Rattle.idl_scopes.specs.Table.{Table, no_names}
@@ -39,11 +39,15 @@ pub record Valued : Type 0 where
 -- the parts so far of the declaration that is read; they are empty outside of a declaration
 pub record Parts : Type 0 where
   pub bases : List ℕ
+  -- the scopes that they give
+  pub given : List ℕ
   pub members : List (List ℕ × Kind)
   pub enumerators : List (List ℕ)
   pub discriminator : Kind
   pub cases : List Branch
-  -- of the case that is read
+  -- all labels of the union so far
+  pub taken : List ℤ
+  -- those of the case that is read
   pub labels : List ℤ
   pub is_default : Bool
   pub readonly : Bool
@@ -67,7 +71,7 @@ pub record Built : Type 0 where
   pub search : Search
   -- of the last part of a scoped name
   pub last : Place
-  -- the newest type, bound and value, and the lengths of an array, the newest first
+  -- the newest type, bound and value, and the lengths of an array, the outermost first
   pub type : Sized
   pub bound : ℕ
   pub value : Valued
@@ -80,7 +84,7 @@ no_place = record { line = 0; column = 0 }
 
 -- no declaration is read
 abbrev pub no_parts : Parts
-no_parts = record { bases = []; members = []; enumerators = []; discriminator = scalar (unsigned size1); cases = []; labels = []; is_default = false; readonly = false; oneway = false; way = Input; result = None; params = []; raises = []; leaves = 0; levels = 0 }
+no_parts = record { bases = []; given = []; members = []; enumerators = []; discriminator = scalar (unsigned size1); cases = []; taken = []; labels = []; is_default = false; readonly = false; oneway = false; way = Input; result = None; params = []; raises = []; leaves = 0; levels = 0 }
 
 -- nothing is read
 abbrev pub nothing_built : Built

@@ -1,8 +1,8 @@
 -- Literals, bounds, lengths and constants: CORBA 3.0.3, chapter 3, constant declarations.
-use Rattle.std.specs.Prelude.{ℕ, ℤ, pos, negsuc, neg_ℤ, min, not, List, ◌∷◌, slice_index, Result, Ok, Err, ◌^◌}
+use Rattle.std.specs.Prelude.{ℕ, ℤ, pos, negsuc, min, not, [], ◌∷◌, ◌++◌, slice_index, Result, Ok, Err, ◌^◌}
 use Rattle.grammar.specs.Language.{Placed}
 use Rattle.grammar.specs.Reading.{◌>>=◌}
-use Rattle.cdr_values.specs.Trees.{words, scalar}
+use Rattle.cdr_values.specs.Trees.{words}
 use Rattle.idl_tokens.specs.declared.kind.Kind.{Kind}
 use Rattle.idl_grammar.specs.declared.fault.IdlFault.{IdlFault}
 use Rattle.idl_grammar.specs.declared.fault.IdlCause.TheVariants as cause
@@ -17,7 +17,6 @@ use Rattle.idl_constants.specs.declared.misfit.Misfit.TheVariants.{WrongKind, Ou
 use Rattle.idl_names.specs.Sizes.{leaf, sequence_of}
 use Rattle.idl_names.specs.State.{constant, Valued, Built}
 use Rattle.idl_names.specs.Changes.{Done, place_of, fault, unless, newest, place_at, become, counted}
-use Rattle.idl_names.specs.ScopedNames.{typed}
 
 -- a literal is the value, and begins it
 abbrev pub literal : Value → Placed Kind → Built → Done
@@ -73,7 +72,7 @@ bound s = bound_so (size_in s.value) s
 
 -- this is one more length of an array, or is at fault
 abbrev pub length_so : Result ℕ IdlFault → Built → Done
-length_so (Ok n) s = Ok (record s { lengths = n ∷ s.lengths })
+length_so (Ok n) s = Ok (record s { lengths = s.lengths ++ n ∷ [] })
 length_so (Err f) s = Err f
 
 -- the newest value is one more length of an array

@@ -1,16 +1,18 @@
 //! Operations, and those that attributes are.
-ghost use Rattle.std.specs.Prelude.{◌≡◌, ◌++◌, IfOk, OnOk, filter, not, true, false};
+ghost use Rattle.std.specs.Prelude.{◌≡◌, ◌++◌, IfOk, OnOk, true, false};
 ghost use Rattle.cdr_values.specs.Kinds.{kind_of};
-ghost use Rattle.idl_scopes.specs.Bases as bases;
+ghost use Rattle.idl_names.specs.Each as each;
 ghost use Rattle.idl_names.specs.Interfaces as Spec;
 ghost use Rattle.idl_names.specs.Views.{parts_of, sized_of, thing_of};
 ghost use Rattle.idl_types.specs.Views.{operation_of};
 
+use crate::each::add_places;
 use crate::sizes::{SizedType, plus, times};
 use crate::state::{Parts, Thing};
 use crate::texts::{text_from, text_of};
 use cdr_values::{IdlType, copy_type};
 use idl_types::{Operation, Param, Way};
+use indexmap::IndexSet;
 use orb_base::{List, NoMemory, Text};
 use std::alloc::Global;
 
@@ -44,54 +46,14 @@ pub(crate) fn operation_leaves(thing: &Thing) -> u32
     }
 }
 
-/// The places of the operations that a base gives.
-pub(crate) fn operations_in(alloc: Global, thing: &Thing) -> Result<Vec<u32>, NoMemory>
-    ensures { IfOk result (λ v. v.items ≡ Spec.operations_in (thing_of thing.now)) }
+/// The operations that a base gives, behind others.
+pub(crate) fn add_operations(found: &mut IndexSet<u32>, thing: &Thing) -> Result<(), NoMemory>
+    ensures { OnOk result (found.new.keys ≡ each.and_each found.old.keys (Spec.operations_in (thing_of thing.now))) }
 {
     match thing {
-        Thing::Interface(_, operations) => copied(alloc, operations),
-        _ => Ok(Vec::new(alloc)),
+        Thing::Interface(_, operations) => add_places(found, operations),
+        _ => Ok(()),
     }
-}
-
-/// Copies of places.
-fn copied(alloc: Global, places: &[u32]) -> Result<Vec<u32>, NoMemory>
-    ensures { IfOk result (λ v. v.items ≡ places.now) }
-{
-    Ok(Vec::from_slice(alloc, places)?)
-}
-
-/// Whether a place is among these.
-fn holds(places: &[u32], place: u32) -> bool
-    ensures { result ≡ bases.holds places.now place }
-{
-    places.iter().any(|p| *p == place)
-}
-
-/// The places of a second list that aren't in the first.
-fn further(alloc: Global, first: &[u32], second: &[u32]) -> Result<Vec<u32>, NoMemory>
-    ensures { IfOk result (λ v. v.items ≡ filter (λ s. not (bases.holds first.now s)) second.now) }
-{
-    Ok(
-        second
-            .iter()
-            .copied()
-            .filter(|p| !holds(first, *p))
-            .collect(alloc)?,
-    )
-}
-
-/// The places with those of a second list that aren't among them.
-pub(crate) fn joined(
-    alloc: Global,
-    mut first: Vec<u32>,
-    second: &[u32],
-) -> Result<Vec<u32>, NoMemory>
-    ensures { IfOk result (λ v. v.items ≡ bases.joined_to first.items second.now) }
-{
-    let more = further(alloc, &first, second)?;
-    first.extend_from_slice(&more)?;
-    Ok(first)
 }
 
 /// An interface has one operation more.

@@ -85,6 +85,38 @@ pub fn arrays_of(alloc: Global, lengths: &[u32], kind: SizedType) -> Result<Size
     Ok(array)
 }
 
+/// The leaves of an array of several lengths, the innermost first, whose element has so many.
+fn array_leaves(lengths: &[u32], leaves: u32) -> u32
+    ensures { result ≡ Spec.array_leaves lengths.now leaves }
+{
+    let mut total = leaves;
+    for len in lengths {
+        total = times(total, *len);
+    }
+    total
+}
+
+/// Its levels.
+fn array_levels(lengths: &[u32], levels: u32) -> u32
+    ensures { result ≡ Spec.array_levels lengths.now levels }
+{
+    let mut total = levels;
+    for _len in lengths {
+        total = plus(total, 1);
+    }
+    total
+}
+
+/// Whether an array of several lengths, the innermost first, has more than 65,536 leaves or more than 64 levels. The array
+/// isn't built for it.
+#[tactic(auto, using(crate::proofs::Arrays::large_array))]
+pub fn is_large_array(lengths: &[u32], element: &SizedType) -> bool
+    ensures { result ≡ Spec.is_large (Spec.arrays_of lengths.now (sized_of element.now)) }
+{
+    MAX_LEAVES < array_leaves(lengths, element.leaves)
+        || MAX_LEVELS < array_levels(lengths, element.levels)
+}
+
 /// A copy.
 pub fn copy_sized(alloc: Global, kind: &SizedType) -> Result<SizedType, NoMemory>
     ensures { IfOk result (λ k. sized_of k ≡ sized_of kind.now) }

@@ -8,6 +8,7 @@ use cdr_values::{Case, IdlType, Member};
 use idl_constants::ConstValue;
 use idl_scopes::{Place, Scopes};
 use idl_types::{Operation, Param, Way};
+use indexmap::IndexSet;
 use orb_base::{List, Text};
 use std::alloc::Global;
 
@@ -48,11 +49,15 @@ pub(crate) struct Valued {
 #[derive(Drop)]
 pub(crate) struct Parts {
     pub bases: Vec<u32>,
+    /// The scopes that they give.
+    pub given: IndexSet<usize>,
     pub members: Vec<Member>,
     pub enumerators: Vec<Text>,
     pub discriminator: IdlType,
     pub cases: Vec<Case>,
-    /// Of the case that is read.
+    /// All labels of the union so far.
+    pub taken: IndexSet<i128>,
+    /// Those of the case that is read.
     pub labels: Vec<i128>,
     pub is_default: bool,
     pub readonly: bool,
@@ -78,7 +83,7 @@ pub struct Names {
     pub(crate) newest: SizedType,
     pub(crate) bound: u32,
     pub(crate) value: Valued,
-    /// Of an array, the newest first.
+    /// Of an array, the outermost first.
     pub(crate) lengths: Vec<u32>,
     pub(crate) parts: Parts,
 }
@@ -90,10 +95,12 @@ impl Parts {
     {
         Parts {
             bases: Vec::new(alloc),
+            given: IndexSet::new(alloc),
             members: Vec::new(alloc),
             enumerators: Vec::new(alloc),
             discriminator: IdlType::Octet,
             cases: Vec::new(alloc),
+            taken: IndexSet::new(alloc),
             labels: Vec::new(alloc),
             is_default: false,
             readonly: false,

@@ -107,6 +107,17 @@ impl Names {
         Ok(())
     }
 
+    /// The newest value is one more length of an array.
+    pub(crate) fn array_length(&mut self) -> Done
+        ensures { Acts result (built_of self.new) (Spec.array_length (built_of self.old)) }
+    {
+        let size = size_in(&self.value)?;
+        match self.lengths.push(size) {
+            Ok(()) => Ok(()),
+            Err(_) => Err(ReadError::NoMemory),
+        }
+    }
+
     /// The bound is a string's.
     pub(crate) fn bounded_text(&mut self) -> Done
         ensures { Acts result (built_of self.new) (Spec.bounded_text (built_of self.old)) }
