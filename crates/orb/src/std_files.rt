@@ -1,5 +1,5 @@
 //! A store of files over the file system.
-ghost use Rattle.std.specs.Prelude.{◌≡◌, ◌≤◌, None, length};
+ghost use Rattle.std.specs.Prelude.{◌≡◌, ◌≤◌, None, [], length};
 ghost use Rattle.orb.specs.Filling.{Fills};
 
 use crate::std_source::StdSource;
