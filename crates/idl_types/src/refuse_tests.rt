@@ -217,37 +217,3 @@ fn refuses_results_and_parameters_that_are_too_deep(rt: HostRuntime) -> Result<(
     assert!(rt; !takes_param(alloc, 65)?);
     Ok(())
 }
-
-fn with_octets(
-    alloc: Global,
-    all: Repository,
-    id: &[u8],
-    len: u32,
-) -> Result<Repository, NoMemory> {
-    let kind = array(alloc, IdlType::Octet, len)?;
-    with(all, named(alloc, id, kind)?)
-}
-
-/// Fifteen types of as many leaves as each may have.
-fn full(alloc: Global) -> Result<Repository, NoMemory> {
-    let mut all = Repository::new(alloc);
-    for letter in b"ABCDEFGHIJKLMNO" {
-        all = with_octets(alloc, all, &[*letter], MOST)?;
-    }
-    Ok(all)
-}
-
-#[test]
-fn takes_as_many_leaves_as_a_file_may_have(rt: HostRuntime) -> Result<(), Fail> {
-    let alloc = rt.alloc();
-    let more = named(alloc, b"Q", IdlType::Octet)?;
-    let all = with_octets(alloc, full(alloc)?, b"P", MOST - 1)?;
-    assert_eq!(rt; all.len(), 16);
-    assert!(rt; all.accepts(&more)?);
-    let all = with(all, more)?;
-    assert_eq!(rt; all.len(), 17);
-    assert!(rt; !all.accepts(&named(alloc, b"R", IdlType::Octet)?)?);
-    // The built-in module's leaves don't count for the file.
-    assert_eq!(rt; all.with_ping()?.len(), 18);
-    Ok(())
-}
