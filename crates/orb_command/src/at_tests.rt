@@ -1,7 +1,7 @@
 //! `orb refs --at` over memory: each status with its note, and what is written then.
 
 use super::*;
-use crate::tests::told;
+use crate::tests::{is_told, told};
 use adapter_policies::ConfigCause;
 use orb_base::{List, MemFile, MemFiles, MemSink, Octets, SteadySource, Text};
 use std::alloc::Global;
@@ -62,71 +62,66 @@ fn ran(
     Ok((answered, Vec::from_slice(alloc, out.held())?))
 }
 
+/// What a run is to answer and to write.
+#[derive(Clone, Copy)]
+struct Want<'a> {
+    status: u8,
+    note: &'a str,
+    written: &'a [u8],
+}
+
+/// Whether a run answers and writes so.
+fn is_so(
+    alloc: Global,
+    config: Option<&str>,
+    bytes: &[u8],
+    failed_reads: &[u64],
+    failed_writes: &[u64],
+    want: &Want<'_>,
+) -> Result<bool, Fail> {
+    let bytes = list(alloc, bytes)?;
+    let (answered, text) = ran(alloc, config, bytes, failed_reads, failed_writes)?;
+    Ok(
+        is_told(alloc, &answered, want.note)?
+            && answered.status == want.status
+            && text.as_slice() == want.written,
+    )
+}
+
 #[test]
 fn references_at_an_address_have_their_status(rt: HostRuntime) -> Result<(), Fail> {
     let alloc = rt.alloc();
-    for (config, bytes, failed_reads, failed_writes, status, note, written) in [
-        (
-            None,
-            OBJECT,
-            [0].as_slice(),
-            [].as_slice(),
-            0,
-            "Nothing",
-            PING,
-        ),
-        (
-            Some("c"),
-            OBJECT,
-            [].as_slice(),
-            [].as_slice(),
-            0,
-            "Nothing",
-            PING,
-        ),
-        (
-            Some("c"),
-            OBJECT,
-            [0].as_slice(),
-            [].as_slice(),
-            3,
-            "ReadFault",
-            b"".as_slice(),
-        ),
-        (
-            Some("c"),
-            OBJECT,
-            [].as_slice(),
-            [1].as_slice(),
-            4,
-            "WriteFault",
-            b"ping IOR:".as_slice(),
-        ),
-        (
-            Some("d"),
-            OBJECT,
-            [].as_slice(),
-            [].as_slice(),
-            10,
-            "Absent(Config)",
-            b"".as_slice(),
-        ),
-        (
-            Some("c"),
-            FILED,
-            [].as_slice(),
-            [].as_slice(),
-            14,
-            "NotBuilt",
-            b"".as_slice(),
-        ),
-    ] {
-        let bytes = list(alloc, bytes)?;
-        let (answered, text) = ran(alloc, config, bytes, failed_reads, failed_writes)?;
-        assert_eq!(rt; answered.status, status, "{note}");
-        assert_eq!(rt; told(alloc, &answered)?.as_str(), note);
-        assert_eq!(rt; text.as_slice(), written, "{note}");
-    }
+    let done = Want {
+        status: 0,
+        note: "Nothing",
+        written: PING,
+    };
+    let unread = Want {
+        status: 3,
+        note: "ReadFault",
+        written: b"",
+    };
+    let unwritten = Want {
+        status: 4,
+        note: "WriteFault",
+        written: b"ping IOR:",
+    };
+    let absent = Want {
+        status: 10,
+        note: "Absent(Config)",
+        written: b"",
+    };
+    let unbuilt = Want {
+        status: 14,
+        note: "NotBuilt",
+        written: b"",
+    };
+    assert!(rt; is_so(alloc, None, OBJECT, &[0], &[], &done)?);
+    assert!(rt; is_so(alloc, Some("c"), OBJECT, &[], &[], &done)?);
+    assert!(rt; is_so(alloc, Some("c"), OBJECT, &[0], &[], &unread)?);
+    assert!(rt; is_so(alloc, Some("c"), OBJECT, &[], &[1], &unwritten)?);
+    assert!(rt; is_so(alloc, Some("d"), OBJECT, &[], &[], &absent)?);
+    assert!(rt; is_so(alloc, Some("c"), FILED, &[], &[], &unbuilt)?);
     Ok(())
 }
 

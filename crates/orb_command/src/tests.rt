@@ -119,6 +119,12 @@ pub fn told(alloc: Global, answered: &Answered) -> Result<String, Fail> {
     Ok(format!(in alloc; "{note:?}")?)
 }
 
+/// Whether this is the note that was answered.
+pub fn is_told(alloc: Global, answered: &Answered, note: &str) -> Result<bool, Fail> {
+    let told = told(alloc, answered)?;
+    Ok(told.as_str() == note)
+}
+
 /// What a run answers and writes.
 fn ran(alloc: Global, row: &Row) -> Result<(Answered, Vec<u8>), Fail> {
     let words = strings(alloc, row.words)?;
@@ -443,12 +449,7 @@ fn the_pipe_answers_each_ping(rt: HostRuntime) -> Result<(), Fail> {
     ] {
         let (answered, output) = ran(rt.alloc(), &row)?;
         assert_eq!(rt; answered.status, row.status, "{}", row.name);
-        assert_eq!(rt;
-            told(rt.alloc(), &answered)?.as_str(),
-            row.note,
-            "{}",
-            row.name
-        );
+        assert!(rt; is_told(rt.alloc(), &answered, row.note)?, "{}", row.name);
         assert_eq!(rt; output.as_slice(), row.output, "{}", row.name);
     }
     Ok(())
