@@ -143,6 +143,16 @@ fn ran(alloc: Global, row: &Row) -> Result<(Answered, Vec<u8>), Fail> {
     Ok((answered, Vec::from_slice(alloc, out.held())?))
 }
 
+/// Whether a run answers and writes what its row wants.
+fn is_row(alloc: Global, row: &Row) -> Result<bool, Fail> {
+    let (answered, output) = ran(alloc, row)?;
+    Ok(
+        is_told(alloc, &answered, row.note)?
+            && answered.status == row.status
+            && output.as_slice() == row.output,
+    )
+}
+
 #[test]
 fn the_pipe_answers_each_ping(rt: HostRuntime) -> Result<(), Fail> {
     for row in [
@@ -447,10 +457,8 @@ fn the_pipe_answers_each_ping(rt: HostRuntime) -> Result<(), Fail> {
             output: b"GIOP",
         },
     ] {
-        let (answered, output) = ran(rt.alloc(), &row)?;
-        assert_eq!(rt; answered.status, row.status, "{}", row.name);
-        assert!(rt; is_told(rt.alloc(), &answered, row.note)?, "{}", row.name);
-        assert_eq!(rt; output.as_slice(), row.output, "{}", row.name);
+        let is_so = is_row(rt.alloc(), &row)?;
+        assert!(rt; is_so, "{}", row.name);
     }
     Ok(())
 }
