@@ -15,7 +15,7 @@ use Rattle.cdr_core.specs.Field.{Field, string_fields}
 use Rattle.cdr_core.specs.Field as core
 use Rattle.cdr_core.specs.Passing.{Spans}
 use Rattle.cdr_core.proofs.CallerLemmas.{spans_split, same_cursor, number_reads, bool_reads, count_reads, string_reads}
-use Rattle.cdr_values.specs.Trees.{Size, size1, size2, size4, size8, wide, Scalar, boolean, char, unsigned, signed, enumeration, Kind, scalar, words, sequence, array, structure, union, Members, no_members, member, Cases, no_cases, case, Value, truth, number, letter, text, items, chosen, label, Values, no_values, value, values_of, values_len}
+use Rattle.cdr_values.specs.Trees.{Size, size1, size2, size4, size8, wide, Scalar, boolean, char, unsigned, signed, enumeration, Kind, scalar, words, sequence, array, structure, union, Members, no_members, member, Cases, no_cases, case, Value, truth, number, letter, text, items, chosen, label, Values, no_values, value, values_of, list_of, values_len}
 use Rattle.cdr_values.specs.Choice.{choose, nth_kind, kind_at}
 use Rattle.cdr_values.specs.Lawful.{differ, member_names, all_labels, has_one_default, is_tag, has_member, is_lawful, are_lawful, cases_are_lawful, is_lawful_struct, is_lawful_union}
 use Rattle.cdr_values.specs.Numerals.{numeral, plain_field}
@@ -203,13 +203,7 @@ bounded_reads bound n c d h room p =
 
 -- ---- one after the other
 
--- the values as a list
-pub list_of : Values → List Value
-list_of no_values = []
-list_of (value v vs) = v ∷ list_of vs
-
 pub values_back : (vs : Values) → values_of (list_of vs) ≡ vs
-unfolding list_of
 values_back no_values = refl
 values_back (value v vs) = ap (value v) (values_back vs)
 
@@ -223,7 +217,7 @@ no_fields fs c d e p = same_cursor c d (subst (λ (gs : List Field). Spans c d g
 
 pub each_reads : (one : Cursor → Reads Value) (k : Kind) → Again one k → (vs : Values) (fs : List Field) (c d : Cursor) → fields_each vs k ≡ Some fs → Spans c d fs
     → times one (values_len vs) c ≡ Ok (list_of vs, d)
-unfolding times list_of
+unfolding times
 each_reads one k again no_values fs c d e p = ap (λ (x : Cursor). Ok ([], x)) (no_fields fs c d e p)
 each_reads one k again (value v vs) fs c d e p =
     let h = halves (fields_of v k) (fields_each vs k) fs e in
@@ -255,7 +249,7 @@ choice_lawful d cs l =
     g.1
 
 mutual
-  unfolding read read_members read_chosen list_of
+  unfolding read read_members read_chosen
 
   pub read_again : (k : Kind) → IsTrue (is_lawful k) → Again (read k) k
   read_again (scalar s) l v fs c d e p = plain_reads s v fs c d e p

@@ -1,9 +1,8 @@
 //! Addresses on a command line.
 ghost use Rattle.std.specs.Prelude.{◌≡◌, ◌<◌, ◌≤◌, ◌==◌, IfOk, OnErr, IfSome, IsSome, length, position};
-ghost use Rattle.std.specs.Char.{is_ascii_digit};
-ghost use Rattle.std.specs.List.{list_all};
 ghost use Rattle.object_lines.specs.Addresses as Spec;
 
+use object_refs::port_number;
 use orb_base::{NoMemory, Text, TextFault};
 use std::alloc::Global;
 use std::marker::Model;
@@ -32,30 +31,6 @@ impl Model for Address {
     ghost view = { λ a. record { host = a.host; port = a.port } };
 
     ghost invariant = { λ a. length a.host ≤ 255 };
-}
-
-/// Whether each byte is a decimal digit.
-fn are_digits(bytes: &[u8]) -> bool
-    ensures { result ≡ list_all is_ascii_digit bytes.now }
-{
-    bytes.iter().all(|byte| byte.is_ascii_digit())
-}
-
-/// The port of 1 to 10 decimal digits. None where it isn't 1 to 65535.
-#[tactic(auto, unfolding(crate::specs::Addresses::port_of))]
-fn port_of(digits: &[u8]) -> Option<u16>
-    ensures { result ≡ Spec.port_of digits.now }
-{
-    if digits.is_empty() || digits.len() > MAX_DIGITS || !are_digits(digits) {
-        return None;
-    }
-    let Ok(text) = std::str::from_utf8(digits) else {
-        return None;
-    };
-    match text.parse::<u16>() {
-        Ok(port) if port > 0 => Some(port),
-        _ => None,
-    }
 }
 
 /// How many bytes stand before the first colon.
@@ -90,7 +65,7 @@ fn address_at(alloc: Global, word: &[u8], len: usize) -> Result<Option<Address>,
     ensures value { IfOk result (λ found. found ≡ Spec.address_at word.now len) }
     ensures only { OnErr result (IsSome (Spec.address_at word.now len)) }
 {
-    let Some(port) = port_of(&word[len + 1..]) else {
+    let Some(port) = port_number(&word[len + 1..], MAX_DIGITS) else {
         return Ok(None);
     };
     match host_of(alloc, &word[..len])? {

@@ -53,18 +53,18 @@ some_digit [] h = h
 some_digit (d ∷ ds) h = omega arith
 
 -- the number is 0 or too great, so that no port is there
-pub port_none : (ds : List ℕ) → ((0 < length ds) × (0 < digits_value 10 ds) × (digits_value 10 ds < 2 ^ 16) → ⊥)
-    → port_number ds ≡ None
+port_none : (most : ℕ) (ds : List ℕ) → ((0 < length ds) × (0 < digits_value 10 ds) × (digits_value 10 ds < 2 ^ 16) → ⊥)
+    → port_number most ds ≡ None
 unfolding port_number
-port_none ds never = guard_none _ _ (λ e.
+port_none most ds never = guard_none _ _ (λ e.
     let small = and_parts _ (ltb (digits_value 10 ds) (2 ^ 16)) e in
     let some = and_parts _ (ltb 0 (digits_value 10 ds)) small.0 in
     let positive : 0 < digits_value 10 ds = ltb-true _ _ some.1 in
     never (some_digit ds positive, positive, ltb-true _ _ small.1))
 
 -- a number that doesn't parse
-pub port_unparsed : {E : Type 0} (ds : List ℕ) (e : E) → ParsesUnsigned 16 10 ds (Err e)
-    → list_all is_ascii_digit ds ≡ true → None ≡ port_number ds
-port_unparsed {E} ds e h digits =
+pub port_unparsed : {E : Type 0} (most : ℕ) (ds : List ℕ) (e : E) → ParsesUnsigned 16 10 ds (Err e)
+    → list_all is_ascii_digit ds ≡ true → None ≡ port_number most ds
+port_unparsed {E} most ds e h digits =
     let never : ¬ ((0 < length ds) × (digits_value 10 ds < 2 ^ 16)) = parsed {E = E} ds (Err e) h digits in
-    sym (port_none ds (λ p. never (p.0, p.2)))
+    sym (port_none most ds (λ p. never (p.0, p.2)))

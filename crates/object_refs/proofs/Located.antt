@@ -134,7 +134,7 @@ host_again host e rest h end =
 
 -- ---- the port
 
-pub port_number_found : (digits : List ℕ) (port : ℕ) → port_number digits ≡ Some port → IsPortNumber digits port
+pub port_number_found : (digits : List ℕ) (port : ℕ) → port_number 5 digits ≡ Some port → IsPortNumber digits port
 unfolding port_number
 port_number_found digits port e =
     let v = digits_value 10 digits in
@@ -146,7 +146,7 @@ port_number_found digits port e =
     subst (IsPortNumber digits) g.1
     (record { few = leb-true _ _ d.0; decimal = d.1; value = refl; some = ltb-true _ _ b.1; small = ltb-true _ _ a.1 })
 
-port_number_again : (digits : List ℕ) (port : ℕ) → IsPortNumber digits port → port_number digits ≡ Some port
+port_number_again : (digits : List ℕ) (port : ℕ) → IsPortNumber digits port → port_number 5 digits ≡ Some port
 unfolding port_number
 port_number_again digits port h =
     let v = digits_value 10 digits in
@@ -166,7 +166,7 @@ port_of_found text x e =
     let n = then_some (position is_slash text) (port_of_len text) x e in
     let len : ℕ = n.0 in
     let cut = cut_found is_slash text len n.1 in
-    let p = then_some (port_number (take len text)) (λ port. Some (port, drop (len + 1) text)) x n.2 in
+    let p = then_some (port_number 5 (take len text)) (λ port. Some (port, drop (len + 1) text)) x n.2 in
     let is = same_Some (p.0, drop (len + 1) text) x p.2 in
     let slash-is : get_or text len 0 ≡ slash = eqb-true _ _ cut.passes in
     let parts : text ≡ take len text ++ slash ∷ drop (len + 1) text =

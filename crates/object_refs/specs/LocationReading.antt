@@ -47,17 +47,17 @@ host_of_len text len =
 unfoldable pub host_of : List ℕ → Option (List ℕ × ℕ × List ℕ)
 host_of text = option_and_then (host_of_len text) (position ends_host text)
 
--- the port of its digits
-unfoldable pub port_number : List ℕ → Option ℕ
-port_number digits =
+-- the port of so many decimal digits at most, which is 1 to 65535
+unfoldable pub port_number : ℕ → List ℕ → Option ℕ
+port_number most digits =
     let port = digits_value 10 digits in
-    if nat_le (length digits) 5 && list_all is_ascii_digit digits && nat_lt 0 port && nat_lt port (2 ^ 16)
+    if nat_le (length digits) most && list_all is_ascii_digit digits && nat_lt 0 port && nat_lt port (2 ^ 16)
     then Some port
     else None
 
 -- the port of so many digits, and what stands behind the byte that ends them
 unfoldable pub port_of_len : List ℕ → ℕ → Option (ℕ × List ℕ)
-port_of_len text len = option_and_then (λ port. Some (port, drop (len + 1) text)) (port_number (take len text))
+port_of_len text len = option_and_then (λ port. Some (port, drop (len + 1) text)) (port_number 5 (take len text))
 
 -- a port, which goes to the slash
 unfoldable pub port_of : List ℕ → Option (ℕ × List ℕ)

@@ -26,6 +26,7 @@ pub use iiop_write::write_iiop;
 pub use ior::Ior;
 pub use ior_read::parse_ior;
 pub use ior_write::ior_text;
+pub use port::port_number;
 
 #[cfg(test)]
 mod reference_tests;

@@ -21,12 +21,13 @@ fn are_digits(bytes: &[u8]) -> bool
     bytes.iter().all(|byte| byte.is_ascii_digit())
 }
 
-/// The port of its digits.
+/// The port of so many decimal digits at most, 1 to 65535. None where they are more, where another byte is among them, and where their
+/// number is 0 or above 65535; zeros may stand in front. It takes time in the number of digits, and no memory.
 #[tactic(auto, unfolding(crate::specs::LocationReading::port_number))]
-fn port_number(digits: &[u8]) -> Option<u16>
-    ensures { result ≡ port_number digits.now }
+pub fn port_number(digits: &[u8], most: usize) -> Option<u16>
+    ensures { result ≡ port_number most digits.now }
 {
-    if digits.len() > MAX_DIGITS || !are_digits(digits) {
+    if digits.len() > most || !are_digits(digits) {
         return None;
     }
     let Ok(text) = std::str::from_utf8(digits) else {
@@ -52,7 +53,7 @@ fn port_of_len(text: &[u8], len: usize) -> Option<(u16, &[u8])>
     requires { len < length text.now }
     ensures { option_map {U = ℕ × List ℕ} (λ x. (x.0, x.1.now)) result ≡ port_of_len text.now len }
 {
-    let port = port_number(&text[..len])?;
+    let port = port_number(&text[..len], MAX_DIGITS)?;
     Some((port, &text[len + 1..]))
 }
 

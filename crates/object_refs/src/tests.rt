@@ -30,6 +30,27 @@ fn object_urls_name_locations(rt: HostRuntime) -> Result<(), Fail> {
     Ok(())
 }
 
+/// Digits, the most of them, and the port that they are.
+const PORTS: [(&[u8], usize, Option<u16>); 9] = [
+    (b"1", 1, Some(1)),
+    (b"65535", 5, Some(65_535)),
+    (b"000080", 6, Some(80)),
+    (b"000080", 5, None),
+    (b"65536", 5, None),
+    (b"00000", 5, None),
+    (b"", 5, None),
+    (b"8a", 5, None),
+    (b"80", 0, None),
+];
+
+#[test]
+fn digits_are_ports(rt: HostRuntime) -> Result<(), Fail> {
+    for (digits, most, port) in PORTS {
+        assert_eq!(rt; port_number(digits, most), port, "{digits:?}");
+    }
+    Ok(())
+}
+
 /// Texts that name no location, with the cause and its place.
 const NO_LOCATIONS: [(&[u8], RefCause, usize); 28] = [
     (b"", RefCause::NoPrefix, 0),

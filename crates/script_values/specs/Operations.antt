@@ -6,7 +6,7 @@ use Rattle.script_grammar.specs.declared.operator.Unary.{Unary}
 use Rattle.script_grammar.specs.declared.operator.Unary.TheVariants.{Negate, Not, Len, Group}
 use Rattle.script_grammar.specs.declared.operator.Binary.{Binary}
 use Rattle.script_grammar.specs.declared.operator.Binary.TheVariants as op
-use Rattle.cdr_values.specs.Trees.{Value, truth, number, letter, text, items, chosen, label, Values, no_values, value}
+use Rattle.cdr_values.specs.Trees.{Value, truth, number, letter, text, items, chosen, label, Values, list_of}
 use Rattle.script_values.specs.declared.limit.Limit.{Limit}
 use Rattle.script_values.specs.declared.limit.Limit.TheVariants.{Arithmetic, Index}
 
@@ -41,11 +41,6 @@ as_truth (text t) = false
 as_truth (items vs) = false
 as_truth (chosen z vs) = false
 as_truth (label n) = false
-
--- values as a list
-abbrev pub list_of : Values → List Value
-list_of no_values = []
-list_of (value v vs) = v ∷ list_of vs
 
 -- the items of a value, and none of any other value
 abbrev pub as_items : Value → List Value

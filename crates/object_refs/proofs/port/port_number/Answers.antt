@@ -14,4 +14,4 @@ returns-in_default-parse-2 c =
     let digits : list_all is_ascii_digit c.args.digits.now ≡ true = search rules in
     let text = c.in-Ok.ensures.cases.0 in
     let h = c.in_default-parse.ensures.value in
-    port_unparsed c.args.digits.now c.in_default-parse.field-0 (rw text at h.0) digits
+    port_unparsed c.args.most c.args.digits.now c.in_default-parse.field-0 (rw text at h.0) digits
