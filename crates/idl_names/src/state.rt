@@ -1,7 +1,8 @@
 //! What is known in the middle of a text: own profile.
-ghost use Rattle.std.specs.Prelude.{◌≡◌};
+ghost use Rattle.std.specs.Prelude.{◌≡◌, map};
+ghost use Rattle.idl_scopes.specs.Views.{table_of};
 ghost use Rattle.idl_names.specs.State.{no_parts, nothing_built};
-ghost use Rattle.idl_names.specs.Views.{built_of, parts_of};
+ghost use Rattle.idl_names.specs.Views.{built_of, parts_of, thing_of};
 
 use crate::sizes::SizedType;
 use cdr_values::{Case, IdlType, Member};
@@ -143,5 +144,12 @@ impl Names {
             lengths: Vec::new(alloc),
             parts: Parts::new(alloc),
         }
+    }
+    /// What is declared: the scopes, and by the same places what the declarations stand for. Takes no memory.
+    pub fn into_parts(self) -> (Scopes, Vec<Thing>)
+        ensures scopes { table_of result.0 ≡ (built_of self).scopes }
+        ensures things { map thing_of result.1.items ≡ (built_of self).things }
+    {
+        (self.scopes, self.things)
     }
 }

@@ -127,3 +127,17 @@ fn values_at_fault(rt: HostRuntime) -> Result<(), Fail> {
     }
     Ok(())
 }
+
+#[test]
+fn things_stand_by_the_places_of_names(rt: HostRuntime) -> Result<(), Fail> {
+    let names = match read_names(rt.alloc(), b"module M { typedef long T; };".as_slice()) {
+        Ok(names) => names,
+        Err(_) => return Err(Fail::from("refused")),
+    };
+    let (scopes, things) = names.into_parts();
+    assert_eq!(rt; scopes.len(), 2);
+    assert!(rt; scopes.name_at(1) == b"T".as_slice());
+    assert_eq!(rt; things.len(), 2);
+    assert!(rt; matches!(&things[1], Thing::Type(_)));
+    Ok(())
+}

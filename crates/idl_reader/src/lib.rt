@@ -1,0 +1,16 @@
+//! The repository of a text of IDL: what the text declares, or its first token at fault.
+//!
+//! The text is read into names first (`idl_names`). Each name that stands for a type, an exception, a constant or an
+//! interface is then declared under its repository id, in the order of the names; an interface gets copies of all its
+//! operations.
+#![tactic(auto)]
+
+mod copies;
+mod declaring;
+mod interfaces;
+mod reader;
+
+pub use reader::read_idl;
+
+#[cfg(test)]
+mod tests;
