@@ -1,5 +1,5 @@
 -- The loop that looks for an entry that clashes with an earlier one.
-use Rattle.std.proofs.Common.{◌≡◌, ℕ, Bool, ◌+◌, ◌<◌, true, false, List, length, get_or, take, drop, Some, refl}
+use Rattle.std.proofs.Common.{◌≡◌, ℕ, Bool, ◌+◌, ◌<◌, true, false, List, length, get_or, take, drop, Some}
 use Rattle.std.proofs.lemmas.List.{drop_more, take_more}
 use Rattle.std.specs.List.{list_any}
 use Rattle.adapter_policies.specs.Found.{first_clash}

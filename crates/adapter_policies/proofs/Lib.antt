@@ -1,4 +1,6 @@
 pub mod FirstClash
 pub mod Keyed
+pub mod NoneFound
 pub mod Published
 pub mod Rising
+pub mod Together

@@ -1,5 +1,5 @@
 -- What the profile of an object publishes.
-use Rattle.std.proofs.Common.{◌≡◌, ℕ, ◌+◌, ◌^◌, ◌<◌, List, [], ◌∷◌, ◌++◌, length, get_or, Option, Some, refl, subst, sym, ap, ◌∙◌, arith, Result, Ok, Err, IfOk, drop}
+use Rattle.std.proofs.Common.{◌≡◌, ℕ, ◌+◌, ◌^◌, ◌<◌, List, [], ◌∷◌, length, get_or, Some, refl, subst, sym, ap, ◌∙◌, Result, Ok, Err, IfOk, drop}
 use Rattle.std.proofs.lemmas.List.{append-nil, drop_more}
 use Rattle.std.specs.List.{AllByRecursion}
 use Rattle.orb_base.specs.declared.no_memory.NoMemory.{NoMemory}

@@ -1,5 +1,5 @@
 -- Rows that rise, each made a row of a table map.
-use Rattle.std.proofs.Common.{◌≡◌, ℕ, ◌+◌, ◌<◌, ◌≤◌, zero, suc, true, false, ◌&&◌, Bool, List, [], ◌∷◌, ◌++◌, length, map, drop, sym, ◌∙◌, Option, Some, None, nat_le, nat_lt, get_or, subst, refl, arith}
+use Rattle.std.proofs.Common.{◌≡◌, ℕ, ◌+◌, ◌<◌, ◌≤◌, zero, suc, true, false, ◌&&◌, Bool, List, [], ◌∷◌, ◌++◌, length, map, drop, sym, ◌∙◌, Option, Some, None, nat_le, get_or, subst, refl, arith}
 use Rattle.std.proofs.lemmas.List.{drop_all, append-nil}
 use Rattle.std.specs.List.{AllAdjacentBelow}
 use borrow.Author.Tests.{ltb-true}

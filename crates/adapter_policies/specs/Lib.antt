@@ -11,4 +11,5 @@ pub mod SetupData
 pub mod BuiltIn
 pub mod Index
 pub mod Configuration
+pub mod Lawful
 pub mod Publishing

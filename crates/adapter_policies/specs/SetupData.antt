@@ -1,5 +1,5 @@
 -- The setup of a broker, and what a configuration makes of it: own profile.
-use Rattle.std.specs.Prelude.{ℕ, ◌/◌, Bool, List, [], ◌∷◌, map, Option, Some, None, unwrap_or, position, slice_get, if◌then◌else◌}
+use Rattle.std.specs.Prelude.{ℕ, List, [], ◌∷◌, map, Option, Some, None, unwrap_or, position, slice_get, if◌then◌else◌}
 use Rattle.std.specs.Option.{option_map_or}
 use Rattle.orb_base.specs.Pool.{Pool}
 use Rattle.orb_base.specs.Span.{Span}

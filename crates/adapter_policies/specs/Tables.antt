@@ -1,10 +1,10 @@
 -- What the tables of a configuration say, as they stand: own profile.
-use Rattle.std.specs.Prelude.{ℕ, ℤ, Bool, List, map, Option, is_some, codes, if◌then◌else◌}
+use Rattle.std.specs.Prelude.{ℕ, ℤ, Bool, List, map, is_some, codes, if◌then◌else◌}
 use Rattle.toml.specs.Data.{Members, get_member}
 use Rattle.orb_base.specs.declared.priority_model.PriorityModel.{PriorityModel}
 use Rattle.orb_base.specs.declared.priority_model.PriorityModel.TheVariants.{ClientPropagated, ServerDeclared}
 use Rattle.config_tables.specs.Keys.{same_text}
-use Rattle.config_tables.specs.Held.{number_at, native_at, text_at, truth_at, number_of, text_of, where_there}
+use Rattle.config_tables.specs.Held.{number_at, native_at, text_at, truth_at, number_of, where_there}
 use Rattle.config_tables.specs.Rules.{says}
 use Rattle.config_tables.specs.Standing.{holds}
 use Rattle.config_tables.specs.Values.{tables_at}

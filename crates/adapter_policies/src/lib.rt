@@ -13,6 +13,7 @@ mod clashes;
 mod document;
 mod index;
 mod lane;
+mod laws;
 mod making;
 mod map;
 mod map_relations;
@@ -33,6 +34,9 @@ mod setup;
 
 pub use adapter_spec::AdapterSpec;
 pub use config_tables::{ConfigCause, ConfigFault, SetupError};
+pub use laws::{
+    configured_bands_are_apart, configured_keys_differ, documents_without_a_fault_hold_together,
+};
 pub use object_spec::ObjectSpec;
 pub use reading::read_setup;
 pub use setup::Setup;

@@ -1,5 +1,5 @@
 -- The line of each object of a setup, and what writing the lines comes to: own profile.
-use Rattle.std.specs.Prelude.{◌≡◌, ◌⊎◌, ℕ, List, [], ◌++◌, codes, Option, Some, None, Result, Ok, Err, IsSome, slice_get}
+use Rattle.std.specs.Prelude.{◌≡◌, ◌⊎◌, ℕ, List, [], ◌++◌, codes, Option, Some, None, Ok, Err, IsSome, slice_get}
 use Rattle.std.specs.List.{flat_map}
 use Rattle.std.specs.Option.{option_map_or}
 use Rattle.orb_base.specs.Filing.{FilesState}
@@ -12,10 +12,10 @@ use Rattle.adapter_policies.specs.SetupData.{SetupData}
 use Rattle.adapter_policies.specs.declared.object_spec.ObjectSpec.{ObjectSpec}
 use Rattle.text_streams.specs.Shown.{shown}
 use Rattle.text_streams.specs.Streams.{WroteText, WroteFrontOf}
-use Rattle.object_lines.specs.Serving.{unserved_fault}
+use Rattle.object_lines.specs.Serving.{IsWhole, unserved_fault}
 use Rattle.object_lines.specs.Setups.{GivesSetup}
 use Rattle.object_lines.specs.declared.at_end.AtEnd.{AtEnd}
-use Rattle.object_lines.specs.declared.at_end.AtEnd.TheVariants.{Done, Refused, Absent, TooLong, NotBuilt, ReadFault, WriteFault, NoMemory}
+use Rattle.object_lines.specs.declared.at_end.AtEnd.TheVariants.{Done, Refused, NotBuilt, WriteFault, NoMemory}
 
 -- a key, and the text of a reference
 abbrev pub line_of : List ℕ → Reference → List ℕ
@@ -35,10 +35,6 @@ WritesLines Done text out out' = WroteText text out out' × (out'.faults ≡ out
 WritesLines WriteFault text out out' = WroteFrontOf text out out' × Rose out.faults out'.faults
 WritesLines NoMemory text out out' = out' ≡ out
 WritesLines _ text out out' = ⊥
-
--- a setup names no file of interfaces, and each of its objects is served
-abbrev pub IsWhole : SetupData → Type 0
-IsWhole setup = (setup.idl ≡ None) × (unserved_fault setup ≡ None)
 
 -- what comes of a setup: its lines where it is whole, else why there are none
 abbrev pub Comes : AtEnd → SetupData → List ℕ → ℕ → SinkState → SinkState → Type 0

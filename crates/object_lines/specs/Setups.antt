@@ -7,7 +7,7 @@ use Rattle.adapter_policies.specs.BuiltIn.{built_in}
 use Rattle.adapter_policies.specs.Configuration.{Configures, HasFault}
 use Rattle.adapter_policies.specs.SetupData.{SetupData}
 use Rattle.object_lines.specs.declared.at_end.AtEnd.{AtEnd}
-use Rattle.object_lines.specs.declared.at_end.AtEnd.TheVariants.{Done, Refused, Absent, TooLong, NotBuilt, ReadFault, WriteFault, NoMemory}
+use Rattle.object_lines.specs.declared.at_end.AtEnd.TheVariants.{Refused, Absent, TooLong, ReadFault, NoMemory}
 use Rattle.object_lines.specs.declared.at_end.TheConstants.{MAX_CONFIG}
 
 -- these bytes, which aren't too long, are the file of this name, where the store tells its files

@@ -5,24 +5,20 @@ ghost use Rattle.object_lines.specs.Lines.{At, Comes};
 use crate::address::Address;
 use crate::at_end::AtEnd;
 use crate::lines::lines_run;
-use crate::serving::judge_served;
+use crate::serving::judge_whole;
 use crate::setups::setup_of;
-use adapter_policies::{Setup, SetupError};
+use adapter_policies::Setup;
 use orb_base::{Files, Sink, Text};
 use std::alloc::Global;
 
 /// Writes the lines of a setup that names no file of interfaces, and each of whose objects is served.
-#[tactic(auto, using(crate::proofs::Ends::comes_of))]
+#[tactic(auto, using(crate::proofs::Ends::comes_of, crate::proofs::Ends::comes_not))]
 fn run_setup<O: Sink>(alloc: Global, sink: &mut O, setup: &Setup, at: &Address) -> AtEnd
     ensures { Comes result setup.now at.now.host at.now.port (O.state sink.old) (O.state sink.new) }
 {
-    if setup.idl().is_some() {
-        return AtEnd::NotBuilt;
-    }
-    match judge_served(alloc, setup) {
+    match judge_whole(alloc, setup) {
         Ok(()) => lines_run(alloc, sink, setup, &at.host, at.port),
-        Err(SetupError::Refused(fault)) => AtEnd::Refused(fault),
-        Err(SetupError::NoMemory) => AtEnd::NoMemory,
+        Err(end) => end,
     }
 }
 

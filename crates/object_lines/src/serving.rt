@@ -4,6 +4,7 @@ ghost use Rattle.std.specs.List.{position_from};
 ghost use Rattle.config_tables.specs.Fault.{Judged};
 ghost use Rattle.object_lines.specs.Serving as Spec;
 
+use crate::at_end::AtEnd;
 use adapter_policies::{ConfigCause, ObjectSpec, Setup, SetupError};
 use config_tables::{entry_path, refuse_key};
 use std::alloc::Global;
@@ -35,7 +36,7 @@ fn first_unserved(setup: &Setup) -> Option<u16>
 
 /// Judges that each object is of an interface that a servant serves: without a file of interfaces there is one, `Orb::Ping`. One
 /// pass over the objects.
-pub fn judge_served(alloc: Global, setup: &Setup) -> Result<(), SetupError>
+fn judge_served(alloc: Global, setup: &Setup) -> Result<(), SetupError>
     ensures { Judged result (Spec.unserved_fault setup.now) }
 {
     match first_unserved(setup) {
@@ -49,5 +50,20 @@ pub fn judge_served(alloc: Global, setup: &Setup) -> Result<(), SetupError>
             )),
             Err(_) => Err(SetupError::NoMemory),
         },
+    }
+}
+
+/// Judges that a setup can be served so far: it names no files of interfaces and scripts, which aren't read yet, and each object is
+/// of an interface that a servant serves. One pass over the objects.
+pub fn judge_whole(alloc: Global, setup: &Setup) -> Result<(), AtEnd>
+    ensures { Spec.JudgesWhole result setup.now }
+{
+    if setup.idl().is_some() {
+        return Err(AtEnd::NotBuilt);
+    }
+    match judge_served(alloc, setup) {
+        Ok(()) => Ok(()),
+        Err(SetupError::Refused(fault)) => Err(AtEnd::Refused(fault)),
+        Err(SetupError::NoMemory) => Err(AtEnd::NoMemory),
     }
 }

@@ -1,25 +1,48 @@
--- The built-in pool may open.
-use Rattle.std.proofs.Common.{ℕ, zero, suc, ◌<◌, refl, lit<, lit≤, arith}
-use Rattle.std.specs.List.{slice_index_or}
-use Rattle.orb_base.specs.Pool.{lane_threads}
+-- The setups that the pipe runs may open, and open with one free thread.
+use Rattle.std.proofs.Common.{◌≡◌, ℕ, Bool, List, [], ◌∷◌, refl, sym, ap, subst, lit≤}
+use Rattle.orb_base.specs.Pool.{Pool, IsWellFormed}
 use Rattle.orb_base.specs.declared.lane_spec.LaneSpec.{LaneSpec}
-use Rattle.lane_machine.specs.State.{CanOpen}
-use Rattle.adapter_policies.specs.BuiltIn.{built_in_pool}
+use Rattle.thread_borrowing.specs.declared.doing.Doing.TheVariants.{Free}
+use Rattle.lane_machine.specs.State.{State, CanOpen, opening}
+use Rattle.adapter_policies.specs.BuiltIn.{built_in}
+use Rattle.adapter_policies.specs.SetupData.{SetupData}
+use Rattle.orb_command.specs.Setup.{HasOneThread, HasSlots, IsSingle, IsRunnable, opened}
+use Rattle.orb_command.specs.PingRun.{Does, first_level, single_pool}
 
-each_has_threads : (k : ℕ) (d : LaneSpec) → k < 1 → 0 < lane_threads (slice_index_or built_in_pool.lanes k d)
-each_has_threads zero d near = lit< tt
-each_has_threads (suc k) d near = absurd (omega arith)
+pub can_open : (pool : Pool) (slots per_slot : ℕ) → IsWellFormed pool → HasSlots slots per_slot → CanOpen pool slots per_slot
+can_open pool slots per_slot formed has = record {
+  well_formed = formed;
+  some_slot = has.some_slot;
+  few_slots = has.few_slots;
+  some_connection = has.some_connection;
+  few_connections = has.few_connections;
+}
 
-pub built_in_can_open : CanOpen built_in_pool 1 128
-built_in_can_open = record {
-  well_formed = record {
-    lanes = record { rising = λ k d near. absurd (omega arith); each = each_has_threads; few = lit≤ tt; few_threads = lit≤ tt };
-    flat = record { one_lane = λ _. refl; no_borrowing = λ _. refl };
-    room = record { some_request = λ buffering. absurd cc; some_byte = λ buffering. absurd cc };
-    limits = record { requests = lit≤ tt; bytes = lit≤ tt; calls = lit≤ tt; run = lit≤ tt };
-  };
-  some_slot = lit≤ tt;
-  few_slots = lit≤ tt;
-  some_connection = lit≤ tt;
-  few_connections = lit≤ tt;
+lane_at : ℕ → ℕ → ℕ → List LaneSpec
+lane_at level statics dynamics = record { priority = level; statics = statics; dynamics = dynamics } ∷ []
+
+lanes_are : (lanes : List LaneSpec) → HasOneThread lanes → lanes ≡ record { priority = first_level lanes; statics = 1; dynamics = 0 } ∷ []
+unfolding lane_at
+lanes_are [] h = absurd h
+lanes_are (lane ∷ []) h = λ i. lane_at lane.priority (h.0 i) (h.1 i)
+lanes_are (lane ∷ other ∷ rest) h = absurd h
+
+abbrev pool_with : Pool → Bool → List LaneSpec → Bool → Bool → Pool
+pool_with pool laned lanes borrowing buffering = record pool { laned = laned; lanes = lanes; borrowing = borrowing; buffering = buffering }
+
+single_is : (pool : Pool) → IsSingle pool → pool ≡ single_pool pool
+single_is pool single =
+    let lanes = lanes_are pool.lanes single.one_thread in
+    λ i. pool_with pool (single.no_lanes i) (lanes i) (single.no_borrowing i) (single.no_buffering i)
+
+pub opens_free : (setup : SetupData) → IsRunnable setup → Does Free (opened setup)
+opens_free setup able = ap (λ (p : Pool). opening p setup.slots setup.per_slot) (single_is setup.pool able.single)
+
+pub opens_idle : (setup : SetupData) (s : State) → IsRunnable setup → s ≡ opened setup → Does Free s
+opens_idle setup s able is = subst (λ (z : State). Does Free z) (sym is) (opens_free setup able)
+
+pub built_in_is_runnable : IsRunnable built_in
+built_in_is_runnable = record {
+  single = record { no_lanes = refl; no_borrowing = refl; no_buffering = refl; one_thread = (refl, refl) };
+  slots = record { some_slot = lit≤ tt; few_slots = lit≤ tt; some_connection = lit≤ tt; few_connections = lit≤ tt };
 }

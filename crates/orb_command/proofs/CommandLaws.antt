@@ -1,15 +1,8 @@
 -- The answers of the top call, by what its words mean.
-use Rattle.std.proofs.Common.{◌≡◌, ℕ, List, refl, ap, ◌∙◌, subst, sym, inl, inr, arith}
+use Rattle.std.proofs.Common.{◌≡◌, ℕ, List, refl, ap, ◌∙◌, subst, sym}
 use Rattle.std.specs.Prelude.{Result, Ok, Err}
-use Rattle.orb_base.specs.Outside.{SourceState, SinkState, Rose}
+use Rattle.orb_base.specs.Outside.{SinkState}
 use Rattle.orb_base.specs.declared.no_memory.NoMemory.{NoMemory}
-use Rattle.orb_command.specs.declared.ends.ReadEnd.{ReadEnd}
-use Rattle.orb_command.specs.declared.ends.ReadEnd.TheVariants as read
-use Rattle.orb_command.specs.declared.ends.WriteEnd.{WriteEnd}
-use Rattle.orb_command.specs.declared.ends.WriteEnd.TheVariants as write
-use Rattle.orb_command.specs.declared.ends.Piped.{Piped}
-use Rattle.orb_command.specs.declared.ends.PipeFault.{PipeFault}
-use Rattle.orb_command.specs.declared.ends.PipeFault.TheVariants as fault
 use Rattle.giop_dump.specs.declared.dump_end.DumpEnd.{DumpEnd}
 use Rattle.giop_dump.specs.declared.dump_end.DumpEnd.TheVariants as dump
 use Rattle.giop_dump.specs.Dump.{Dumps, FaultsOf}
@@ -18,47 +11,13 @@ use Rattle.reference_lines.specs.declared.refs_end.RefsEnd.TheVariants as refs
 use Rattle.reference_lines.specs.Refs.{Refs, RefsBytes}
 use Rattle.text_streams.proofs.CallerLemmas.{gave_none}
 use Rattle.orb_command.specs.declared.answered.Answered.{Answered}
-use Rattle.orb_command.specs.declared.meaning.Meaning.TheVariants.{Pipe, Dump, Refs as RefsMeaning, Unbuilt, Unread}
+use Rattle.orb_command.specs.declared.meaning.Meaning.TheVariants.{Dump, Refs as RefsMeaning, Unbuilt, Unread}
 use Rattle.orb_command.specs.declared.note.Note.TheVariants.{Usage, NotBuilt}
 use Rattle.orb_command.specs.Moment.{Moment}
-use Rattle.orb_command.specs.Ping.{ping_outcome}
-use Rattle.orb_command.specs.Pipe.{Pipes, PipesTo, PipesBytes}
-use Rattle.orb_command.specs.PipeAnswer.{note_of, note_of_ends}
 use Rattle.orb_command.specs.DumpAnswer.{dump_note}
 use Rattle.orb_command.specs.RefsAnswer.{refs_note}
 use Rattle.orb_command.specs.Command.{status_of, Answers}
 use Rattle.orb_command.specs.Faults.{StreamFaults}
-
--- ---- the pipe
-
-ends_faults : (read_end : ReadEnd) (write_end : WriteEnd) (bytes : List ℕ) (before after : Moment)
-    → PipesTo read_end write_end ping_outcome bytes before.input after.input before.out after.out → StreamFaults (note_of_ends read_end write_end) before after
-ends_faults read.Ended write.Done bytes before after h = (h.0.2, h.1.1)
-ends_faults read.RunClosed write.Closed bytes before after h = (h.0.2, h.1.1)
-ends_faults read.RunClosed write.WriteFault bytes before after h = (h.0.2, h.1.1)
-ends_faults read.Stopped write.WriteFault bytes before after h = (h.0.2, h.1.1)
-ends_faults read.ReadFault write.Done bytes before after h = (h.1, ap (λ (o : SinkState). o.faults) h.2)
-ends_faults read.Ended write.Closed bytes before after h = absurd h.1
-ends_faults read.Ended write.WriteFault bytes before after h = absurd h.1
-ends_faults read.RunClosed write.Done bytes before after h = absurd h.1
-ends_faults read.Stopped write.Done bytes before after h = absurd h.1
-ends_faults read.Stopped write.Closed bytes before after h = absurd h.1
-ends_faults read.ReadFault write.Closed bytes before after h = absurd h.1
-ends_faults read.ReadFault write.WriteFault bytes before after h = absurd h.1
-
-pipe_faults : (ran : Result Piped PipeFault) (bytes : List ℕ) (before after : Moment) → PipesBytes ran ping_outcome bytes before.input after.input before.out after.out → StreamFaults (note_of ran) before after
-pipe_faults (Ok piped) bytes before after h = ends_faults piped.read piped.write bytes before after h
-pipe_faults (Err fault.NotBuilt) bytes before after h = (elim h.1 [ inl whole ↦ whole.2 | inr long ↦ long.1 ], ap (λ (o : SinkState). o.faults) h.2)
-pipe_faults (Err fault.NoMemory) bytes before after h = tt
-
-pub pipe_answers : (ran : Result Piped PipeFault) (answered : Answered) (before after : Moment) → after.files ≡ before.files → Pipes ran ping_outcome before.input after.input before.out after.out
-    → answered.note ≡ note_of ran → answered.status ≡ status_of (note_of ran) → Answers Pipe answered before after
-pipe_answers ran answered before after same h note status = record {
-  status = status ∙ ap status_of (sym note);
-  means = record { answer = ran; told = note; pipes = h };
-  faults = (same, subst (λ n. StreamFaults n before after) (sym note) (pipe_faults ran h.bytes before after h.came));
-  few = record { bytes = h.bytes; few = h.few; gave = h.gave };
-}
 
 -- ---- a dump
 

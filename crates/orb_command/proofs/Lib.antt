@@ -1,6 +1,7 @@
 pub mod StandardFacts
 pub mod CanOpen
 pub mod StreamCounts
+pub mod Places
 pub mod HearingLaws
 pub mod ReplyLaws
 pub mod PipeRuns
@@ -9,6 +10,7 @@ pub mod Turns
 pub mod PipedLaws
 pub mod CommandLaws
 pub mod AtLaws
+pub mod PipeNotes
 pub mod Replays
 pub mod HeardLaws
 pub mod RepliedLaws

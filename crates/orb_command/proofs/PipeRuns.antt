@@ -1,6 +1,6 @@
 -- A run of the pipe's jobs, one after another, is what the pipe is defined to do with their calls.
 use Rattle.std.proofs.Common.{◌≡◌, ℕ, suc, ◌+◌, ◌<◌, ◌≤◌, Bool, true, false, List, [], ◌∷◌, ◌++◌, refl, sym, ap, ◌∙◌, subst, inl, inr, arith, lit≤, append_assoc, append-nil}
-use Rattle.std.specs.Prelude.{◌⊎◌, ◌==◌, ◌||◌, if◌then◌else◌}
+use Rattle.std.specs.Prelude.{◌==◌, ◌||◌, if◌then◌else◌}
 use Rattle.std.specs.List.{list_any}
 use Rattle.std.proofs.lemmas.Bool.{cases_Bool, ne_eqb}
 use Rattle.std.proofs.lemmas.Bool.Decides.{eqb_tells}
@@ -23,12 +23,12 @@ use Rattle.lane_machine.specs.Readiness.{owed}
 use Rattle.turn_cell.specs.declared.entry.Entry.{Entry}
 use Rattle.lane_machine.specs.Histories.{History, replay, IsLegal}
 use Rattle.orb_command.specs.Setup.{pipe_conn, interface_of}
-use Rattle.adapter_policies.specs.BuiltIn.{built_in}
+use Rattle.adapter_policies.specs.SetupData.{SetupData}
 use Rattle.orb_command.specs.Said.{call_bytes, said, item_bytes}
 use Rattle.orb_command.specs.Piped.{Run, settled, grouped, answer_of}
 use Rattle.orb_command.specs.Stops.{has_closing, has_end}
 use Rattle.orb_command.specs.Built.{Spares}
-use Rattle.orb_command.specs.PingRun.{ping_job, IsPingJob, ArePingJobs, offers, with_thread, IsSettled, IsAnswered, Ran, Runs, RunsOn, ping_interface}
+use Rattle.orb_command.specs.PingRun.{ping_job, IsPingJob, ArePingJobs, offers, outcome_at, with_thread, IsSettled, IsAnswered, Ran, Runs, RunsOn}
 
 -- ---- words
 
@@ -41,11 +41,11 @@ at s h = record { state = s; history = h }
 abbrev entry : LaneCall → LaneReply → Entry State LaneCall LaneReply
 entry call answer = record { caller = 0; call = call; reply = answer }
 
-abbrev pub idle : ℕ → ℕ → State
-idle calls bytes = with_thread Free calls bytes
+abbrev pub idle : State → ℕ → ℕ → State
+idle base calls bytes = with_thread base Free calls bytes
 
-abbrev pub shut : ℕ → ℕ → State
-shut calls bytes = record (idle calls bytes) { closing = true }
+abbrev pub shut : State → ℕ → ℕ → State
+shut base calls bytes = record (idle base calls bytes) { closing = true }
 
 -- what the thread does behind an offer
 abbrev rest_of_deeds : JobRecord → Outcome → History
@@ -59,109 +59,109 @@ deeds job answer = entry (Offer job) (reply.Run 0 false) ∷ rest_of_deeds job a
 
 -- ---- one job
 
-pub offer_runs : (c b serial size id : ℕ) (order : Order) → is_over (idle c b) size ≡ false
-    → step (idle c b) (Offer (ping_job serial order size id)) ≡ (with_thread (Given (ping_job serial order size id)) (c + 1) (b + size), reply.Run 0 false)
+pub offer_runs : (base : State) (c b serial size id target level : ℕ) (order : Order) → is_over (idle base c b) size ≡ false
+    → step (idle base c b) (Offer (ping_job serial order size id target level)) ≡ (with_thread base (Given (ping_job serial order size id target level)) (c + 1) (b + size), reply.Run 0 false)
 unfolding chosen_thread
-offer_runs c b serial size id order over = ap (λ (x : Bool). offered (idle c b) (ping_job serial order size id) x) over
+offer_runs base c b serial size id target level order over = ap (λ (x : Bool). offered (idle base c b) (ping_job serial order size id target level) x) over
 
-pub offer_closes : (c b : ℕ) (job : JobRecord) → is_over (idle c b) job.size ≡ true → step (idle c b) (Offer job) ≡ (shut c b, reply.Closing)
-offer_closes c b job over = ap (λ (x : Bool). offered (idle c b) job x) over
+pub offer_closes : (base : State) (c b : ℕ) (job : JobRecord) → is_over (idle base c b) job.size ≡ true → step (idle base c b) (Offer job) ≡ (shut base c b, reply.Closing)
+offer_closes base c b job over = ap (λ (x : Bool). offered (idle base c b) job x) over
 
 four : (h : History) (e f g k : Entry State LaneCall LaneReply) → (((h ++ e ∷ []) ++ f ∷ []) ++ g ∷ []) ++ k ∷ [] ≡ h ++ e ∷ f ∷ g ∷ k ∷ []
 four h e f g k = simp append_assoc
 
 -- a given job is taken, finished and collected
-settles : (servant : JobRecord → Outcome) (c b serial size id : ℕ) (order : Order) (h : History) → let job = ping_job serial order size id in
-    settled servant (at (with_thread (Given job) c b) h)
-    ≡ at (idle c (b + body_len (servant job)))
+settles : (servant : JobRecord → Outcome) (base : State) (c b serial size id target level : ℕ) (order : Order) (h : History) → let job = ping_job serial order size id target level in
+    settled servant (at (with_thread base (Given job) c b) h)
+    ≡ at (idle base c (b + body_len (servant job)))
     (((h ++ entry (Take 0) (reply.Given job) ∷ []) ++ entry (Finish 0 (record { job = job; outcome = servant job })) reply.Finished ∷ [])
     ++ entry (Collect pipe_conn) (reply.Handed (Answered (record { job = job; outcome = servant job }))) ∷ [])
 unfolding next_job
-settles servant c b serial size id order h = refl
+settles servant base c b serial size id target level order h = refl
 
-ping_grouped : (servant : JobRecord → Outcome) (c b serial size id : ℕ) (order : Order) (h : History) (calls : List LaneCall) → is_over (idle c b) size ≡ false
-    → let job = ping_job serial order size id in
-    grouped servant 1 1 (at (idle c b) h) (Offer job ∷ calls)
-    ≡ grouped servant 1 1 (at (idle (c + 1) (b + size + body_len (servant job))) (h ++ deeds job (servant job))) calls
+ping_grouped : (servant : JobRecord → Outcome) (base : State) (c b serial size id target level : ℕ) (order : Order) (h : History) (calls : List LaneCall) → is_over (idle base c b) size ≡ false
+    → let job = ping_job serial order size id target level in
+    grouped servant 1 1 (at (idle base c b) h) (Offer job ∷ calls)
+    ≡ grouped servant 1 1 (at (idle base (c + 1) (b + size + body_len (servant job))) (h ++ deeds job (servant job))) calls
 unfolding owed
-ping_grouped servant c b serial size id order h calls over =
-    let job = ping_job serial order size id in
+ping_grouped servant base c b serial size id target level order h calls over =
+    let job = ping_job serial order size id target level in
     let e = entry (Offer job) (reply.Run 0 false) in
-    let first = ap (λ (x : State × LaneReply). grouped servant 1 1 (settled servant (at x.0 (h ++ entry (Offer job) x.1 ∷ []))) calls) (offer_runs c b serial size id order over) in
-    let follows = settles servant (c + 1) (b + size) serial size id order (h ++ e ∷ []) in
+    let first = ap (λ (x : State × LaneReply). grouped servant 1 1 (settled servant (at x.0 (h ++ entry (Offer job) x.1 ∷ []))) calls) (offer_runs base c b serial size id target level order over) in
+    let follows = settles servant base (c + 1) (b + size) serial size id target level order (h ++ e ∷ []) in
     let whole = four h e (entry (Take 0) (reply.Given job)) (entry (Finish 0 (record { job = job; outcome = servant job })) reply.Finished)
     (entry (Collect pipe_conn) (reply.Handed (Answered (record { job = job; outcome = servant job })))) in
-    first ∙ ap (λ (r : Run). grouped servant 1 1 r calls) (follows ∙ ap (at (idle (c + 1) (b + size + body_len (servant job)))) whole)
+    first ∙ ap (λ (r : Run). grouped servant 1 1 r calls) (follows ∙ ap (at (idle base (c + 1) (b + size + body_len (servant job)))) whole)
 
-one_grouped : (servant : JobRecord → Outcome) (c b : ℕ) (job : JobRecord) (h : History) (calls : List LaneCall) → IsPingJob job → is_over (idle c b) job.size ≡ false
-    → grouped servant 1 1 (at (idle c b) h) (Offer job ∷ calls)
-    ≡ grouped servant 1 1 (at (idle (c + 1) (b + job.size + body_len (servant job))) (h ++ deeds job (servant job))) calls
-one_grouped servant c b job h calls ping over =
-    subst (λ (j : JobRecord). grouped servant 1 1 (at (idle c b) h) (Offer j ∷ calls)
-    ≡ grouped servant 1 1 (at (idle (c + 1) (b + j.size + body_len (servant j))) (h ++ deeds j (servant j))) calls)
-    (sym ping) (ping_grouped servant c b job.serial job.size job.id job.order h calls over)
+one_grouped : (servant : JobRecord → Outcome) (base : State) (c b : ℕ) (job : JobRecord) (h : History) (calls : List LaneCall) → IsPingJob job → is_over (idle base c b) job.size ≡ false
+    → grouped servant 1 1 (at (idle base c b) h) (Offer job ∷ calls)
+    ≡ grouped servant 1 1 (at (idle base (c + 1) (b + job.size + body_len (servant job))) (h ++ deeds job (servant job))) calls
+one_grouped servant base c b job h calls ping over =
+    subst (λ (j : JobRecord). grouped servant 1 1 (at (idle base c b) h) (Offer j ∷ calls)
+    ≡ grouped servant 1 1 (at (idle base (c + 1) (b + j.size + body_len (servant j))) (h ++ deeds j (servant j))) calls)
+    (sym ping) (ping_grouped servant base c b job.serial job.size job.id job.target job.priority job.order h calls over)
 
-shut_stays : (servant : JobRecord → Outcome) (c b : ℕ) (h : History) (calls : List LaneCall) → grouped servant 1 1 (at (shut c b) h) calls ≡ at (shut c b) h
-shut_stays servant c b h [] = refl
-shut_stays servant c b h (call ∷ calls) = refl
+shut_stays : (servant : JobRecord → Outcome) (base : State) (c b : ℕ) (h : History) (calls : List LaneCall) → grouped servant 1 1 (at (shut base c b) h) calls ≡ at (shut base c b) h
+shut_stays servant base c b h [] = refl
+shut_stays servant base c b h (call ∷ calls) = refl
 
-shut_grouped : (servant : JobRecord → Outcome) (c b serial size id : ℕ) (order : Order) (h : History) (calls : List LaneCall) → is_over (idle c b) size ≡ true
-    → let job = ping_job serial order size id in
-    grouped servant 1 1 (at (idle c b) h) (Offer job ∷ calls) ≡ at (shut c b) (h ++ entry (Offer job) reply.Closing ∷ [])
+shut_grouped : (servant : JobRecord → Outcome) (base : State) (c b serial size id target level : ℕ) (order : Order) (h : History) (calls : List LaneCall) → is_over (idle base c b) size ≡ true
+    → let job = ping_job serial order size id target level in
+    grouped servant 1 1 (at (idle base c b) h) (Offer job ∷ calls) ≡ at (shut base c b) (h ++ entry (Offer job) reply.Closing ∷ [])
 unfolding owed
-shut_grouped servant c b serial size id order h calls over =
-    let job = ping_job serial order size id in
-    ap (λ (x : State × LaneReply). grouped servant 1 1 (settled servant (at x.0 (h ++ entry (Offer job) x.1 ∷ []))) calls) (offer_closes c b job over)
-    ∙ shut_stays servant c b (h ++ entry (Offer job) reply.Closing ∷ []) calls
+shut_grouped servant base c b serial size id target level order h calls over =
+    let job = ping_job serial order size id target level in
+    ap (λ (x : State × LaneReply). grouped servant 1 1 (settled servant (at x.0 (h ++ entry (Offer job) x.1 ∷ []))) calls) (offer_closes base c b job over)
+    ∙ shut_stays servant base c b (h ++ entry (Offer job) reply.Closing ∷ []) calls
 
-one_shut : (servant : JobRecord → Outcome) (c b : ℕ) (job : JobRecord) (h : History) (calls : List LaneCall) → IsPingJob job → is_over (idle c b) job.size ≡ true
-    → grouped servant 1 1 (at (idle c b) h) (Offer job ∷ calls) ≡ at (shut c b) (h ++ entry (Offer job) reply.Closing ∷ [])
-one_shut servant c b job h calls ping over =
-    subst (λ (j : JobRecord). grouped servant 1 1 (at (idle c b) h) (Offer j ∷ calls) ≡ at (shut c b) (h ++ entry (Offer j) reply.Closing ∷ []))
-    (sym ping) (shut_grouped servant c b job.serial job.size job.id job.order h calls over)
+one_shut : (servant : JobRecord → Outcome) (base : State) (c b : ℕ) (job : JobRecord) (h : History) (calls : List LaneCall) → IsPingJob job → is_over (idle base c b) job.size ≡ true
+    → grouped servant 1 1 (at (idle base c b) h) (Offer job ∷ calls) ≡ at (shut base c b) (h ++ entry (Offer job) reply.Closing ∷ [])
+one_shut servant base c b job h calls ping over =
+    subst (λ (j : JobRecord). grouped servant 1 1 (at (idle base c b) h) (Offer j ∷ calls) ≡ at (shut base c b) (h ++ entry (Offer j) reply.Closing ∷ []))
+    (sym ping) (shut_grouped servant base c b job.serial job.size job.id job.target job.priority job.order h calls over)
 
 -- ---- what is done for a job is legal, and leads where it should
 
-ping_legal : (c b serial size id : ℕ) (order : Order) (answer : Outcome) (h : History) → is_over (idle c b) size ≡ false → body_len answer ≤ MAX_BODY
-    → IsLegal (idle (c + 1) (b + size + body_len answer)) h → IsLegal (idle c b) (deeds (ping_job serial order size id) answer ++ h)
+ping_legal : (base : State) (c b serial size id target level : ℕ) (order : Order) (answer : Outcome) (h : History) → is_over (idle base c b) size ≡ false → body_len answer ≤ MAX_BODY
+    → IsLegal (idle base (c + 1) (b + size + body_len answer)) h → IsLegal (idle base c b) (deeds (ping_job serial order size id target level) answer ++ h)
 unfolding owed next_job
-ping_legal c b serial size id order answer h over short legal =
-    let job = ping_job serial order size id in
-    let runs = offer_runs c b serial size id order over in
-    let behind : IsLegal (with_thread (Given job) (c + 1) (b + size)) (rest_of_deeds job answer ++ h) =
+ping_legal base c b serial size id target level order answer h over short legal =
+    let job = ping_job serial order size id target level in
+    let runs = offer_runs base c b serial size id target level order over in
+    let behind : IsLegal (with_thread base (Given job) (c + 1) (b + size)) (rest_of_deeds job answer ++ h) =
     (refl, refl, refl, (refl, (refl, short), refl, (refl, tt, refl, legal))) in (
       refl,
-      λ _. refl,
+      λ never. absurd (cc),
       sym (ap (λ (x : State × LaneReply). x.1) runs),
       subst (λ (s : State). IsLegal s (rest_of_deeds job answer ++ h)) (sym (ap (λ (x : State × LaneReply). x.0) runs)) behind,
     )
 
-one_legal : (c b : ℕ) (job : JobRecord) (answer : Outcome) (h : History) → IsPingJob job → is_over (idle c b) job.size ≡ false → body_len answer ≤ MAX_BODY
-    → IsLegal (idle (c + 1) (b + job.size + body_len answer)) h → IsLegal (idle c b) (deeds job answer ++ h)
-one_legal c b job answer h ping over short legal =
-    subst (λ (j : JobRecord). IsLegal (idle c b) (deeds j answer ++ h)) (sym ping)
-    (ping_legal c b job.serial job.size job.id job.order answer h over short legal)
+one_legal : (base : State) (c b : ℕ) (job : JobRecord) (answer : Outcome) (h : History) → IsPingJob job → is_over (idle base c b) job.size ≡ false → body_len answer ≤ MAX_BODY
+    → IsLegal (idle base (c + 1) (b + job.size + body_len answer)) h → IsLegal (idle base c b) (deeds job answer ++ h)
+one_legal base c b job answer h ping over short legal =
+    subst (λ (j : JobRecord). IsLegal (idle base c b) (deeds j answer ++ h)) (sym ping)
+    (ping_legal base c b job.serial job.size job.id job.target job.priority job.order answer h over short legal)
 
-ping_stands : (c b serial size id : ℕ) (order : Order) (answer : Outcome) (h : History) → is_over (idle c b) size ≡ false
-    → replay (idle c b) (deeds (ping_job serial order size id) answer ++ h) ≡ replay (idle (c + 1) (b + size + body_len answer)) h
+ping_stands : (base : State) (c b serial size id target level : ℕ) (order : Order) (answer : Outcome) (h : History) → is_over (idle base c b) size ≡ false
+    → replay (idle base c b) (deeds (ping_job serial order size id target level) answer ++ h) ≡ replay (idle base (c + 1) (b + size + body_len answer)) h
 unfolding next_job
-ping_stands c b serial size id order answer h over =
-    ap (λ (x : State × LaneReply). replay x.0 (rest_of_deeds (ping_job serial order size id) answer ++ h)) (offer_runs c b serial size id order over)
+ping_stands base c b serial size id target level order answer h over =
+    ap (λ (x : State × LaneReply). replay x.0 (rest_of_deeds (ping_job serial order size id target level) answer ++ h)) (offer_runs base c b serial size id target level order over)
 
-one_stands : (c b : ℕ) (job : JobRecord) (answer : Outcome) (h : History) → IsPingJob job → is_over (idle c b) job.size ≡ false
-    → replay (idle c b) (deeds job answer ++ h) ≡ replay (idle (c + 1) (b + job.size + body_len answer)) h
-one_stands c b job answer h ping over =
-    subst (λ (j : JobRecord). replay (idle c b) (deeds j answer ++ h) ≡ replay (idle (c + 1) (b + j.size + body_len answer)) h) (sym ping)
-    (ping_stands c b job.serial job.size job.id job.order answer h over)
+one_stands : (base : State) (c b : ℕ) (job : JobRecord) (answer : Outcome) (h : History) → IsPingJob job → is_over (idle base c b) job.size ≡ false
+    → replay (idle base c b) (deeds job answer ++ h) ≡ replay (idle base (c + 1) (b + job.size + body_len answer)) h
+one_stands base c b job answer h ping over =
+    subst (λ (j : JobRecord). replay (idle base c b) (deeds j answer ++ h) ≡ replay (idle base (c + 1) (b + j.size + body_len answer)) h) (sym ping)
+    (ping_stands base c b job.serial job.size job.id job.target job.priority job.order answer h over)
 
 one_says : (job : JobRecord) (answer : Outcome) (h : History) → said pipe_conn (deeds job answer ++ h) ≡ item_bytes (Answered (record { job = job; outcome = answer })) ++ said pipe_conn h
 one_says job answer h = refl
 
-shut_legal : (c b : ℕ) (job : JobRecord) → IsPingJob job → is_over (idle c b) job.size ≡ true → IsLegal (idle c b) (entry (Offer job) reply.Closing ∷ [])
+shut_legal : (base : State) (c b : ℕ) (job : JobRecord) → IsPingJob job → is_over (idle base c b) job.size ≡ true → IsLegal (idle base c b) (entry (Offer job) reply.Closing ∷ [])
 unfolding owed
-shut_legal c b job ping over =
-    subst (λ (j : JobRecord). is_over (idle c b) j.size ≡ true → IsLegal (idle c b) (entry (Offer j) reply.Closing ∷ [])) (sym ping)
-    (λ over. (refl, λ _. refl, sym (ap (λ (x : State × LaneReply). x.1) (offer_closes c b (ping_job job.serial job.order job.size job.id) over)), tt)) over
+shut_legal base c b job ping over =
+    subst (λ (j : JobRecord). is_over (idle base c b) j.size ≡ true → IsLegal (idle base c b) (entry (Offer j) reply.Closing ∷ [])) (sym ping)
+    (λ over. (refl, λ never. absurd (cc), sym (ap (λ (x : State × LaneReply). x.1) (offer_closes base c b (ping_job job.serial job.order job.size job.id job.target job.priority) over)), tt)) over
 
 -- ---- all jobs
 
@@ -172,29 +172,29 @@ Agrees servant (job ∷ jobs) [] = Unit {0}
 Agrees servant (job ∷ jobs) (answer ∷ answers) = (servant job ≡ answer) × Agrees servant jobs answers
 
 -- each answer is the outcome, or came for want of memory
-abbrev pub Came : (List ℕ → JobRecord → Outcome) → List JobRecord → List Outcome → Type 0
+abbrev pub Came : (JobRecord → Outcome) → List JobRecord → List Outcome → Type 0
 Came outcome [] answers = Unit {0}
 Came outcome (job ∷ jobs) [] = Unit {0}
-Came outcome (job ∷ jobs) (answer ∷ answers) = IsAnswered answer (outcome ping_interface job) × Came outcome jobs answers
+Came outcome (job ∷ jobs) (answer ∷ answers) = IsAnswered answer (outcome job) × Came outcome jobs answers
 
-pub record Grouped (outcome : List ℕ → JobRecord → Outcome) (jobs : List JobRecord) (c b : ℕ) (s : State) (bytes : List ℕ) : Type 0 where
+pub record Grouped (outcome : JobRecord → Outcome) (jobs : List JobRecord) (base : State) (c b : ℕ) (s : State) (bytes : List ℕ) : Type 0 where
   pub answers : List Outcome
   pub came : Came outcome jobs answers
   pub history : History
-  pub run : (servant : JobRecord → Outcome) → Agrees servant jobs answers → (h : History) → grouped servant 1 1 (at (idle c b) h) (offers jobs) ≡ at s (h ++ history)
-  pub legal : IsLegal (idle c b) history
-  pub stands : replay (idle c b) history ≡ s
+  pub run : (servant : JobRecord → Outcome) → Agrees servant jobs answers → (h : History) → grouped servant 1 1 (at (idle base c b) h) (offers jobs) ≡ at s (h ++ history)
+  pub legal : IsLegal (idle base c b) history
+  pub stands : replay (idle base c b) history ≡ s
   pub says : said pipe_conn history ≡ bytes
   pub settled_so : IsSettled s
   pub told : has_closing history ≡ s.closing
   pub no_end : has_end history ≡ false
 
-none_grouped : (outcome : List ℕ → JobRecord → Outcome) (c b : ℕ) → Grouped outcome [] c b (idle c b) []
-none_grouped outcome c b = record {
+none_grouped : (outcome : JobRecord → Outcome) (base : State) (c b : ℕ) → Grouped outcome [] base c b (idle base c b) []
+none_grouped outcome base c b = record {
   answers = [];
   came = tt;
   history = [];
-  run = λ servant _ h. ap (at (idle c b)) (sym (append-nil h));
+  run = λ servant _ h. ap (at (idle base c b)) (sym (append-nil h));
   legal = tt;
   stands = refl;
   says = refl;
@@ -203,49 +203,49 @@ none_grouped outcome c b = record {
   no_end = refl;
 }
 
-shut_run : (outcome : List ℕ → JobRecord → Outcome) (job : JobRecord) (jobs : List JobRecord) (c b : ℕ) → IsPingJob job → is_over (idle c b) job.size ≡ true → Grouped outcome (job ∷ jobs) c b (shut c b) []
-shut_run outcome job jobs c b ping over = record {
+shut_run : (outcome : JobRecord → Outcome) (job : JobRecord) (jobs : List JobRecord) (base : State) (c b : ℕ) → IsPingJob job → is_over (idle base c b) job.size ≡ true → Grouped outcome (job ∷ jobs) base c b (shut base c b) []
+shut_run outcome job jobs base c b ping over = record {
   answers = [];
   came = tt;
   history = entry (Offer job) reply.Closing ∷ [];
-  run = λ servant _ h. one_shut servant c b job h (offers jobs) ping over;
-  legal = shut_legal c b job ping over;
-  stands = ap (λ (x : State × LaneReply). x.0) (offer_closes c b job over);
+  run = λ servant _ h. one_shut servant base c b job h (offers jobs) ping over;
+  legal = shut_legal base c b job ping over;
+  stands = ap (λ (x : State × LaneReply). x.0) (offer_closes base c b job over);
   says = refl;
   settled_so = refl;
   told = refl;
   no_end = refl;
 }
 
-more_grouped : (outcome : List ℕ → JobRecord → Outcome) (job : JobRecord) (jobs : List JobRecord) (c b : ℕ) (mid s : State) (first rest : List ℕ) → IsPingJob job
-    → (ran : Ran outcome job (idle c b) mid first) → Grouped outcome jobs (c + 1) (b + job.size + body_len ran.answer) s rest
-    → Grouped outcome (job ∷ jobs) c b s (first ++ rest)
-more_grouped outcome job jobs c b mid s first rest ping ran others = record {
+more_grouped : (outcome : JobRecord → Outcome) (job : JobRecord) (jobs : List JobRecord) (base : State) (c b : ℕ) (mid s : State) (first rest : List ℕ) → IsPingJob job
+    → (ran : Ran outcome job (idle base c b) mid first) → Grouped outcome jobs base (c + 1) (b + job.size + body_len ran.answer) s rest
+    → Grouped outcome (job ∷ jobs) base c b s (first ++ rest)
+more_grouped outcome job jobs base c b mid s first rest ping ran others = record {
   answers = ran.answer ∷ others.answers;
   came = (ran.came, others.came);
   history = deeds job ran.answer ++ others.history;
   run = λ servant agrees h.
-      one_grouped servant c b job h (offers jobs) ping ran.admitted
-      ∙ ap (λ (o : Outcome). grouped servant 1 1 (at (idle (c + 1) (b + job.size + body_len o)) (h ++ deeds job o)) (offers jobs)) agrees.0
+      one_grouped servant base c b job h (offers jobs) ping ran.admitted
+      ∙ ap (λ (o : Outcome). grouped servant 1 1 (at (idle base (c + 1) (b + job.size + body_len o)) (h ++ deeds job o)) (offers jobs)) agrees.0
       ∙ others.run servant agrees.1 (h ++ deeds job ran.answer)
       ∙ ap (at s) (simp append_assoc);
-  legal = one_legal c b job ran.answer others.history ping ran.admitted ran.short others.legal;
-  stands = one_stands c b job ran.answer others.history ping ran.admitted ∙ others.stands;
+  legal = one_legal base c b job ran.answer others.history ping ran.admitted ran.short others.legal;
+  stands = one_stands base c b job ran.answer others.history ping ran.admitted ∙ others.stands;
   says = one_says job ran.answer others.history ∙ ap (λ (x : List ℕ). x ++ said pipe_conn others.history) (sym ran.reply) ∙ ap (λ (x : List ℕ). first ++ x) others.says;
   settled_so = others.settled_so;
   told = others.told;
   no_end = others.no_end;
 }
 
-pub runs_grouped : (outcome : List ℕ → JobRecord → Outcome) (n : ℕ) (jobs : List JobRecord) (c b : ℕ) (s : State) (bytes : List ℕ) → ArePingJobs n jobs → Runs outcome jobs (idle c b) s bytes → Grouped outcome jobs c b s bytes
-runs_grouped outcome n [] c b s bytes pings (is, none) =
-    subst (λ (x : State). Grouped outcome [] c b x bytes) (sym is) (subst (λ (x : List ℕ). Grouped outcome [] c b (idle c b) x) (sym none) (none_grouped outcome c b))
-runs_grouped outcome n (job ∷ jobs) c b s bytes (ping, numbered, pings) (inl refused) =
-    subst (λ (x : State). Grouped outcome (job ∷ jobs) c b x bytes) (sym refused.moved)
-    (subst (λ (x : List ℕ). Grouped outcome (job ∷ jobs) c b (shut c b) x) (sym refused.silent) (shut_run outcome job jobs c b ping refused.over))
-runs_grouped outcome n (job ∷ jobs) c b s bytes (ping, numbered, pings) (inr (mid, first, rest, ran, runs, joined)) =
-    let further = runs_grouped outcome (suc n) jobs (c + 1) (b + job.size + body_len ran.answer) s rest pings (subst (λ (x : State). Runs outcome jobs x s rest) ran.moved runs) in
-    subst (λ (x : List ℕ). Grouped outcome (job ∷ jobs) c b s x) (sym joined) (more_grouped outcome job jobs c b mid s first rest ping ran further)
+pub runs_grouped : (outcome : JobRecord → Outcome) (n : ℕ) (jobs : List JobRecord) (base : State) (c b : ℕ) (s : State) (bytes : List ℕ) → ArePingJobs n jobs → Runs outcome jobs (idle base c b) s bytes → Grouped outcome jobs base c b s bytes
+runs_grouped outcome n [] base c b s bytes pings (is, none) =
+    subst (λ (x : State). Grouped outcome [] base c b x bytes) (sym is) (subst (λ (x : List ℕ). Grouped outcome [] base c b (idle base c b) x) (sym none) (none_grouped outcome base c b))
+runs_grouped outcome n (job ∷ jobs) base c b s bytes (ping, numbered, pings) (inl refused) =
+    subst (λ (x : State). Grouped outcome (job ∷ jobs) base c b x bytes) (sym refused.moved)
+    (subst (λ (x : List ℕ). Grouped outcome (job ∷ jobs) base c b (shut base c b) x) (sym refused.silent) (shut_run outcome job jobs base c b ping refused.over))
+runs_grouped outcome n (job ∷ jobs) base c b s bytes (ping, numbered, pings) (inr (mid, first, rest, ran, runs, joined)) =
+    let further = runs_grouped outcome (suc n) jobs base (c + 1) (b + job.size + body_len ran.answer) s rest pings (subst (λ (x : State). Runs outcome jobs x s rest) ran.moved runs) in
+    subst (λ (x : List ℕ). Grouped outcome (job ∷ jobs) base c b s x) (sym joined) (more_grouped outcome job jobs base c b mid s first rest ping ran further)
 
 -- ---- up to the collect of one answer
 
@@ -260,21 +260,21 @@ pub record CutAt (history : History) (so_far reply : List ℕ) : Type 0 where
   pub told : has_closing before ≡ false
   pub no_end : has_end before ≡ false
 
-pub record GroupedTo (outcome : List ℕ → JobRecord → Outcome) (jobs : List JobRecord) (c b : ℕ) (so_far reply : List ℕ) : Type 0 where
+pub record GroupedTo (outcome : JobRecord → Outcome) (jobs : List JobRecord) (base : State) (c b : ℕ) (so_far reply : List ℕ) : Type 0 where
   pub behind : State
   pub bytes : List ℕ
-  pub grouped : Grouped outcome jobs c b behind bytes
+  pub grouped : Grouped outcome jobs base c b behind bytes
   pub cut : CutAt grouped.history so_far reply
 
 -- the answer to the first job
-first_cut : (outcome : List ℕ → JobRecord → Outcome) (job : JobRecord) (jobs : List JobRecord) (c b : ℕ) (mid s : State) (first rest : List ℕ) → IsPingJob job
-    → (ran : Ran outcome job (idle c b) mid first) → Grouped outcome jobs (c + 1) (b + job.size + body_len ran.answer) s rest
-    → GroupedTo outcome (job ∷ jobs) c b [] first
+first_cut : (outcome : JobRecord → Outcome) (job : JobRecord) (jobs : List JobRecord) (base : State) (c b : ℕ) (mid s : State) (first rest : List ℕ) → IsPingJob job
+    → (ran : Ran outcome job (idle base c b) mid first) → Grouped outcome jobs base (c + 1) (b + job.size + body_len ran.answer) s rest
+    → GroupedTo outcome (job ∷ jobs) base c b [] first
 unfolding more_grouped
-first_cut outcome job jobs c b mid s first rest ping ran others = record {
+first_cut outcome job jobs base c b mid s first rest ping ran others = record {
   behind = s;
   bytes = first ++ rest;
-  grouped = more_grouped outcome job jobs c b mid s first rest ping ran others;
+  grouped = more_grouped outcome job jobs base c b mid s first rest ping ran others;
   cut = record {
     before = entry (Offer job) (reply.Run 0 false) ∷ entry (Take 0) (reply.Given job) ∷ entry (Finish 0 (record { job = job; outcome = ran.answer })) reply.Finished ∷ [];
     last = entry (Collect pipe_conn) (reply.Handed (Answered (record { job = job; outcome = ran.answer })));
@@ -288,17 +288,17 @@ first_cut outcome job jobs c b mid s first rest ping ran others = record {
 }
 
 -- the answer to a later one
-later_cut : (outcome : List ℕ → JobRecord → Outcome) (job : JobRecord) (jobs : List JobRecord) (c b : ℕ) (mid : State) (first so_far reply_bytes : List ℕ) → IsPingJob job
-    → (ran : Ran outcome job (idle c b) mid first) → GroupedTo outcome jobs (c + 1) (b + job.size + body_len ran.answer) so_far reply_bytes
-    → GroupedTo outcome (job ∷ jobs) c b (first ++ so_far) reply_bytes
+later_cut : (outcome : JobRecord → Outcome) (job : JobRecord) (jobs : List JobRecord) (base : State) (c b : ℕ) (mid : State) (first so_far reply_bytes : List ℕ) → IsPingJob job
+    → (ran : Ran outcome job (idle base c b) mid first) → GroupedTo outcome jobs base (c + 1) (b + job.size + body_len ran.answer) so_far reply_bytes
+    → GroupedTo outcome (job ∷ jobs) base c b (first ++ so_far) reply_bytes
 unfolding more_grouped
-later_cut outcome job jobs c b mid first so_far reply_bytes ping ran others =
+later_cut outcome job jobs base c b mid first so_far reply_bytes ping ran others =
     let d = deeds job ran.answer in
     let cut = others.cut in
     record {
       behind = others.behind;
       bytes = first ++ others.bytes;
-      grouped = more_grouped outcome job jobs c b mid others.behind first others.bytes ping ran others.grouped;
+      grouped = more_grouped outcome job jobs base c b mid others.behind first others.bytes ping ran others.grouped;
       cut = record {
         before = d ++ cut.before;
         last = cut.last;
@@ -311,99 +311,94 @@ later_cut outcome job jobs c b mid first so_far reply_bytes ping ran others =
       };
     }
 
-pub cut_grouped : (outcome : List ℕ → JobRecord → Outcome) (n : ℕ) (done : List JobRecord) (job : JobRecord) (left : List JobRecord) (c b : ℕ) (mid mid' s : State) (so_far reply_bytes others : List ℕ)
-    → ArePingJobs n (done ++ job ∷ left) → RunsOn outcome done (idle c b) mid so_far → Ran outcome job mid mid' reply_bytes → Runs outcome left mid' s others
-    → GroupedTo outcome (done ++ job ∷ left) c b so_far reply_bytes
-cut_grouped outcome n [] job left c b mid mid' s so_far reply_bytes others (ping, numbered, pings) (is, none) ran later =
-    let here : Ran outcome job (idle c b) mid' reply_bytes = subst (λ (x : State). Ran outcome job x mid' reply_bytes) is ran in
-    let further = runs_grouped outcome (suc n) left (c + 1) (b + job.size + body_len here.answer) s others pings (subst (λ (x : State). Runs outcome left x s others) here.moved later) in
-    subst (λ (x : List ℕ). GroupedTo outcome (job ∷ left) c b x reply_bytes) (sym none) (first_cut outcome job left c b mid' s reply_bytes others ping here further)
-cut_grouped outcome n (d ∷ done) job left c b mid mid' s so_far reply_bytes others (ping, numbered, pings) (next, first, rest, ran_d, runs, joined) ran later =
-    let further = cut_grouped outcome (suc n) done job left (c + 1) (b + d.size + body_len ran_d.answer) mid mid' s rest reply_bytes others pings
+pub cut_grouped : (outcome : JobRecord → Outcome) (n : ℕ) (done : List JobRecord) (job : JobRecord) (left : List JobRecord) (base : State) (c b : ℕ) (mid mid' s : State) (so_far reply_bytes others : List ℕ)
+    → ArePingJobs n (done ++ job ∷ left) → RunsOn outcome done (idle base c b) mid so_far → Ran outcome job mid mid' reply_bytes → Runs outcome left mid' s others
+    → GroupedTo outcome (done ++ job ∷ left) base c b so_far reply_bytes
+cut_grouped outcome n [] job left base c b mid mid' s so_far reply_bytes others (ping, numbered, pings) (is, none) ran later =
+    let here : Ran outcome job (idle base c b) mid' reply_bytes = subst (λ (x : State). Ran outcome job x mid' reply_bytes) is ran in
+    let further = runs_grouped outcome (suc n) left base (c + 1) (b + job.size + body_len here.answer) s others pings (subst (λ (x : State). Runs outcome left x s others) here.moved later) in
+    subst (λ (x : List ℕ). GroupedTo outcome (job ∷ left) base c b x reply_bytes) (sym none) (first_cut outcome job left base c b mid' s reply_bytes others ping here further)
+cut_grouped outcome n (d ∷ done) job left base c b mid mid' s so_far reply_bytes others (ping, numbered, pings) (next, first, rest, ran_d, runs, joined) ran later =
+    let further = cut_grouped outcome (suc n) done job left base (c + 1) (b + d.size + body_len ran_d.answer) mid mid' s rest reply_bytes others pings
     (subst (λ (x : State). RunsOn outcome done x mid rest) ran_d.moved runs) ran later in
-    subst (λ (x : List ℕ). GroupedTo outcome (d ∷ (done ++ job ∷ left)) c b x reply_bytes) (sym joined)
-    (later_cut outcome d (done ++ job ∷ left) c b next first rest reply_bytes ping ran_d further)
+    subst (λ (x : List ℕ). GroupedTo outcome (d ∷ (done ++ job ∷ left)) base c b x reply_bytes) (sym joined)
+    (later_cut outcome d (done ++ job ∷ left) base c b next first rest reply_bytes ping ran_d further)
 
 -- ---- the jobs for which memory was wanting
 
-pub record Lacking (outcome : List ℕ → JobRecord → Outcome) (n : ℕ) (jobs : List JobRecord) (answers : List Outcome) : Type 0 where
+pub record Lacking (setup : SetupData) (outcome : List ℕ → JobRecord → Outcome) (n : ℕ) (jobs : List JobRecord) (answers : List Outcome) : Type 0 where
   pub lacks : List ℕ
   pub later : (m : ℕ) → m < n → list_any (λ serial. serial == m) lacks ≡ false
-  pub agrees : Agrees (answer_of built_in outcome lacks) jobs answers
-  pub spares : Spares built_in outcome lacks (offers jobs)
+  pub agrees : Agrees (answer_of setup outcome lacks) jobs answers
+  pub spares : Spares setup outcome lacks (offers jobs)
 
 -- memory is wanting to none
-none_spares : (outcome : List ℕ → JobRecord → Outcome) (jobs : List JobRecord) → Spares built_in outcome [] (offers jobs)
-none_spares outcome [] = tt
-none_spares outcome (job ∷ jobs) = (λ bad. refl, none_spares outcome jobs)
+none_spares : (setup : SetupData) (outcome : List ℕ → JobRecord → Outcome) (jobs : List JobRecord) → Spares setup outcome [] (offers jobs)
+none_spares setup outcome [] = tt
+none_spares setup outcome (job ∷ jobs) = (λ bad. refl, none_spares setup outcome jobs)
 
 -- one more serial among them says nothing of later jobs
-weaker : (outcome : List ℕ → JobRecord → Outcome) (n k : ℕ) (lacks : List ℕ) (jobs : List JobRecord) (answers : List Outcome) → n < k → ArePingJobs k jobs
-    → Agrees (answer_of built_in outcome lacks) jobs answers → Agrees (answer_of built_in outcome (n ∷ lacks)) jobs answers
-weaker outcome n k lacks [] answers lt pings agrees = tt
-weaker outcome n k lacks (job ∷ jobs) [] lt pings agrees = tt
-weaker outcome n k lacks (job ∷ jobs) (answer ∷ answers) lt (ping, numbered, pings) (first, others) =
+weaker : (setup : SetupData) (outcome : List ℕ → JobRecord → Outcome) (n k : ℕ) (lacks : List ℕ) (jobs : List JobRecord) (answers : List Outcome) → n < k → ArePingJobs k jobs
+    → Agrees (answer_of setup outcome lacks) jobs answers → Agrees (answer_of setup outcome (n ∷ lacks)) jobs answers
+weaker setup outcome n k lacks [] answers lt pings agrees = tt
+weaker setup outcome n k lacks (job ∷ jobs) [] lt pings agrees = tt
+weaker setup outcome n k lacks (job ∷ jobs) (answer ∷ answers) lt (ping, numbered, pings) (first, others) =
     let other : (n == job.serial) ≡ false = ne_eqb n job.serial (λ same. omega (arith, same, numbered)) in
-    let here = ap (λ (x : Bool). if (x || list_any (λ serial. serial == job.serial) lacks) then no_memory else outcome (interface_of built_in job.target) job) other in
-    (here ∙ first, weaker outcome n (suc k) lacks jobs answers (omega arith) pings others)
+    let here = ap (λ (x : Bool). if (x || list_any (λ serial. serial == job.serial) lacks) then no_memory else outcome (interface_of setup job.target) job) other in
+    (here ∙ first, weaker setup outcome n (suc k) lacks jobs answers (omega arith) pings others)
 
 -- nor does it lack memory to later jobs
-spares_later : (outcome : List ℕ → JobRecord → Outcome) (n k : ℕ) (lacks : List ℕ) (jobs : List JobRecord) → n < k → ArePingJobs k jobs
-    → Spares built_in outcome lacks (offers jobs) → Spares built_in outcome (n ∷ lacks) (offers jobs)
-spares_later outcome n k lacks [] lt pings spares = tt
-spares_later outcome n k lacks (job ∷ jobs) lt (ping, numbered, pings) (first, others) =
+spares_later : (setup : SetupData) (outcome : List ℕ → JobRecord → Outcome) (n k : ℕ) (lacks : List ℕ) (jobs : List JobRecord) → n < k → ArePingJobs k jobs
+    → Spares setup outcome lacks (offers jobs) → Spares setup outcome (n ∷ lacks) (offers jobs)
+spares_later setup outcome n k lacks [] lt pings spares = tt
+spares_later setup outcome n k lacks (job ∷ jobs) lt (ping, numbered, pings) (first, others) =
     let other : (n == job.serial) ≡ false = ne_eqb n job.serial (λ same. omega (arith, same, numbered)) in (
       λ bad. ap (λ (x : Bool). x || list_any (λ serial. serial == job.serial) lacks) other ∙ first bad,
-      spares_later outcome n (suc k) lacks jobs (omega arith) pings others,
+      spares_later setup outcome n (suc k) lacks jobs (omega arith) pings others,
     )
 
--- the interface of the object of a ping
-at_ping : (outcome : List ℕ → JobRecord → Outcome) (job : JobRecord) → IsPingJob job → outcome (interface_of built_in job.target) job ≡ outcome ping_interface job
-at_ping outcome job ping = ap (λ (target : ℕ). outcome (interface_of built_in target) job) (ap (λ (j : JobRecord). j.target) ping)
+-- a servant to whose job memory isn't wanting answers the outcome
+served : (setup : SetupData) (outcome : List ℕ → JobRecord → Outcome) (lacks : List ℕ) (job : JobRecord) → list_any (λ serial. serial == job.serial) lacks ≡ false
+    → answer_of setup outcome lacks job ≡ outcome_at setup outcome job
+served setup outcome lacks job none = ap (λ (x : Bool). if x then no_memory else outcome (interface_of setup job.target) job) none
 
-served : (outcome : List ℕ → JobRecord → Outcome) (lacks : List ℕ) (job : JobRecord) → IsPingJob job → list_any (λ serial. serial == job.serial) lacks ≡ false
-    → answer_of built_in outcome lacks job ≡ outcome ping_interface job
-served outcome lacks job ping none =
-    ap (λ (x : Bool). if x then no_memory else outcome (interface_of built_in job.target) job) none
-    ∙ ap (λ (target : ℕ). outcome (interface_of built_in target) job) (ap (λ (j : JobRecord). j.target) ping)
-
-pub lacking : (outcome : List ℕ → JobRecord → Outcome) (n : ℕ) (jobs : List JobRecord) (answers : List Outcome) → ArePingJobs n jobs → Came outcome jobs answers → Lacking outcome n jobs answers
-lacking outcome n [] answers pings came = record { lacks = []; later = λ m lt. refl; agrees = tt; spares = tt }
-lacking outcome n (job ∷ jobs) [] pings came = record { lacks = []; later = λ m lt. refl; agrees = tt; spares = none_spares outcome (job ∷ jobs) }
-lacking outcome n (job ∷ jobs) (answer ∷ answers) (ping, numbered, pings) (inl is, came) =
-    let others = lacking outcome (suc n) jobs answers pings came in
+pub lacking : (setup : SetupData) (outcome : List ℕ → JobRecord → Outcome) (n : ℕ) (jobs : List JobRecord) (answers : List Outcome) → ArePingJobs n jobs → Came (outcome_at setup outcome) jobs answers → Lacking setup outcome n jobs answers
+lacking setup outcome n [] answers pings came = record { lacks = []; later = λ m lt. refl; agrees = tt; spares = tt }
+lacking setup outcome n (job ∷ jobs) [] pings came = record { lacks = []; later = λ m lt. refl; agrees = tt; spares = none_spares setup outcome (job ∷ jobs) }
+lacking setup outcome n (job ∷ jobs) (answer ∷ answers) (ping, numbered, pings) (inl is, came) =
+    let others = lacking setup outcome (suc n) jobs answers pings came in
     record {
       lacks = others.lacks;
       later = λ m lt. others.later m (omega arith);
-      agrees = (served outcome others.lacks job ping (others.later job.serial (omega (arith, numbered))) ∙ sym is, others.agrees);
+      agrees = (served setup outcome others.lacks job (others.later job.serial (omega (arith, numbered))) ∙ sym is, others.agrees);
       spares = (λ bad. others.later job.serial (omega (arith, numbered)), others.spares);
     }
-lacking outcome n (job ∷ jobs) (answer ∷ answers) (ping, numbered, pings) (inr (is, other), came) =
-    let others = lacking outcome (suc n) jobs answers pings came in
+lacking setup outcome n (job ∷ jobs) (answer ∷ answers) (ping, numbered, pings) (inr (is, other), came) =
+    let others = lacking setup outcome (suc n) jobs answers pings came in
     let here : (n == job.serial) ≡ true = subst (λ (m : ℕ). (n == m) ≡ true) (sym numbered) (eqb-same n) in
     record {
       lacks = n ∷ others.lacks;
       later = λ m lt. ap (λ (x : Bool). x || list_any (λ serial. serial == m) others.lacks) (ne_eqb n m (λ same. omega (arith, same))) ∙ others.later m (omega arith);
       agrees = (
-        ap (λ (x : Bool). if (x || list_any (λ serial. serial == job.serial) others.lacks) then no_memory else outcome (interface_of built_in job.target) job) here ∙ sym is,
-        weaker outcome n (suc n) others.lacks jobs answers (omega arith) pings others.agrees,
+        ap (λ (x : Bool). if (x || list_any (λ serial. serial == job.serial) others.lacks) then no_memory else outcome (interface_of setup job.target) job) here ∙ sym is,
+        weaker setup outcome n (suc n) others.lacks jobs answers (omega arith) pings others.agrees,
       );
-      spares = (λ bad. absurd (other (sym (at_ping outcome job ping) ∙ bad)), spares_later outcome n (suc n) others.lacks jobs (omega arith) pings others.spares);
+      spares = (λ bad. absurd (other bad), spares_later setup outcome n (suc n) others.lacks jobs (omega arith) pings others.spares);
     }
 
 -- ---- the run of jobs over servants
 
 -- a servant answers the outcome, or for want of memory
-answer_came : (outcome : List ℕ → JobRecord → Outcome) (lacks : List ℕ) (job : JobRecord) → IsPingJob job
-    → (outcome (interface_of built_in job.target) job ≡ bad_operation → list_any (λ serial. serial == job.serial) lacks ≡ false)
-    → IsAnswered (answer_of built_in outcome lacks job) (outcome ping_interface job)
-answer_came outcome lacks job ping spares =
+answer_came : (setup : SetupData) (outcome : List ℕ → JobRecord → Outcome) (lacks : List ℕ) (job : JobRecord)
+    → (outcome (interface_of setup job.target) job ≡ bad_operation → list_any (λ serial. serial == job.serial) lacks ≡ false)
+    → IsAnswered (answer_of setup outcome lacks job) (outcome_at setup outcome job)
+answer_came setup outcome lacks job spares =
     elim (cases_Bool (list_any (λ serial. serial == job.serial) lacks)) [
       | inl wanting ↦ inr (
-        ap (λ (x : Bool). if x then no_memory else outcome (interface_of built_in job.target) job) wanting,
-        λ bad. let never : true ≡ false = sym wanting ∙ spares (at_ping outcome job ping ∙ bad) in absurd cc,
+        ap (λ (x : Bool). if x then no_memory else outcome (interface_of setup job.target) job) wanting,
+        λ bad. let never : true ≡ false = sym wanting ∙ spares bad in absurd cc,
       )
-      | inr none ↦ inl (served outcome lacks job ping none)
+      | inr none ↦ inl (served setup outcome lacks job none)
     ]
 
 pub answer_short : (outcome answer : Outcome) → body_len outcome ≤ MAX_BODY → IsAnswered answer outcome → body_len answer ≤ MAX_BODY
@@ -411,51 +406,51 @@ answer_short outcome answer short (inl is) = subst (λ (o : Outcome). body_len o
 answer_short outcome answer short (inr (is, other)) = subst (λ (o : Outcome). body_len o ≤ MAX_BODY) (sym is) (lit≤ tt)
 
 -- a run whose answers are those of the servant
-pub record RunOver (servant : JobRecord → Outcome) (outcome : List ℕ → JobRecord → Outcome) (jobs : List JobRecord) (c b : ℕ) : Type 0 where
+pub record RunOver (servant outcome : JobRecord → Outcome) (jobs : List JobRecord) (base : State) (c b : ℕ) : Type 0 where
   pub behind : State
   pub replies : List ℕ
-  pub runs : Runs outcome jobs (idle c b) behind replies
-  pub grouped : Grouped outcome jobs c b behind replies
+  pub runs : Runs outcome jobs (idle base c b) behind replies
+  pub grouped : Grouped outcome jobs base c b behind replies
   pub agrees : Agrees servant jobs grouped.answers
 
-none_over : (servant : JobRecord → Outcome) (outcome : List ℕ → JobRecord → Outcome) (c b : ℕ) → RunOver servant outcome [] c b
-none_over servant outcome c b = record { behind = idle c b; replies = []; runs = (refl, refl); grouped = none_grouped outcome c b; agrees = tt }
+none_over : (servant outcome : JobRecord → Outcome) (base : State) (c b : ℕ) → RunOver servant outcome [] base c b
+none_over servant outcome base c b = record { behind = idle base c b; replies = []; runs = (refl, refl); grouped = none_grouped outcome base c b; agrees = tt }
 
-shut_over : (servant : JobRecord → Outcome) (outcome : List ℕ → JobRecord → Outcome) (job : JobRecord) (jobs : List JobRecord) (c b : ℕ) → IsPingJob job
-    → is_over (idle c b) job.size ≡ true → RunOver servant outcome (job ∷ jobs) c b
+shut_over : (servant outcome : JobRecord → Outcome) (job : JobRecord) (jobs : List JobRecord) (base : State) (c b : ℕ) → IsPingJob job
+    → is_over (idle base c b) job.size ≡ true → RunOver servant outcome (job ∷ jobs) base c b
 unfolding shut_run
-shut_over servant outcome job jobs c b ping over = record {
-  behind = shut c b;
+shut_over servant outcome job jobs base c b ping over = record {
+  behind = shut base c b;
   replies = [];
   runs = inl (record { over = over; moved = refl; silent = refl });
-  grouped = shut_run outcome job jobs c b ping over;
+  grouped = shut_run outcome job jobs base c b ping over;
   agrees = tt;
 }
 
-more_over : (servant : JobRecord → Outcome) (outcome : List ℕ → JobRecord → Outcome) (job : JobRecord) (jobs : List JobRecord) (c b : ℕ) → IsPingJob job
-    → is_over (idle c b) job.size ≡ false → IsAnswered (servant job) (outcome ping_interface job) → body_len (servant job) ≤ MAX_BODY
-    → RunOver servant outcome jobs (c + 1) (b + job.size + body_len (servant job)) → RunOver servant outcome (job ∷ jobs) c b
+more_over : (servant outcome : JobRecord → Outcome) (job : JobRecord) (jobs : List JobRecord) (base : State) (c b : ℕ) → IsPingJob job
+    → is_over (idle base c b) job.size ≡ false → IsAnswered (servant job) (outcome job) → body_len (servant job) ≤ MAX_BODY
+    → RunOver servant outcome jobs base (c + 1) (b + job.size + body_len (servant job)) → RunOver servant outcome (job ∷ jobs) base c b
 unfolding more_grouped
-more_over servant outcome job jobs c b ping not_over came short others =
-    let mid = idle (c + 1) (b + job.size + body_len (servant job)) in
+more_over servant outcome job jobs base c b ping not_over came short others =
+    let mid = idle base (c + 1) (b + job.size + body_len (servant job)) in
     let first = item_bytes (Answered (record { job = job; outcome = servant job })) in
-    let ran : Ran outcome job (idle c b) mid first = record { answer = servant job; came = came; short = short; admitted = not_over; moved = refl; reply = refl } in
+    let ran : Ran outcome job (idle base c b) mid first = record { answer = servant job; came = came; short = short; admitted = not_over; moved = refl; reply = refl } in
     record {
       behind = others.behind;
       replies = first ++ others.replies;
       runs = inr (mid, first, others.replies, ran, others.runs, refl);
-      grouped = more_grouped outcome job jobs c b mid others.behind first others.replies ping ran others.grouped;
+      grouped = more_grouped outcome job jobs base c b mid others.behind first others.replies ping ran others.grouped;
       agrees = (refl, others.agrees);
     }
 
-pub run_over : (outcome : List ℕ → JobRecord → Outcome) (lacks : List ℕ) (n : ℕ) (jobs : List JobRecord) (c b : ℕ) → ((job : JobRecord) → body_len (outcome ping_interface job) ≤ MAX_BODY)
-    → ArePingJobs n jobs → Spares built_in outcome lacks (offers jobs) → RunOver (answer_of built_in outcome lacks) outcome jobs c b
-run_over outcome lacks n [] c b short pings spares = none_over (answer_of built_in outcome lacks) outcome c b
-run_over outcome lacks n (job ∷ jobs) c b short (ping, numbered, pings) (spare, spares) =
-    let servant = answer_of built_in outcome lacks in
-    let came = answer_came outcome lacks job ping spare in
-    let others = run_over outcome lacks (suc n) jobs (c + 1) (b + job.size + body_len (servant job)) short pings spares in
-    elim (cases_Bool (is_over (idle c b) job.size)) [
-      | inl over ↦ shut_over servant outcome job jobs c b ping over
-      | inr not_over ↦ more_over servant outcome job jobs c b ping not_over came (answer_short (outcome ping_interface job) (servant job) (short job) came) others
+pub run_over : (setup : SetupData) (outcome : List ℕ → JobRecord → Outcome) (lacks : List ℕ) (n : ℕ) (jobs : List JobRecord) (base : State) (c b : ℕ) → ((job : JobRecord) → body_len (outcome_at setup outcome job) ≤ MAX_BODY)
+    → ArePingJobs n jobs → Spares setup outcome lacks (offers jobs) → RunOver (answer_of setup outcome lacks) (outcome_at setup outcome) jobs base c b
+run_over setup outcome lacks n [] base c b short pings spares = none_over (answer_of setup outcome lacks) (outcome_at setup outcome) base c b
+run_over setup outcome lacks n (job ∷ jobs) base c b short (ping, numbered, pings) (spare, spares) =
+    let servant = answer_of setup outcome lacks in
+    let came = answer_came setup outcome lacks job spare in
+    let others = run_over setup outcome lacks (suc n) jobs base (c + 1) (b + job.size + body_len (servant job)) short pings spares in
+    elim (cases_Bool (is_over (idle base c b) job.size)) [
+      | inl over ↦ shut_over servant (outcome_at setup outcome) job jobs base c b ping over
+      | inr not_over ↦ more_over servant (outcome_at setup outcome) job jobs base c b ping not_over came (answer_short (outcome_at setup outcome job) (servant job) (short job) came) others
     ]

@@ -1,6 +1,6 @@
 -- Each request of the pipe's input gets its reply, and nothing else is written.
 use Rattle.std.proofs.Common.{◌≡◌, ℕ, suc, ◌+◌, ◌*◌, ◌≤◌, Bool, true, false, List, [], ◌∷◌, ◌++◌, length, refl, sym, ap, ◌∙◌, subst, inl, inr, arith, lit≤, lit<, append-nil}
-use Rattle.std.specs.Prelude.{◌⊎◌, if◌then◌else◌, codes}
+use Rattle.std.specs.Prelude.{if◌then◌else◌, codes}
 use Rattle.std.specs.Int.{w16}
 use Rattle.std.specs.List.{AllByRecursion}
 use Rattle.std.specs.Str.{bytes_eq}
@@ -18,7 +18,8 @@ use Rattle.cdr_core.specs.Field.{number_bytes}
 use Rattle.cdr_core.proofs.CallerLemmas.{fields_end-is, length-number_bytes}
 use Rattle.giop_frames.specs.Messages as Frames
 use Rattle.giop_frames.specs.Stream.{stream}
-use Rattle.giop_messages.specs.Message.{Message, reply}
+use Rattle.giop_messages.specs.Message.{Message, Request, request, reply}
+use Rattle.giop_messages.specs.Reading.{ReadsIn}
 use Rattle.giop_messages.specs.Exceptions.{exception_fields}
 use Rattle.giop_messages.specs.Spelling.{spelled}
 use Rattle.giop_messages.specs.Written.{written_bytes, AreWritten}
@@ -27,16 +28,20 @@ use Rattle.lane_machine.specs.declared.call.How.TheVariants.{Quiet}
 use Rattle.lane_machine.specs.declared.call.LaneCall.{LaneCall}
 use Rattle.lane_machine.specs.State.{State}
 use Rattle.orb_command.specs.declared.request.TheConstants.{MAX_PIPED}
-use Rattle.orb_command.specs.Setup.{pipe_conn}
+use Rattle.orb_command.specs.Setup.{HasDistinctKeys, IsRunnable, opened, pipe_conn}
+use Rattle.orb_command.specs.declared.place.Place.{Place}
 use Rattle.adapter_policies.specs.BuiltIn.{built_in}
-use Rattle.orb_command.specs.Ping.{ping_outcome}
+use Rattle.adapter_policies.specs.SetupData.{SetupData}
+use Rattle.orb_command.specs.Ping.{ping_outcome, ping_request}
 use Rattle.orb_command.specs.Said.{reply_status, reply_body, bare, call_bytes, said}
-use Rattle.orb_command.specs.Piped.{Run, closed_by, answer_of, piped}
+use Rattle.orb_command.specs.Piped.{Run, closed_by, grouped, answer_of, piped}
 use Rattle.orb_command.specs.Built.{IsPing, Spares, IsPiped}
-use Rattle.orb_command.specs.PingRun.{ping_job, offers, ping_interface, IsAnswered, Ran, Runs, farewell, IsRun}
-use Rattle.orb_command.specs.Replied.{IsReplyTo, AreRepliesTo, PingsReplied, MeetsNoLimit}
+use Rattle.orb_command.specs.PingRun.{ping_job, offers, outcome_at, IsAnswered, Ran, Runs, farewell, IsRun}
+use Rattle.orb_command.specs.Replied.{IsReplyTo, AreRepliesTo, PingsReplied, PingRunsAt100, MeetsNoLimit}
 use Rattle.orb_command.proofs.HearingLaws.{jobs_of, no_jobs, more_jobs_of}
 use Rattle.orb_command.proofs.HeardLaws.{hears_one_way, built_in_is_distinct}
+use Rattle.orb_command.proofs.CanOpen.{opens_free, built_in_is_runnable}
+use Rattle.orb_command.proofs.Places.{pings_place}
 use Rattle.orb_command.proofs.ReplyLaws.{reply_short}
 use Rattle.orb_command.proofs.StreamCounts.{few_messages}
 use Rattle.orb_command.proofs.PingSizes.{ping_size, answer_size, not_over}
@@ -45,24 +50,27 @@ use Rattle.orb_command.proofs.PipedLaws.{gone, last, closes_so, last_says}
 
 -- ---- the pipe's output is that of a run of its jobs
 
-pub piped_is_run : (outcome : List ℕ → JobRecord → Outcome) (input : List ℕ) (closing : Bool) (output : List ℕ) → ((job : JobRecord) → body_len (outcome ping_interface job) ≤ MAX_BODY)
-    → (p : IsPiped outcome input closing output) → IsRun outcome (jobs_of 0 (stream MAX_MESSAGE input).messages p.built.pings).0 closing output
-piped_is_run outcome input closing output short p =
-    let jobs = jobs_of 0 (stream MAX_MESSAGE input).messages p.built.pings in
+pub piped_is_run : (setup : SetupData) (outcome : List ℕ → JobRecord → Outcome) (input : List ℕ) (closing : Bool) (output : List ℕ) (able : IsRunnable setup) → HasDistinctKeys setup
+    → ((job : JobRecord) → body_len (outcome_at setup outcome job) ≤ MAX_BODY) → (p : IsPiped setup outcome input closing output)
+    → IsRun (opened setup) (outcome_at setup outcome) (jobs_of setup 0 (stream MAX_MESSAGE input).messages able.single.no_lanes p.built.pings).0 closing output
+piped_is_run setup outcome input closing output able distinct short p =
+    let free = opens_free setup able in
+    let jobs = jobs_of setup 0 (stream MAX_MESSAGE input).messages able.single.no_lanes p.built.pings in
     let calls : p.calls ≡ offers jobs.0 =
-    (hears_one_way built_in pipe_conn input p.calls (offers jobs.0) Quiet Quiet built_in_is_distinct p.heard
+    (hears_one_way setup pipe_conn input p.calls (offers jobs.0) Quiet Quiet distinct p.heard
     (record { sound = p.built.sound; whole = p.built.whole; each = jobs.1.heard; quiet = refl })).0 in
-    let spares : Spares built_in outcome p.lacks (offers jobs.0) = subst (λ (x : List LaneCall). Spares built_in outcome p.lacks x) calls p.spares in
-    let run = run_over outcome p.lacks 0 jobs.0 0 0 short jobs.1.jobs_so spares in
-    let servant = answer_of built_in outcome p.lacks in
+    let spares : Spares setup outcome p.lacks (offers jobs.0) = subst (λ (x : List LaneCall). Spares setup outcome p.lacks x) calls p.spares in
+    let run = run_over setup outcome p.lacks 0 jobs.0 (opened setup) 0 0 short jobs.1.jobs_so spares in
+    let servant = answer_of setup outcome p.lacks in
     let c = run.behind.calls in
     let b = run.behind.bytes in
     let shut = run.behind.closing in
     let history = run.grouped.history in
-    let whole : piped built_in outcome 1 p.calls Quiet p.lacks ≡ at (gone c b shut) (history ++ last shut) =
-    ap (λ (x : List LaneCall). piped built_in outcome 1 x Quiet p.lacks) calls
+    let whole : piped setup outcome 1 p.calls Quiet p.lacks ≡ at (gone run.behind c b shut) (history ++ last shut) =
+    ap (λ (x : List LaneCall). piped setup outcome 1 x Quiet p.lacks) calls
+    ∙ ap (λ (z : State). closed_by servant Quiet (grouped servant 1 1 (at z []) (offers jobs.0))) free
     ∙ ap (closed_by servant Quiet) (run.grouped.run servant run.agrees [] ∙ ap (λ (s : State). at s history) run.grouped.settled_so)
-    ∙ closes_so servant c b shut history in
+    ∙ closes_so servant run.behind c b shut history in
     let says : said pipe_conn (history ++ last shut) ≡ run.replies ++ farewell shut =
     flat_map-append (λ e. call_bytes pipe_conn e.call e.reply) history (last shut)
     ∙ ap (λ (x : List ℕ). x ++ said pipe_conn (last shut)) run.grouped.says ∙ ap (λ (x : List ℕ). run.replies ++ x) (last_says shut) in
@@ -70,7 +78,7 @@ piped_is_run outcome input closing output short p =
     record {
       behind = run.behind;
       replies = run.replies;
-      runs = run.runs;
+      runs = subst (λ (z : State). Runs (outcome_at setup outcome) jobs.0 z run.behind run.replies) (sym free) run.runs;
       closes = same;
       ends = p.answered ∙ ap (λ (r : Run). said pipe_conn r.history) whole ∙ says ∙ ap (λ (x : Bool). run.replies ++ farewell x) same;
     }
@@ -89,69 +97,70 @@ status_fits (System system) = lit≤ tt
 no_memory_short : (order : Order) → length (reply_body order no_memory) ≤ MAX_BODY
 no_memory_short order = omega (arith, fields_end-is order 24 (exception_fields (record { name = NoMemory; minor = 1; completed = Maybe })))
 
-body_short : (interface : List ℕ) (serial size id : ℕ) (order : Order) (answer : Outcome)
-    → IsAnswered answer (ping_outcome interface (ping_job serial order size id)) → length (reply_body order answer) ≤ MAX_BODY
-body_short interface serial size id order answer (inl is) =
-    subst (λ (o : Outcome). length (reply_body order o) ≤ MAX_BODY) (sym is) (omega (arith, length-number_bytes order w16 100))
-body_short interface serial size id order answer (inr (is, other)) = subst (λ (o : Outcome). length (reply_body order o) ≤ MAX_BODY) (sym is) (no_memory_short order)
+body_short : (setup : SetupData) (serial size id target level : ℕ) (order : Order) (answer : Outcome)
+    → IsAnswered answer (outcome_at setup ping_outcome (ping_job serial order size id target level)) → length (reply_body order answer) ≤ MAX_BODY
+body_short setup serial size id target level order answer (inl is) =
+    subst (λ (o : Outcome). length (reply_body order o) ≤ MAX_BODY) (sym is) (omega (arith, length-number_bytes order w16 level))
+body_short setup serial size id target level order answer (inr (is, other)) = subst (λ (o : Outcome). length (reply_body order o) ≤ MAX_BODY) (sym is) (no_memory_short order)
 
 -- a message and the bytes of the reply to it
-record Replied (m : Frames.Message) (bytes : List ℕ) : Type 0 where
+record Replied (setup : SetupData) (m : Frames.Message) (bytes : List ℕ) : Type 0 where
   pub reply : Order × Message
-  pub is : IsReplyTo m reply
+  pub is : IsReplyTo setup m reply
   pub fits : AreWritten MAX_MESSAGE (reply ∷ [])
   pub spells : bytes ≡ spelled reply.0 reply.1
 
-one_replied : (n : ℕ) (m : Frames.Message) (ping : IsPing m) (s s' : State) (bytes : List ℕ) → Ran ping_outcome (ping_job n m.order (length m.bytes) ping.id) s s' bytes → Replied m bytes
-one_replied n m ping s s' bytes ran = record {
-  reply = (m.order, reply_with m.order ping.id ran.answer);
-  is = record {
-    id = ping.id;
-    reads = ping.reads;
-    same_order = refl;
-    says = elim ran.came [ inl is ↦ inl (ap (reply_with m.order ping.id) is) | inr is ↦ inr (ap (reply_with m.order ping.id) is.0) ];
-  };
-  fits = (
-    record { id = ping.reads.fits.id; status = status_fits ran.answer; contexts = (lit< tt, tt) },
-    reply_short m.order ping.id (reply_status ran.answer) (reply_body m.order ran.answer) (body_short ping_interface n (length m.bytes) ping.id m.order ran.answer ran.came),
-    tt,
-  );
-  spells = ran.reply;
-}
+one_replied : (setup : SetupData) (n : ℕ) (m : Frames.Message) (ping : IsPing setup m) (s s' : State) (bytes : List ℕ)
+    → Ran (outcome_at setup ping_outcome) (ping_job n m.order (length m.bytes) ping.r.id ping.place.target ping.place.level) s s' bytes → Replied setup m bytes
+one_replied setup n m ping s s' bytes ran =
+    let id = ping.r.id in
+    record {
+      reply = (m.order, reply_with m.order id ran.answer);
+      is = record {
+        ping = ping;
+        same_order = refl;
+        says = elim ran.came [ inl is ↦ inl (ap (reply_with m.order id) is) | inr is ↦ inr (ap (reply_with m.order id) is.0) ];
+      };
+      fits = (
+        record { id = ping.reads.fits.id; status = status_fits ran.answer; contexts = (lit< tt, tt) },
+        reply_short m.order id (reply_status ran.answer) (reply_body m.order ran.answer) (body_short setup n (length m.bytes) id ping.place.target ping.place.level m.order ran.answer ran.came),
+        tt,
+      );
+      spells = ran.reply;
+    }
 
 -- ---- all replies
 
--- no limit was met behind all messages, and these are the bytes of their replies
-record AllReplied (ms : List Frames.Message) (s : State) (bytes : List ℕ) : Type 0 where
-  pub going : s.closing ≡ false
+-- these are the bytes of the replies to all messages
+record AllReplied (setup : SetupData) (ms : List Frames.Message) (bytes : List ℕ) : Type 0 where
   pub replies : List (Order × Message)
-  pub are : AreRepliesTo ms replies
+  pub are : AreRepliesTo setup ms replies
   pub fit : AreWritten MAX_MESSAGE replies
   pub spells : bytes ≡ written_bytes replies
 
--- a ping takes 48 bytes and its answer 2 at most
-replied : (n c b : ℕ) (ms : List Frames.Message) (all : AllByRecursion IsPing ms) (s : State) (bytes : List ℕ) → c + length ms ≤ MAX_PIPED → b + 50 * length ms ≤ 50 * MAX_PIPED
-    → Runs ping_outcome (jobs_of n ms all).0 (idle c b) s bytes → AllReplied ms s bytes
-replied n c b [] all s bytes calls few runs =
-    let none : Runs ping_outcome [] (idle c b) s bytes = subst (λ (jobs : List JobRecord). Runs ping_outcome jobs (idle c b) s bytes) (no_jobs n all) runs in
-    record { going = ap (λ (z : State). z.closing) none.0; replies = []; are = tt; fit = tt; spells = none.1 }
-replied n c b (m ∷ ms) (ping, all) s bytes calls few runs =
+-- where no limit was met, each was answered
+replied : (setup : SetupData) (base : State) (n c b : ℕ) (ms : List Frames.Message) (no_lanes : setup.pool.laned ≡ false) (all : AllByRecursion (IsPing setup) ms) (s : State) (bytes : List ℕ)
+    → s.closing ≡ false → Runs (outcome_at setup ping_outcome) (jobs_of setup n ms no_lanes all).0 (idle base c b) s bytes → AllReplied setup ms bytes
+replied setup base n c b [] no_lanes all s bytes going runs =
+    let none : Runs (outcome_at setup ping_outcome) [] (idle base c b) s bytes =
+    subst (λ (jobs : List JobRecord). Runs (outcome_at setup ping_outcome) jobs (idle base c b) s bytes) (no_jobs setup n no_lanes all) runs in
+    record { replies = []; are = tt; fit = tt; spells = none.1 }
+replied setup base n c b (m ∷ ms) no_lanes (ping, all) s bytes going runs =
     let size = length m.bytes in
-    let job = ping_job n m.order size ping.id in
-    let jobs = (jobs_of (suc n) ms all).0 in
-    let some : Runs ping_outcome (job ∷ jobs) (idle c b) s bytes = subst (λ (js : List JobRecord). Runs ping_outcome js (idle c b) s bytes) (more_jobs_of n m ms ping all) runs in
-    let sized = ping_size m.order ping.id m.bytes ping.reads in
+    let job = ping_job n m.order size ping.r.id ping.place.target ping.place.level in
+    let jobs = (jobs_of setup (suc n) ms no_lanes all).0 in
+    let some : Runs (outcome_at setup ping_outcome) (job ∷ jobs) (idle base c b) s bytes =
+    subst (λ (js : List JobRecord). Runs (outcome_at setup ping_outcome) js (idle base c b) s bytes) (more_jobs_of setup n m ms no_lanes ping all) runs in
     elim some [
       | inl refused ↦
-          let never : true ≡ false = sym refused.over ∙ not_over c b size (omega (arith, calls)) (omega (arith, few, sized)) in
+          let never : true ≡ false = sym (ap (λ (z : State). z.closing) refused.moved) ∙ going in
           absurd cc
       | inr ran ↦
-          let one = one_replied n m ping (idle c b) ran.0 ran.1 ran.3 in
-          let adds = answer_size n size ping.id m.order ran.3.answer ran.3.came in
-          let onward : Runs ping_outcome jobs (idle (c + 1) (b + size + body_len ran.3.answer)) s ran.2 = subst (λ (x : State). Runs ping_outcome jobs x s ran.2) ran.3.moved ran.4 in
-          let others = replied (suc n) (c + 1) (b + size + body_len ran.3.answer) ms all s ran.2 (omega (arith, calls)) (omega (arith, few, sized, adds)) onward in
+          let one = one_replied setup n m ping (idle base c b) ran.0 ran.1 ran.3 in
+          let onward : Runs (outcome_at setup ping_outcome) jobs (idle base (c + 1) (b + size + body_len ran.3.answer)) s ran.2 =
+          subst (λ (x : State). Runs (outcome_at setup ping_outcome) jobs x s ran.2) ran.3.moved ran.4 in
+          let others = replied setup base (suc n) (c + 1) (b + size + body_len ran.3.answer) ms no_lanes all s ran.2 going onward in
           record {
-            going = others.going;
             replies = one.reply ∷ others.replies;
             are = (one.is, others.are);
             fit = (one.fits.0, one.fits.1, others.fit);
@@ -159,36 +168,66 @@ replied n c b (m ∷ ms) (ping, all) s bytes calls few runs =
           }
     ]
 
+-- ---- the limits of the built-in setup
+
+-- a ping takes 48 bytes and its answer 2 at most
+goes_on : (n c b : ℕ) (ms : List Frames.Message) (no_lanes : built_in.pool.laned ≡ false) (all : AllByRecursion (IsPing built_in) ms) (s : State) (bytes : List ℕ)
+    → c + length ms ≤ MAX_PIPED → b + 50 * length ms ≤ 50 * MAX_PIPED
+    → Runs (outcome_at built_in ping_outcome) (jobs_of built_in n ms no_lanes all).0 (idle (opened built_in) c b) s bytes → s.closing ≡ false
+goes_on n c b [] no_lanes all s bytes calls few runs =
+    let none : Runs (outcome_at built_in ping_outcome) [] (idle (opened built_in) c b) s bytes =
+    subst (λ (jobs : List JobRecord). Runs (outcome_at built_in ping_outcome) jobs (idle (opened built_in) c b) s bytes) (no_jobs built_in n no_lanes all) runs in
+    ap (λ (z : State). z.closing) none.0
+goes_on n c b (m ∷ ms) no_lanes (ping, all) s bytes calls few runs =
+    let size = length m.bytes in
+    let id = ping.r.id in
+    let is = pings_place ping.asked.key ping.place ping.asked.placed in
+    let reads : ReadsIn m.order (request (ping_request id (codes "ping"))) m.bytes =
+    subst (λ (r : Request). ReadsIn m.order (request r) m.bytes) (ping.asked.asks ∙ ap (ping_request id) is.key_is) ping.reads in
+    let job = ping_job n m.order size id 0 100 in
+    let jobs = (jobs_of built_in (suc n) ms no_lanes all).0 in
+    let same : (jobs_of built_in n (m ∷ ms) no_lanes (ping, all)).0 ≡ job ∷ jobs =
+    more_jobs_of built_in n m ms no_lanes ping all ∙ ap (λ (p : Place). ping_job n m.order size id p.target p.level ∷ jobs) is.place_is in
+    let some : Runs (outcome_at built_in ping_outcome) (job ∷ jobs) (idle (opened built_in) c b) s bytes =
+    subst (λ (js : List JobRecord). Runs (outcome_at built_in ping_outcome) js (idle (opened built_in) c b) s bytes) same runs in
+    let sized = ping_size m.order id m.bytes reads in
+    elim some [
+      | inl refused ↦
+          let never : true ≡ false = sym refused.over ∙ not_over c b size (omega (arith, calls)) (omega (arith, few, sized)) in
+          absurd cc
+      | inr ran ↦
+          let adds = answer_size n size id m.order ran.3.answer ran.3.came in
+          let onward : Runs (outcome_at built_in ping_outcome) jobs (idle (opened built_in) (c + 1) (b + size + body_len ran.3.answer)) s ran.2 =
+          subst (λ (x : State). Runs (outcome_at built_in ping_outcome) jobs x s ran.2) ran.3.moved ran.4 in
+          goes_on (suc n) (c + 1) (b + size + body_len ran.3.answer) ms no_lanes all s ran.2 (omega (arith, calls)) (omega (arith, few, sized, adds)) onward
+    ]
+
 -- ---- the laws
 
-ping_short : (job : JobRecord) → body_len (ping_outcome ping_interface job) ≤ MAX_BODY
-ping_short job =
+ping_short : (setup : SetupData) (job : JobRecord) → body_len (outcome_at setup ping_outcome job) ≤ MAX_BODY
+ping_short setup job =
     let answer : Bool → Outcome = λ x. if x then Returned (number_bytes job.order w16 job.priority) else bad_operation in
     elim (cases_Bool (bytes_eq job.operation (codes "current"))) [
       | inl current ↦ subst (λ (o : Outcome). body_len o ≤ MAX_BODY) (sym (ap answer current)) (omega (arith, length-number_bytes job.order w16 job.priority))
       | inr other ↦ subst (λ (o : Outcome). body_len o ≤ MAX_BODY) (sym (ap answer other)) (lit≤ tt)
     ]
 
--- what is written to an input, behind which no limit was met
-record Written (input output : List ℕ) (closing : Bool) : Type 0 where
-  pub behind : State
-  pub all : AllReplied (stream MAX_MESSAGE input).messages behind output
-  pub unlimited : closing ≡ false
-
-written : (input output : List ℕ) (closing : Bool) → IsPiped ping_outcome input closing output → Written input output closing
-written input output closing p =
-    let ms = (stream MAX_MESSAGE input).messages in
-    let run = piped_is_run ping_outcome input closing output ping_short p in
-    let few = few_messages MAX_MESSAGE input in
-    let all = replied 0 0 0 ms p.built.pings run.behind run.replies (omega (arith, few, p.built.few)) (omega (arith, few, p.built.few)) run.runs in
-    let unlimited : closing ≡ false = sym run.closes ∙ all.going in
-    let same : output ≡ run.replies = run.ends ∙ ap (λ (x : Bool). run.replies ++ farewell x) unlimited ∙ append-nil run.replies in
-    record { behind = run.behind; all = subst (λ (x : List ℕ). AllReplied ms run.behind x) (sym same) all; unlimited = unlimited }
-
 pub pings_replied : PingsReplied
-pings_replied input output closing p =
-    let all = (written input output closing p).all in
-    (all.replies, all.are, ap (stream MAX_MESSAGE) all.spells ∙ streams_written MAX_MESSAGE all.replies (lit≤ tt) all.fit)
+pings_replied setup able distinct input output p =
+    let free = opens_free setup able in
+    let run = piped_is_run setup ping_outcome input false output able distinct (ping_short setup) p in
+    let runs = subst (λ (z : State). Runs (outcome_at setup ping_outcome) (jobs_of setup 0 (stream MAX_MESSAGE input).messages able.single.no_lanes p.built.pings).0 z run.behind run.replies) free run.runs in
+    let all = replied setup (opened setup) 0 0 0 (stream MAX_MESSAGE input).messages able.single.no_lanes p.built.pings run.behind run.replies run.closes runs in
+    let same : output ≡ run.replies = run.ends ∙ append-nil run.replies in
+    (all.replies, all.are, ap (stream MAX_MESSAGE) (same ∙ all.spells) ∙ streams_written MAX_MESSAGE all.replies (lit≤ tt) all.fit)
 
 pub meets_no_limit : MeetsNoLimit
-meets_no_limit input output closing p = (written input output closing p).unlimited
+meets_no_limit input output closing p =
+    let run = piped_is_run built_in ping_outcome input closing output built_in_is_runnable built_in_is_distinct (ping_short built_in) p in
+    let few = few_messages MAX_MESSAGE input in
+    sym run.closes ∙ goes_on 0 0 0 (stream MAX_MESSAGE input).messages built_in_is_runnable.single.no_lanes p.built.pings run.behind run.replies (omega (arith, few, p.built.few)) (omega (arith, few, p.built.few)) run.runs
+
+pub ping_runs_at_100 : PingRunsAt100
+ping_runs_at_100 key place is =
+    let p = pings_place key place is in
+    (p.key_is, ap (λ (x : Place). x.level) p.place_is)

@@ -4,7 +4,6 @@ use Rattle.object_lines.specs.Addresses.{Place}
 use Rattle.object_lines.specs.Lines.{At}
 use Rattle.object_lines.specs.declared.at_end.AtEnd.{AtEnd}
 use Rattle.object_lines.specs.declared.at_end.AtEnd.TheVariants as end
-use Rattle.orb_base.specs.Outside.{Rose}
 use Rattle.orb_command.specs.Moment.{Moment}
 use Rattle.orb_command.specs.declared.note.Note.{Note}
 use Rattle.orb_command.specs.declared.note.Note.TheVariants.{Nothing, Config, TooLong, ReadFault, WriteFault, Absent, Memory, NotBuilt}

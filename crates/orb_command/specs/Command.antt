@@ -33,7 +33,7 @@ status_of NotBuilt = 14
 
 -- how many bytes are taken at most: of an input of `pipe` or `refs` one more than it may have, so that a longer one is seen
 abbrev pub most_taken : Meaning → ℕ
-most_taken Pipe = MAX_PIPED + 1
+most_taken (Pipe config) = MAX_PIPED + 1
 most_taken Dump = MAX_DUMPED
 most_taken Refs = MAX_REFERENCE + 2
 most_taken (RefsAt place config) = 0
@@ -42,7 +42,7 @@ most_taken Unread = 0
 
 -- what each note means, by what the words mean; a command that isn't there does nothing
 abbrev pub NoteMeans : Meaning → Note → Moment → Moment → Type 0
-NoteMeans Pipe note before after = PipeAnswers note before after
+NoteMeans (Pipe config) note before after = PipeAnswers config note before after
 NoteMeans Dump note before after = DumpAnswers note before after
 NoteMeans Refs note before after = RefsAnswers note before after
 NoteMeans (RefsAt place config) note before after = AtAnswers place config note before after

@@ -1,5 +1,5 @@
 -- Which counts of faults rose, by the command and its note.
-use Rattle.std.specs.Prelude.{◌≡◌}
+use Rattle.std.specs.Prelude.{◌≡◌, ◌⊎◌, ℕ, List, Option, Some, None}
 use Rattle.orb_base.specs.Outside.{Rose}
 use Rattle.text_streams.specs.Faults.{NoneFailed, ReadFailed, WriteFailed}
 use Rattle.orb_command.specs.Moment.{Moment}
@@ -44,9 +44,37 @@ FiledFaults (Input _ _) before after = ⊥
 FiledFaults (Reference _) before after = ⊥
 FiledFaults Limit before after = ⊥
 
+-- no read of a file, no read of the input and no write failed
+abbrev pub NothingFailed : Moment → Moment → Type 0
+NothingFailed before after = (after.files.faults ≡ before.files.faults) × NoneFailed before.input after.input before.out after.out
+
+-- of the pipe with a configuration: none but at a fault, the store's alone or the input's alone at a read fault, and the output's
+-- alone at a write fault
+abbrev pub ConfiguredFaults : Note → Moment → Moment → Type 0
+ConfiguredFaults Nothing before after = NothingFailed before after
+ConfiguredFaults (Config _) before after = NothingFailed before after
+ConfiguredFaults (TooLong _) before after = NothingFailed before after
+ConfiguredFaults (Absent _) before after = NothingFailed before after
+ConfiguredFaults ReadFault before after =
+    (Rose before.files.faults after.files.faults × (after.input ≡ before.input) × (after.out ≡ before.out))
+    ⊎ ((after.files.faults ≡ before.files.faults) × ReadFailed before.input after.input before.out after.out)
+ConfiguredFaults WriteFault before after =
+    (after.files.faults ≡ before.files.faults) × WriteFailed before.input after.input before.out after.out
+ConfiguredFaults Memory before after = after.files.faults ≡ before.files.faults
+ConfiguredFaults Limit before after = NothingFailed before after
+ConfiguredFaults NotBuilt before after = NothingFailed before after
+ConfiguredFaults Usage before after = ⊥
+ConfiguredFaults (Input _ _) before after = ⊥
+ConfiguredFaults (Reference _) before after = ⊥
+
+-- of the pipe: without a configuration it leaves the store of files as it was
+abbrev pub PipeFaults : Option (List ℕ) → Note → Moment → Moment → Type 0
+PipeFaults None note before after = (after.files ≡ before.files) × StreamFaults note before after
+PipeFaults (Some name) note before after = ConfiguredFaults note before after
+
 -- by the command: one over files leaves the input as it was, and one over the input the store of files
 abbrev pub FaultsAt : Meaning → Note → Moment → Moment → Type 0
-FaultsAt Pipe note before after = (after.files ≡ before.files) × StreamFaults note before after
+FaultsAt (Pipe config) note before after = PipeFaults config note before after
 FaultsAt Dump note before after = (after.files ≡ before.files) × StreamFaults note before after
 FaultsAt Refs note before after = (after.files ≡ before.files) × StreamFaults note before after
 FaultsAt (RefsAt place config) note before after = (after.input ≡ before.input) × FiledFaults note before after

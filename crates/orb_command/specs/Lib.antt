@@ -11,9 +11,9 @@ pub mod Replied
 pub mod Words
 pub mod Moment
 pub mod Pipe
+pub mod AtAnswer
 pub mod PipeAnswer
 pub mod DumpAnswer
 pub mod RefsAnswer
-pub mod AtAnswer
 pub mod Faults
 pub mod Command

@@ -14,6 +14,6 @@ abbrev pub ping_outcome : List ℕ → JobRecord → Outcome
 ping_outcome interface job =
     if bytes_eq job.operation (codes "current") then Returned (number_bytes job.order w16 job.priority) else bad_operation
 
--- the request of this id for `current` of `ping`, with a reply due, without contexts and body
-abbrev pub ping_request : ℕ → Request
-ping_request id = record { id = id; flags = 3; target = key (codes "ping"); operation = codes "current"; contexts = []; body = [] }
+-- the request of this id for `current` of the object of a key, with a reply due, without contexts and body
+abbrev pub ping_request : ℕ → List ℕ → Request
+ping_request id object = record { id = id; flags = 3; target = key object; operation = codes "current"; contexts = []; body = [] }

@@ -12,7 +12,7 @@ use Rattle.orb_command.specs.declared.ends.Piped.{Piped}
 use Rattle.orb_command.specs.declared.ends.PipeFault.{PipeFault}
 use Rattle.orb_command.specs.declared.ends.PipeFault.TheVariants.{NotBuilt, NoMemory}
 use Rattle.orb_command.specs.declared.request.TheConstants.{MAX_PIPED}
-use Rattle.adapter_policies.specs.BuiltIn.{built_in}
+use Rattle.adapter_policies.specs.SetupData.{SetupData}
 use Rattle.orb_command.specs.Piped.{piped}
 use Rattle.orb_command.specs.Stops.{StopsAt}
 use Rattle.orb_command.specs.Built.{IsBuilt, IsPiped}
@@ -59,44 +59,44 @@ Serves (Ok piped) outputs stopped out out' = Wrote piped.read piped.write output
 Serves (Err _) outputs stopped out out' = WroteFront outputs out out'
 
 -- where memory was wanting: a front of the answer to a built input, and nothing to another one
-pub record WroteAtWant (outcome : List ℕ → JobRecord → Outcome) (input : List ℕ) (out out' : SinkState) : Type 0 where
-  pub built : IsBuilt input → WroteFront (IsPiped outcome input) out out'
-  pub unbuilt : ¬ IsBuilt input → out' ≡ out
+pub record WroteAtWant (setup : SetupData) (outcome : List ℕ → JobRecord → Outcome) (input : List ℕ) (out out' : SinkState) : Type 0 where
+  pub built : IsBuilt setup input → WroteFront (IsPiped setup outcome input) out out'
+  pub unbuilt : ¬ IsBuilt setup input → out' ≡ out
 
 -- a write failed in the pipe's answer to this input
-pub record StopsIn (outcome : List ℕ → JobRecord → Outcome) (input : List ℕ) (out out' : SinkState) (closing : Bool) : Type 0 where
+pub record StopsIn (setup : SetupData) (outcome : List ℕ → JobRecord → Outcome) (input : List ℕ) (out out' : SinkState) (closing : Bool) : Type 0 where
   pub limited : Bool
   pub output : List ℕ
-  pub run : IsPiped outcome input limited output
-  pub stops : StopsAt (piped built_in outcome 1 run.calls Quiet run.lacks).history closing out out'
+  pub run : IsPiped setup outcome input limited output
+  pub stops : StopsAt (piped setup outcome 1 run.calls Quiet run.lacks).history closing out out'
 
--- what answering this whole input came to
-abbrev pub Replies : Result Piped PipeFault → (List ℕ → JobRecord → Outcome) → List ℕ → SinkState → SinkState → Type 0
-Replies (Ok piped) outcome input out out' =
-    Wrote piped.read piped.write (IsPiped outcome input) (StopsIn outcome input out out') out out'
-Replies (Err NotBuilt) outcome input out out' = (¬ IsBuilt input) × (out' ≡ out)
-Replies (Err NoMemory) outcome input out out' = WroteAtWant outcome input out out'
+-- what the pipe's answer over a setup to this whole input came to
+abbrev pub Replies : Result Piped PipeFault → SetupData → (List ℕ → JobRecord → Outcome) → List ℕ → SinkState → SinkState → Type 0
+Replies (Ok piped) setup outcome input out out' =
+    Wrote piped.read piped.write (IsPiped setup outcome input) (StopsIn setup outcome input out out') out out'
+Replies (Err NotBuilt) setup outcome input out out' = (¬ IsBuilt setup input) × (out' ≡ out)
+Replies (Err NoMemory) setup outcome input out out' = WroteAtWant setup outcome input out out'
 
 -- the input was read to its end, behind which nothing is left, and no read failed
 abbrev pub ReadsWhole : SourceState → SourceState → Type 0
 ReadsWhole old new = Rose old.ends new.ends × IfSome new.left (λ rest. rest ≡ []) × (new.faults ≡ old.faults)
 
 -- what the pipe did to the bytes that it took, by how it came out
-abbrev pub PipesTo : ReadEnd → WriteEnd → (List ℕ → JobRecord → Outcome) → List ℕ → SourceState → SourceState → SinkState → SinkState → Type 0
-PipesTo read.ReadFault write.Done outcome bytes old new out out' = (new.ends ≡ old.ends) × Rose old.faults new.faults × (out' ≡ out)
-PipesTo read_end write_end outcome bytes old new out out' =
-    ReadsWhole old new × Wrote read_end write_end (IsPiped outcome bytes) (StopsIn outcome bytes out out') out out'
+abbrev pub PipesTo : ReadEnd → WriteEnd → SetupData → (List ℕ → JobRecord → Outcome) → List ℕ → SourceState → SourceState → SinkState → SinkState → Type 0
+PipesTo read.ReadFault write.Done setup outcome bytes old new out out' = (new.ends ≡ old.ends) × Rose old.faults new.faults × (out' ≡ out)
+PipesTo read_end write_end setup outcome bytes old new out out' =
+    ReadsWhole old new × Wrote read_end write_end (IsPiped setup outcome bytes) (StopsIn setup outcome bytes out out') out out'
 
 -- the same for every answer of the pipe. Not built are a whole input that isn't of the built form, and one that is too long
-abbrev pub PipesBytes : Result Piped PipeFault → (List ℕ → JobRecord → Outcome) → List ℕ → SourceState → SourceState → SinkState → SinkState → Type 0
-PipesBytes (Ok piped) outcome bytes old new out out' = PipesTo piped.read piped.write outcome bytes old new out out'
-PipesBytes (Err NotBuilt) outcome bytes old new out out' =
-    (¬ IsBuilt bytes) × (ReadsWhole old new ⊎ ((MAX_PIPED < length bytes) × (new.faults ≡ old.faults))) × (out' ≡ out)
-PipesBytes (Err NoMemory) outcome bytes old new out out' = WroteAtWant outcome bytes out out'
+abbrev pub PipesBytes : Result Piped PipeFault → SetupData → (List ℕ → JobRecord → Outcome) → List ℕ → SourceState → SourceState → SinkState → SinkState → Type 0
+PipesBytes (Ok piped) setup outcome bytes old new out out' = PipesTo piped.read piped.write setup outcome bytes old new out out'
+PipesBytes (Err NotBuilt) setup outcome bytes old new out out' =
+    (¬ IsBuilt setup bytes) × (ReadsWhole old new ⊎ ((MAX_PIPED < length bytes) × (new.faults ≡ old.faults))) × (out' ≡ out)
+PipesBytes (Err NoMemory) setup outcome bytes old new out out' = WroteAtWant setup outcome bytes out out'
 
 -- some bytes were taken, and what is answered and written is what those bytes say
-pub record Pipes (answer : Result Piped PipeFault) (outcome : List ℕ → JobRecord → Outcome) (old new : SourceState) (out out' : SinkState) : Type 0 where
+pub record Pipes (answer : Result Piped PipeFault) (setup : SetupData) (outcome : List ℕ → JobRecord → Outcome) (old new : SourceState) (out out' : SinkState) : Type 0 where
   pub bytes : List ℕ
   pub gave : Gave bytes old new
   pub few : length bytes ≤ MAX_PIPED + 1
-  pub came : PipesBytes answer outcome bytes old new out out'
+  pub came : PipesBytes answer setup outcome bytes old new out out'

@@ -13,9 +13,9 @@ is_command word =
     bytes_eq word (codes "pipe") || bytes_eq word (codes "serve") || bytes_eq word (codes "call") || bytes_eq word (codes "refs")
     || bytes_eq word (codes "dump") || bytes_eq word (codes "idl") || bytes_eq word (codes "load")
 
--- a command other than `refs`: `pipe` and `dump` alone are built
+-- a command other than `pipe` and `refs`: `dump` alone is built
 abbrev pub alone_of : {W : Type 0} → List ℕ → List W → Meaning
-alone_of word [] = if bytes_eq word (codes "pipe") then Pipe else if bytes_eq word (codes "dump") then Dump else Unbuilt
+alone_of word [] = if bytes_eq word (codes "dump") then Dump else Unbuilt
 alone_of word (_ ∷ _) = Unbuilt
 
 -- a word that can be the value of an option: it begins with no dash
@@ -34,6 +34,19 @@ place_of word = if is_value word then address_of word else None
 -- the name of a file that the value of an option is
 abbrev pub name_of : List ℕ → Option (List ℕ)
 name_of word = if is_name word then Some word else None
+
+-- the pipe by a configuration, which has to be there
+abbrev pub piped_by : Option (List ℕ) → Meaning
+piped_by (Some name) = Pipe (Some name)
+piped_by None = Unbuilt
+
+-- the words behind `pipe`: none, or `--config` and a name
+abbrev pub pipe_of : {W : Type 0} → (W → List ℕ) → List W → Meaning
+pipe_of spelling [] = Pipe None
+pipe_of spelling (_ ∷ []) = Unbuilt
+pipe_of spelling (option ∷ name ∷ []) =
+    if bytes_eq (spelling option) (codes "--config") then piped_by (name_of (spelling name)) else Unbuilt
+pipe_of spelling (_ ∷ _ ∷ _ ∷ _) = Unbuilt
 
 -- references at an address, by a configuration where there is one; without an address there is no such command
 abbrev pub at_place : Option Place → Option (List ℕ) → Meaning
@@ -60,23 +73,27 @@ refs_of spelling (_ ∷ _ ∷ _ ∷ _ ∷ _ ∷ _) = Unbuilt
 
 -- what is built of a command; what else begins with a command isn't yet
 abbrev pub built_of : {W : Type 0} → (W → List ℕ) → List ℕ → List W → Meaning
-built_of spelling word words = if bytes_eq word (codes "refs") then refs_of spelling words else alone_of word words
+built_of spelling word words =
+    if bytes_eq word (codes "refs") then refs_of spelling words
+    else if bytes_eq word (codes "pipe") then pipe_of spelling words
+    else alone_of word words
 
 -- `spelling` gives the bytes of a word
 abbrev pub command_of : {W : Type 0} → (W → List ℕ) → List W → Meaning
 command_of spelling [] = Unread
 command_of spelling (word ∷ words) = if is_command (spelling word) then built_of spelling (spelling word) words else Unread
 
--- the words mean references at an address
-abbrev pub IsRefsAt : Meaning → Type 0
-IsRefsAt (RefsAt place config) = Unit {0}
-IsRefsAt Pipe = ⊥
-IsRefsAt Dump = ⊥
-IsRefsAt Refs = ⊥
-IsRefsAt Unbuilt = ⊥
-IsRefsAt Unread = ⊥
+-- the words mean references at an address, or a configuration
+abbrev pub NamesThings : Meaning → Type 0
+NamesThings (RefsAt place config) = Unit {0}
+NamesThings (Pipe (Some name)) = Unit {0}
+NamesThings (Pipe None) = ⊥
+NamesThings Dump = ⊥
+NamesThings Refs = ⊥
+NamesThings Unbuilt = ⊥
+NamesThings Unread = ⊥
 
--- the words were read as what they mean; memory can be wanting where they mean references at an address
+-- the words were read as what they mean; memory can be wanting where they name an address or a configuration
 abbrev pub Means : Result Meaning NoMemory → Meaning → Type 0
 Means (Ok meaning) meant = meaning ≡ meant
-Means (Err _) meant = IsRefsAt meant
+Means (Err _) meant = NamesThings meant

@@ -15,18 +15,18 @@ const PING: &[u8] =
 const OBJECT: &[u8] =
     b"pool = { static = 1, dynamic = 0, default_priority = 100 }\nadapter = [{ name = \"a\", model = \"CLIENT_PROPAGATED\", priority = 100 }]\nobject = [{ key = \"ping\", adapter = \"a\", interface = \"IDL:Orb/Ping:1.0\" }]\n";
 
-const UNSERVED: &[u8] =
+pub const UNSERVED: &[u8] =
     b"pool = { static = 1, dynamic = 0, default_priority = 1 }\nadapter = [{ name = \"a\", model = \"SERVER_DECLARED\", priority = 1 }]\nobject = [{ key = \"k\", adapter = \"a\", interface = \"IDL:M/V:1.0\" }]\n";
 
-const FILED: &[u8] =
+pub const FILED: &[u8] =
     b"idl = \"m.idl\"\nscripts = \"m.srv\"\npool = { static = 1, dynamic = 0, default_priority = 1 }\nadapter = [{ name = \"a\", model = \"SERVER_DECLARED\", priority = 1 }]\nobject = [{ key = \"v\", adapter = \"a\", interface = \"IDL:M/V:1.0\" }]\n";
 
-fn list<T: Copy>(alloc: Global, items: &[T]) -> Result<List<T>, Fail> {
+pub fn list<T: Copy>(alloc: Global, items: &[T]) -> Result<List<T>, Fail> {
     Ok(List::from_vec(Vec::from_slice(alloc, items)?))
 }
 
 /// A store of the one file `c`, whose reads of these numbers fail.
-fn store(alloc: Global, bytes: Octets, failing: &[u64]) -> Result<MemFiles, Fail> {
+pub fn store(alloc: Global, bytes: Octets, failing: &[u64]) -> Result<MemFiles, Fail> {
     let name = match Text::new(alloc, b"c") {
         Ok(name) => name,
         Err(_) => return Err(Fail::new("a name")),
@@ -126,7 +126,7 @@ fn references_at_an_address_have_their_status(rt: HostRuntime) -> Result<(), Fai
 }
 
 /// Whether the configuration is refused with this cause at this path.
-fn refuses(answered: &Answered, cause: ConfigCause, path: &str) -> bool {
+pub fn refuses(answered: &Answered, cause: ConfigCause, path: &str) -> bool {
     match &answered.note {
         Note::Config(fault) => {
             answered.status == 2 && fault.cause == cause && fault.path.as_slice() == path.as_bytes()

@@ -2,17 +2,14 @@
 ghost use Rattle.std.specs.Prelude.{◌≡◌, string_bytes};
 ghost use Rattle.orb_command.specs.Words.{command_of};
 ghost use Rattle.orb_command.specs.Moment.{moment};
-ghost use Rattle.orb_command.specs.PipeAnswer.{note_of, note_of_read as note_of_read_lem};
 ghost use Rattle.orb_command.specs.Command.{Answers, status_of};
 
 use crate::answered::Answered;
 use crate::at_note::note_at;
 use crate::dump_note::dump_note;
-use crate::ends::{PipeFault, Piped, ReadEnd, WriteEnd};
 use crate::meaning::Meaning;
 use crate::note::Note;
-use crate::ping::Ping;
-use crate::pipe::pipe_run;
+use crate::pipe_note::pipe_note;
 use crate::refs_note::refs_note;
 use crate::words::read_words;
 use giop_dump::dump_run;
@@ -41,38 +38,13 @@ fn answered(note: Note) -> Answered
     Answered { status, note }
 }
 
-/// The note of how the reading of the pipe ended.
-fn note_of_read(read: ReadEnd) -> Note
-    ensures { result ≡ note_of_read_lem read }
-{
-    match read {
-        ReadEnd::Ended => Note::Nothing,
-        ReadEnd::RunClosed => Note::Limit,
-        ReadEnd::ReadFault => Note::ReadFault,
-        ReadEnd::Stopped => Note::WriteFault,
-    }
-}
-
-/// The note of a run of the pipe: a write fault goes before the read's end.
-fn note_for(ran: Result<Piped, PipeFault>) -> Note
-    ensures { result ≡ note_of ran }
-{
-    match ran {
-        Ok(piped) => match piped.write {
-            WriteEnd::WriteFault => Note::WriteFault,
-            WriteEnd::Done | WriteEnd::Closed => note_of_read(piped.read),
-        },
-        Err(PipeFault::NotBuilt) => Note::NotBuilt,
-        Err(PipeFault::NoMemory) => Note::Memory,
-    }
-}
-
 /// Does all that the program does: reads the words, runs the command over the files, the input and the output, and answers the
-/// status with its note. `pipe` answers each request of its input, `dump` writes a line for each message of it, and `refs` writes
+/// status with its note. `pipe` answers each request of its input, by the built-in setup, and with `--config FILE` by the
+/// configuration of this name; `dump` writes a line for each message of it, and `refs` writes
 /// the parts of the reference that it is. `refs --at HOST:PORT` writes the reference of each object of the built-in setup at that
 /// address, and with `--config FILE` of each object of the configuration of this name. The other commands aren't built yet. It
 /// returns where each read and write returns.
-#[tactic(auto, using(crate::proofs::CommandLaws::pipe_answers, crate::proofs::CommandLaws::dump_answers, crate::proofs::CommandLaws::refs_answers, crate::proofs::CommandLaws::unbuilt_answers, crate::proofs::CommandLaws::unread_answers, crate::proofs::AtLaws::at_answers, crate::proofs::AtLaws::wanting_answers))]
+#[tactic(auto, using(crate::proofs::CommandLaws::dump_answers, crate::proofs::CommandLaws::refs_answers, crate::proofs::CommandLaws::unbuilt_answers, crate::proofs::CommandLaws::unread_answers, crate::proofs::AtLaws::at_answers, crate::proofs::PipeNotes::pipe_answers, crate::proofs::PipeNotes::wanting_answers))]
 pub fn orb_main<F: Files, I: Source, O: Sink>(
     alloc: Global,
     words: &[String],
@@ -82,14 +54,14 @@ pub fn orb_main<F: Files, I: Source, O: Sink>(
 ) -> Answered
     // The status is that of the note, and each note has its cause, by what the words mean: 1 exactly where they mean no
     // command, 14 exactly where they mean one that isn't built, an input of `pipe` isn't of the built form, or a configuration names
-    // files of interfaces; 3 and 4 only where the count of faults of the input, of the files, or of the output rose, and no other;
+    // files of interfaces, or for `pipe` has another pool than the one that is built; 3 and 4 only where the count of faults of the input, of the files, or of the output rose, and no other;
     // 8 and 13 of `dump`, and 8 of `refs`, exactly where the bytes that it took say so; 2 and 10 exactly where the file says so.
     ensures { Answers (command_of string_bytes words.now) result
         (moment (F.state files.old) (I.state input.old) (O.state out.old))
         (moment (F.state files.new) (I.state input.new) (O.state out.new)) }
 {
     match read_words(alloc, words) {
-        Ok(Meaning::Pipe) => answered(note_for(pipe_run(alloc, input, out, &Ping::new(alloc)))),
+        Ok(Meaning::Pipe(config)) => answered(pipe_note(alloc, files, config.as_ref(), input, out)),
         Ok(Meaning::Dump) => answered(dump_note(dump_run(alloc, input, out))),
         Ok(Meaning::Refs) => answered(refs_note(refs_run(alloc, input, out))),
         Ok(Meaning::RefsAt(at, config)) => {

@@ -6,12 +6,12 @@ ghost use Rattle.orb_base.specs.declared.outcome.Outcome.{Outcome};
 ghost use Rattle.lane_machine.specs.declared.call.How.{How};
 ghost use Rattle.lane_machine.specs.declared.call.LaneCall.{LaneCall};
 ghost use Rattle.lane_machine.specs.State.{opening};
-ghost use Rattle.orb_command.specs.Setup.{HasDistinctKeys};
+ghost use Rattle.orb_command.specs.Setup.{HasDistinctKeys, IsRunnable};
 ghost use Rattle.adapter_policies.specs.BuiltIn.{built_in};
 ghost use Rattle.adapter_policies.specs.SetupData.{SetupData};
 ghost use Rattle.orb_command.specs.Heard.{Hears};
 ghost use Rattle.orb_command.specs.Piped.{piped, IsReplayed};
-ghost use Rattle.orb_command.specs.Replied.{PingsReplied, MeetsNoLimit};
+ghost use Rattle.orb_command.specs.Replied.{PingsReplied, PingRunsAt100, MeetsNoLimit};
 
 /// A run of the pipe, over any setup, servants, calls and groups, stands where its history leads.
 pub fn piped_is_replayed()
@@ -31,10 +31,17 @@ pub fn built_in_is_distinct()
     ensures { HasDistinctKeys built_in }
 {}
 
-/// What the pipe writes to an input of the built form is read as exactly one reply to each request of the input, in the order
-/// in which the requests were completed, with its id and in its byte order, and as nothing else. No such input meets a limit
-/// of the run.
+/// The pipe runs the built-in setup.
+#[tactic(auto, using(crate::proofs::CanOpen::built_in_is_runnable))]
+pub fn built_in_is_runnable()
+    ensures { IsRunnable built_in }
+{}
+
+/// What the pipe of a setup writes to an input of the built form, behind which no limit of the run is met, is read as exactly one
+/// reply to each request of the input, in the order in which the requests were completed, with its id and in its byte order, and
+/// as nothing else. In the built-in setup no such input meets a limit of the run, and each request runs at the priority 100.
 pub fn pings_are_replied()
     ensures replied { PingsReplied }
     ensures unlimited { MeetsNoLimit }
+    ensures level { PingRunsAt100 }
 {}

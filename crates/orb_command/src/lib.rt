@@ -12,6 +12,8 @@ mod meaning;
 mod note;
 mod ping;
 mod pipe;
+mod pipe_note;
+mod place;
 mod refs_note;
 mod replies;
 mod request;
@@ -22,13 +24,18 @@ mod words;
 pub use answered::Answered;
 pub use command::orb_main;
 pub use ends::{PipeFault, Piped, ReadEnd, WriteEnd};
-pub use laws::{built_in_is_distinct, hears_one_way, pings_are_replied, piped_is_replayed};
+pub use laws::{
+    built_in_is_distinct, built_in_is_runnable, hears_one_way, pings_are_replied, piped_is_replayed,
+};
 pub use note::{Note, Role};
 pub use pipe::pipe_run;
 pub use request::MAX_PIPED;
+pub use setup::is_runnable;
 
 #[cfg(test)]
 mod at_tests;
+#[cfg(test)]
+mod config_tests;
 #[cfg(test)]
 mod tests;
 #[cfg(test)]

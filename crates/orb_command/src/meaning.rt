@@ -6,8 +6,8 @@ use orb_base::Text;
 /// What the words of a command line mean.
 #[derive(Debug, Drop)]
 pub enum Meaning {
-    /// The command `pipe`.
-    Pipe,
+    /// The command `pipe`, with the name of a configuration where there is one.
+    Pipe(Option<Text>),
     /// The command `dump`.
     Dump,
     /// The command `refs`.

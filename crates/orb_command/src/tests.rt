@@ -2,8 +2,9 @@
 ghost use Rattle.orb_base.specs.Outcomes.{bad_operation};
 
 use super::*;
+use adapter_policies::Setup;
 use orb_base::{
-    Completed, CountingSink, Job, List, MemSink, MemSource, Outcome, Serving, SteadyFiles,
+    Completed, CountingSink, Job, List, MemSink, MemSource, Outcome, Serving, Sink, SteadyFiles,
     SteadySource, Sys, SysName, Text,
 };
 use std::alloc::Global;
@@ -591,6 +592,22 @@ impl Serving for Deaf {
     }
 }
 
+/// What the pipe of the built-in setup comes to over a servant that is deaf.
+fn deaf_run<O: Sink>(
+    alloc: Global,
+    input: &mut SteadySource,
+    out: &mut O,
+) -> Result<Option<Piped>, Fail> {
+    let setup = match Setup::built_in(alloc) {
+        Ok(setup) => setup,
+        Err(_) => return Err(Fail::new("a setup")),
+    };
+    if !is_runnable(&setup) {
+        return Err(Fail::new("a setup that runs"));
+    }
+    Ok(pipe_run(alloc, &setup, input, out, &Deaf).ok())
+}
+
 #[test]
 fn the_pipe_runs_over_any_servant(rt: HostRuntime) -> Result<(), Fail> {
     let alloc = rt.alloc();
@@ -600,11 +617,11 @@ fn the_pipe_runs_over_any_servant(rt: HostRuntime) -> Result<(), Fail> {
         read: ReadEnd::Ended,
         write: WriteEnd::Done,
     };
-    assert_eq!(rt; pipe_run(alloc, &mut input, &mut out, &Deaf), Ok(done));
+    assert_eq!(rt; deaf_run(alloc, &mut input, &mut out)?, Some(done));
     assert_eq!(rt; out.held(), BAD_OPERATION_REPLY);
     let mut again = SteadySource::new(list(alloc, PING_REQUEST)?, List::new(alloc));
     let mut counting = CountingSink::new();
-    assert_eq!(rt; pipe_run(alloc, &mut again, &mut counting, &Deaf), Ok(done));
+    assert_eq!(rt; deaf_run(alloc, &mut again, &mut counting)?, Some(done));
     assert_eq!(rt; counting.bytes(), 72);
     Ok(())
 }
@@ -621,7 +638,7 @@ fn a_failed_reply_stops_the_run(rt: HostRuntime) -> Result<(), Fail> {
         read: ReadEnd::Stopped,
         write: WriteEnd::WriteFault,
     };
-    assert_eq!(rt; pipe_run(alloc, &mut input, &mut out, &Deaf), Ok(stopped));
+    assert_eq!(rt; deaf_run(alloc, &mut input, &mut out)?, Some(stopped));
     let mut front = list(alloc, BAD_OPERATION_REPLY)?;
     assert!(rt; front.append(&BAD_OPERATION_REPLY[..5]).is_ok());
     assert_eq!(rt; out.held(), front.as_slice());
@@ -638,7 +655,7 @@ fn a_little_endian_request_gets_a_little_endian_exception(rt: HostRuntime) -> Re
         read: ReadEnd::Ended,
         write: WriteEnd::Done,
     };
-    assert_eq!(rt; pipe_run(alloc, &mut input, &mut out, &Deaf), Ok(done));
+    assert_eq!(rt; deaf_run(alloc, &mut input, &mut out)?, Some(done));
     assert_eq!(rt; out.held(), LITTLE_BAD_OPERATION_REPLY);
     Ok(())
 }

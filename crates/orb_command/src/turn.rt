@@ -6,7 +6,7 @@ ghost use Rattle.thread_borrowing.specs.declared.doing.Doing.TheVariants.{Free, 
 ghost use Rattle.lane_machine.specs.Machine.{step};
 ghost use Rattle.lane_machine.specs.Readiness.{is_ready, IsSound};
 ghost use Rattle.orb_command.specs.Setup.{pipe_conn};
-ghost use Rattle.orb_command.specs.PingRun.{IsPingJob, Does, Becomes, Owes, IsSettled, Offers, IsAnswerTo, Carries};
+ghost use Rattle.orb_command.specs.PingRun.{IsPingJob, Does, Becomes, owing, Owes, IsSettled, Offers, IsAnswerTo, Carries};
 
 use crate::request::PIPE_CONN;
 use lane_machine::{How, LaneCall, LaneReply, Lanes};
@@ -38,7 +38,7 @@ fn offer(lanes: &mut Lanes, job: Arc<Job>) -> Result<bool, NoMemory>
 /// The thread takes the request.
 fn take(lanes: &mut Lanes, job: &Job) -> Result<Arc<Job>, NoMemory>
     requires { Does (Given job.now) lanes.old }
-    ensures { IfOk result (λ taken. (taken ≡ job.now) × Becomes lanes.new (Busy job.now) lanes.old.calls lanes.old.bytes) }
+    ensures { IfOk result (λ taken. (taken ≡ job.now) × Becomes lanes.old lanes.new (Busy job.now) lanes.old.calls lanes.old.bytes) }
 {
     match advance(lanes, &LaneCall::Take { thread: 0 })? {
         LaneReply::Given(job) => Ok(job),
@@ -51,8 +51,7 @@ fn finish(lanes: &mut Lanes, answer: Answer) -> Result<(), NoMemory>
     requires busy { Does (Busy answer.job) lanes.old }
     requires job { IsPingJob answer.job }
     requires short { body_len answer.outcome ≤ MAX_BODY }
-    ensures { OnOk result (Owes answer lanes.new × (lanes.new.calls ≡ lanes.old.calls)
-        × (lanes.new.bytes ≡ lanes.old.bytes + body_len answer.outcome)) }
+    ensures { OnOk result (lanes.new ≡ owing lanes.old answer lanes.old.calls (lanes.old.bytes + body_len answer.outcome)) }
 {
     advance(lanes, &LaneCall::Finish { thread: 0, answer })?;
     Ok(())
@@ -62,7 +61,7 @@ fn finish(lanes: &mut Lanes, answer: Answer) -> Result<(), NoMemory>
 fn collect(lanes: &mut Lanes, answer: &Answer) -> Result<Answer, NoMemory>
     requires owed { Owes answer.now lanes.old }
     requires job { IsPingJob answer.now.job }
-    ensures { IfOk result (λ collected. (collected ≡ answer.now) × Becomes lanes.new Free lanes.old.calls lanes.old.bytes) }
+    ensures { IfOk result (λ collected. (collected ≡ answer.now) × Becomes lanes.old lanes.new Free lanes.old.calls lanes.old.bytes) }
 {
     match advance(lanes, &LaneCall::Collect { conn: PIPE_CONN })? {
         LaneReply::Handed(Item::Answered(answer)) => Ok(answer),
@@ -79,12 +78,13 @@ fn answer<S: Serving>(servants: &S, interface: &Text, job: Arc<Job>) -> Answer
 }
 
 /// Finishes and collects an answer.
+#[tactic(auto, using(crate::proofs::Turns::owes_now, crate::proofs::Turns::handed_over))]
 fn hand_over(lanes: &mut Lanes, answer: &Answer) -> Result<Answer, NoMemory>
     requires busy { Does (Busy answer.now.job) lanes.old }
     requires job { IsPingJob answer.now.job }
     requires short { body_len answer.now.outcome ≤ MAX_BODY }
     ensures { IfOk result (λ collected. (collected ≡ answer.now)
-        × Becomes lanes.new Free lanes.old.calls (lanes.old.bytes + body_len answer.now.outcome)) }
+        × Becomes lanes.old lanes.new Free lanes.old.calls (lanes.old.bytes + body_len answer.now.outcome)) }
 {
     finish(lanes, answer.share()?)?;
     collect(lanes, answer)
@@ -92,6 +92,7 @@ fn hand_over(lanes: &mut Lanes, answer: &Answer) -> Result<Answer, NoMemory>
 
 /// Runs one request on the machine, whose thread is free: it is offered, taken, carried out, finished and collected. None
 /// where a limit of the run is met.
+#[tactic(auto, using(crate::proofs::Turns::does_now, crate::proofs::Turns::carried))]
 pub fn carry_out<S: Serving>(
     lanes: &mut Lanes,
     servants: &S,

@@ -8,8 +8,7 @@ use object_lines::{Address, read_address};
 use orb_base::{NoMemory, Text};
 use std::alloc::Global;
 
-/// What the words mean, the first of which is the command. Memory is asked for an address, and for the name of a configuration
-/// behind one.
+/// What the words mean, the first of which is the command. Memory is asked for an address, and for the name of a configuration.
 pub fn read_words(alloc: Global, words: &[String]) -> Result<Meaning, NoMemory>
     ensures { Spec.Means result (Spec.command_of string_bytes words.now) }
 {
@@ -20,6 +19,8 @@ pub fn read_words(alloc: Global, words: &[String]) -> Result<Meaning, NoMemory>
                 Ok(Meaning::Unread)
             } else if word.as_str() == "refs" {
                 read_refs(alloc, options)
+            } else if word.as_str() == "pipe" {
+                read_pipe(alloc, options)
             } else {
                 Ok(alone(word.as_str(), options))
             }
@@ -39,15 +40,13 @@ fn is_command(word: &str) -> bool
         || word == "load"
 }
 
-/// What a command other than `refs` means.
+/// What a command other than `pipe` and `refs` means.
 fn alone(word: &str, options: &[String]) -> Meaning
     ensures { result ≡ Spec.alone_of word.now options.now }
 {
     match options {
         [] => {
-            if word == "pipe" {
-                Meaning::Pipe
-            } else if word == "dump" {
+            if word == "dump" {
                 Meaning::Dump
             } else {
                 Meaning::Unbuilt
@@ -55,6 +54,35 @@ fn alone(word: &str, options: &[String]) -> Meaning
         }
         [_, ..] => Meaning::Unbuilt,
     }
+}
+
+/// What `pipe` means with these words behind it.
+fn read_pipe(alloc: Global, options: &[String]) -> Result<Meaning, NoMemory>
+    ensures { Spec.Means result (Spec.pipe_of string_bytes options.now) }
+{
+    match options {
+        [] => Ok(Meaning::Pipe(None)),
+        [_] => Ok(Meaning::Unbuilt),
+        [option, name] => {
+            if option.as_str() == "--config" {
+                pipe_with(alloc, name.as_str())
+            } else {
+                Ok(Meaning::Unbuilt)
+            }
+        }
+        [_, _, _, ..] => Ok(Meaning::Unbuilt),
+    }
+}
+
+/// The pipe by a configuration, where the word is a name.
+fn pipe_with(alloc: Global, name: &str) -> Result<Meaning, NoMemory>
+    ensures { Spec.Means result (Spec.piped_by (Spec.name_of name.now)) }
+{
+    if !is_name(name.as_bytes()) {
+        return Ok(Meaning::Unbuilt);
+    }
+    let name = text_of(alloc, name.as_bytes())?;
+    Ok(Meaning::Pipe(Some(name)))
 }
 
 /// What `refs` means with these words behind it.

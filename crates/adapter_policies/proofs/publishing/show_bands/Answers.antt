@@ -1,4 +1,4 @@
-use Rattle.std.proofs.Common.{arith, rules, drop, length, subst, sym, ◌≡◌, []}
+use Rattle.std.proofs.Common.{arith, drop, subst, sym, ◌≡◌, []}
 use Rattle.std.specs.List.{AllByRecursion}
 use Rattle.std.proofs.lemmas.List.{drop_all}
 use Rattle.service_contexts.specs.Layout.{IsBand}

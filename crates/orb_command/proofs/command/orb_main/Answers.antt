@@ -1,9 +1,19 @@
-use Rattle.std.proofs.Common.{◌≡◌, refl, sym, ap, ◌∙◌}
+use Rattle.std.proofs.Common.{refl, sym, ap, ◌∙◌}
 use Rattle.orb_command.specs.Moment.{moment}
 use Rattle.orb_command.specs.Command.{status_of}
 use Rattle.orb_command.proofs.CommandLaws.{unbuilt_answers, unread_answers}
-use Rattle.orb_command.proofs.AtLaws.{at_answers, wanting_answers}
+use Rattle.orb_command.proofs.AtLaws.{at_answers}
+use Rattle.orb_command.proofs.PipeNotes.{pipe_answers, wanting_answers}
 use Rattle.orb_command.proofs.command.orb_main.Goals as goal
+
+pub returns-in-Ok-Pipe : goal.returns-in-Ok-Pipe
+returns-in-Ok-Pipe g c =
+    let note = c.answered.ensures.note in
+    rw (sym c.in-Ok-Pipe.ensures, c.in-Ok-Pipe.field-0-is)
+    (pipe_answers c.in-Ok-Pipe.config c.answered.result
+    (moment (g.F.Files.state c.args.files.now) (g.I.Source.state c.args.input.now) (g.O.Sink.state c.args.out.now))
+    (moment (g.F.Files.state c.pipe_note.new.files) (g.I.Source.state c.pipe_note.new.input) (g.O.Sink.state c.pipe_note.new.out))
+    (rw (note, sym c.as_ref.ensures.value) c.pipe_note.ensures) (c.answered.ensures.status ∙ ap status_of (sym note)))
 
 pub returns-in-Ok-RefsAt : goal.returns-in-Ok-RefsAt
 returns-in-Ok-RefsAt g c =
@@ -13,7 +23,7 @@ returns-in-Ok-RefsAt g c =
     (at_answers c.at_run.result c.in-Ok-RefsAt.at c.in-Ok-RefsAt.config c.answered-in-Ok-RefsAt.result
     (moment (g.F.Files.state c.args.files.now) (g.I.Source.state c.args.input.now) (g.O.Sink.state c.args.out.now))
     (moment (g.F.Files.state c.at_run.new.files) (g.I.Source.state c.args.input.now) (g.O.Sink.state c.at_run.new.sink))
-    refl (rw (sym c.as_ref.ensures.value) c.at_run.ensures) note status)
+    refl (rw (sym c.as_ref-in-Ok-RefsAt.ensures.value) c.at_run.ensures) note status)
 
 pub returns-in-Ok-Unbuilt : goal.returns-in-Ok-Unbuilt
 returns-in-Ok-Unbuilt g c =

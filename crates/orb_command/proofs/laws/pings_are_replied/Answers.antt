@@ -1,4 +1,4 @@
-use Rattle.orb_command.proofs.RepliedLaws.{pings_replied, meets_no_limit}
+use Rattle.orb_command.proofs.RepliedLaws.{pings_replied, ping_runs_at_100, meets_no_limit}
 use Rattle.orb_command.proofs.laws.pings_are_replied.Goals as goal
 
 pub returns-clause-replied : goal.returns-clause-replied
@@ -6,3 +6,6 @@ returns-clause-replied c = pings_replied
 
 pub returns-clause-unlimited : goal.returns-clause-unlimited
 returns-clause-unlimited c = meets_no_limit
+
+pub returns-clause-level : goal.returns-clause-level
+returns-clause-level c = ping_runs_at_100

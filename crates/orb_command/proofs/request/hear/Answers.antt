@@ -19,11 +19,11 @@ jobs_of-requires-clause-messages c =
 pub jobs_of-requires-clause-few : goal.jobs_of-requires-clause-few
 jobs_of-requires-clause-few c =
     let all = fed_all c.in_ok-framer.framer c.feed.new.self c.new-messages.result.items c.feed.new.whole.items c.args.input.now c.in_ok-framer.ensures c.feed.ensures.fed.0 c.feed.ensures.fed.1 c.new-messages.ensures c.in-Ok.ensures.tells in
-    omega (arith, ap length (c.as_slice.ensures ∙ all.gives), few_messages MAX_MESSAGE c.args.input.now, c.requires)
+    omega (arith, ap length (c.as_slice.ensures ∙ all.gives), few_messages MAX_MESSAGE c.args.input.now, c.requires.few)
 
 pub returns : goal.returns
 returns c =
     let all = fed_all c.in_ok-framer.framer c.feed.new.self c.new-messages.result.items c.feed.new.whole.items c.args.input.now c.in_ok-framer.ensures c.feed.ensures.fed.0 c.feed.ensures.fed.1 c.new-messages.ensures c.in-Ok.ensures.tells in
     let whole = no_rest c.args.input.now c.feed.new.self c.feed.new.whole.items c.rest.result all (c.rest.ensures.rest all.enough) (sym c.is_some.ensures ∙ c.if-is_some.false) in
-    heard_as c.args.input.now c.feed.new.self c.feed.new.whole.items c.jobs_of.result all c.requires whole
-    (subst (λ (ms : List Message). IfOk c.jobs_of.result (MeansJobs ms)) c.as_slice.ensures c.jobs_of.ensures)
+    heard_as c.args.setup.now c.args.input.now c.feed.new.self c.feed.new.whole.items c.jobs_of.result all c.requires.few whole
+    (subst (λ (ms : List Message). IfOk c.jobs_of.result (MeansJobs c.args.setup.now ms)) c.as_slice.ensures c.jobs_of.ensures)

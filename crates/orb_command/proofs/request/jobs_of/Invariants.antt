@@ -4,6 +4,6 @@ use Rattle.orb_command.proofs.request.jobs_of.Given as goal
 
 abbrev pub invariant-loop-message : goal.invariant-loop-message
 invariant-loop-message l = record {
-  mean : MeanJobs 0 (take l.message-index l.messages) l.jobs.items;
+  mean : MeanJobs l.fn.setup 0 (take l.message-index l.messages) l.jobs.items;
   count : length l.jobs.items ≡ l.message-index;
 }
