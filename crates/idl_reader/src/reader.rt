@@ -1,10 +1,9 @@
 //! The repository of a whole text.
-ghost use Rattle.std.specs.Prelude.{◌≤◌, length};
+ghost use Rattle.std.specs.Prelude.{◌≤◌, List, length};
 ghost use Rattle.idl_types.specs.Contents.{things_of};
 ghost use Rattle.idl_types.specs.Things as things;
 ghost use Rattle.idl_names.specs.Memory.{Yields};
 ghost use Rattle.idl_reader.specs.Whole.{Declares, TellsOnly, TellsThings, text_things};
-ghost use Rattle.std.specs.Prelude.{List};
 
 use crate::declaring::repository_of;
 use grammar::ReadError;
