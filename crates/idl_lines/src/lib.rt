@@ -2,10 +2,15 @@
 #![tactic(auto)]
 
 mod counts;
+mod idl_end;
 mod lines;
 mod listing;
+mod run;
+mod texts;
 
+pub use idl_end::IdlEnd;
 pub use listing::write_listing;
+pub use run::idl_run;
 
 #[cfg(test)]
 mod tests;

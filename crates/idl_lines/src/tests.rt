@@ -1,14 +1,16 @@
-//! The listing over memory.
+//! Listings over memory: of the built-in module, and of texts in files.
 
 use super::*;
-use cdr_values::{IdlType, IdlValue};
-use idl_types::{
-    Constant, Declaration, Exception, Interface, NamedType, Operation, Param, Repository, Way,
-};
-use orb_base::{List, MemSink, Text};
+use idl_grammar::{IdlCause, IdlFault};
+use idl_types::Repository;
+use orb_base::{List, MemFile, MemFiles, MemSink, Octets, Text};
 use std::alloc::Global;
 use std::test::*;
 use text_streams::WriteAll;
+
+/// The listing of the built-in module.
+const BUILT_IN: &[u8] =
+    b"interface IDL:Orb/Ping:1.0\nop current in 0 out 0 raises 0\nop echo in 1 out 0 raises 0\nop note in 0 out 0 raises 0\n";
 
 fn text(alloc: Global, bytes: &[u8]) -> Result<Text, Fail> {
     match Text::new(alloc, bytes) {
@@ -17,84 +19,20 @@ fn text(alloc: Global, bytes: &[u8]) -> Result<Text, Fail> {
     }
 }
 
-/// A list of one item.
-fn one<T: Drop>(alloc: Global, item: T) -> Result<List<T>, Fail> {
-    let mut list = List::new(alloc);
-    match list.push(item) {
-        Ok(()) => Ok(list),
-        Err(_) => Err(Fail::new("a list")),
+/// A store with the file `f`, which holds these bytes, and whose reads fail as told.
+fn files(alloc: Global, bytes: &[u8], failing: List<u64>) -> Result<MemFiles, Fail> {
+    let mut content = Octets::new(alloc);
+    content.append(bytes)?;
+    let mut files = List::new(alloc);
+    let file = MemFile {
+        name: text(alloc, b"f")?,
+        bytes: content,
+    };
+    match files.push(file) {
+        Ok(()) => Ok(MemFiles::new(files, failing)),
+        Err(_) => Err(Fail::new("a store")),
     }
 }
-
-/// A parameter of a way.
-fn param(alloc: Global, way: Way, name: &[u8]) -> Result<Param, Fail> {
-    Ok(Param {
-        way,
-        name: text(alloc, name)?,
-        kind: IdlType::Long,
-    })
-}
-
-/// `void op(in long a, inout long b, out long c, out long d) raises (M::E);`
-fn operation(alloc: Global) -> Result<Operation, Fail> {
-    let mut params = Vec::new(alloc);
-    params.push(param(alloc, Way::Input, b"a")?)?;
-    params.push(param(alloc, Way::Both, b"b")?)?;
-    params.push(param(alloc, Way::Output, b"c")?)?;
-    params.push(param(alloc, Way::Output, b"d")?)?;
-    Ok(Operation {
-        name: text(alloc, b"move")?,
-        oneway: false,
-        result: None,
-        params: List::from_vec(params),
-        raises: one(alloc, text(alloc, b"IDL:M/E:1.0")?)?,
-    })
-}
-
-/// Declares one more thing.
-fn declare(repository: &mut Repository, declaration: Declaration) -> Result<(), Fail> {
-    if repository.accepts(&declaration)? {
-        Ok(repository.declare(declaration)?)
-    } else {
-        Err(Fail::new("a declaration"))
-    }
-}
-
-/// `module M { const long C = 1; typedef long T; exception E {}; interface V { .. }; };` with the one operation above.
-fn repository(alloc: Global) -> Result<Repository, Fail> {
-    let mut repository = Repository::new(alloc);
-    let constant = Constant {
-        id: text(alloc, b"IDL:M/C:1.0")?,
-        kind: IdlType::Long,
-        value: IdlValue::Number(1),
-    };
-    declare(&mut repository, Declaration::Constant(constant))?;
-    let named = NamedType {
-        id: text(alloc, b"IDL:M/T:1.0")?,
-        kind: IdlType::Long,
-    };
-    declare(&mut repository, Declaration::Named(named))?;
-    let exception = Exception {
-        id: text(alloc, b"IDL:M/E:1.0")?,
-        members: List::new(alloc),
-    };
-    declare(&mut repository, Declaration::Exception(exception))?;
-    let interface = Interface {
-        id: text(alloc, b"IDL:M/V:1.0")?,
-        bases: List::new(alloc),
-        operations: one(alloc, operation(alloc)?)?,
-    };
-    declare(&mut repository, Declaration::Interface(interface))?;
-    Ok(repository)
-}
-
-/// The listing of `repository`.
-const LISTING: &[u8] =
-    b"const IDL:M/C:1.0\ntype IDL:M/T:1.0\nexception IDL:M/E:1.0\ninterface IDL:M/V:1.0\nop move in 2 out 3 raises 1\n";
-
-/// The listing of the built-in module.
-const BUILT_IN: &[u8] =
-    b"interface IDL:Orb/Ping:1.0\nop current in 0 out 0 raises 0\nop echo in 1 out 0 raises 0\nop note in 0 out 0 raises 0\n";
 
 /// A sink that cuts nothing and never fails.
 fn sink(alloc: Global) -> MemSink {
@@ -102,23 +40,17 @@ fn sink(alloc: Global) -> MemSink {
 }
 
 #[test]
-fn each_thing_has_its_line(rt: HostRuntime) -> Result<(), Fail> {
-    let repository = repository(rt.alloc())?;
+fn a_repository_has_its_listing(rt: HostRuntime) -> Result<(), Fail> {
     let mut out = sink(rt.alloc());
+    let empty = Repository::new(rt.alloc());
     assert_eq!(rt;
-        write_listing(rt.alloc(), &mut out, &repository)?,
+        write_listing(rt.alloc(), &mut out, &empty)?,
         WriteAll::Whole
     );
-    assert_eq!(rt; out.held(), LISTING);
-    Ok(())
-}
-
-#[test]
-fn operations_stand_behind_their_interface(rt: HostRuntime) -> Result<(), Fail> {
-    let repository = Repository::new(rt.alloc()).with_ping()?;
-    let mut out = sink(rt.alloc());
+    assert!(rt; out.held().is_empty());
+    let built_in = empty.with_ping()?;
     assert_eq!(rt;
-        write_listing(rt.alloc(), &mut out, &repository)?,
+        write_listing(rt.alloc(), &mut out, &built_in)?,
         WriteAll::Whole
     );
     assert_eq!(rt; out.held(), BUILT_IN);
@@ -126,27 +58,175 @@ fn operations_stand_behind_their_interface(rt: HostRuntime) -> Result<(), Fail> 
 }
 
 #[test]
-fn nothing_declared_gives_no_line(rt: HostRuntime) -> Result<(), Fail> {
-    let repository = Repository::new(rt.alloc());
-    let mut out = sink(rt.alloc());
+fn a_write_that_fails_leaves_a_front(rt: HostRuntime) -> Result<(), Fail> {
+    let cuts = List::from_vec(Vec::from_slice(rt.alloc(), &[9])?);
+    let failing = List::from_vec(Vec::from_slice(rt.alloc(), &[1])?);
+    let mut out = MemSink::new(rt.alloc(), cuts, failing);
+    let built_in = Repository::new(rt.alloc()).with_ping()?;
     assert_eq!(rt;
-        write_listing(rt.alloc(), &mut out, &repository)?,
-        WriteAll::Whole
+        write_listing(rt.alloc(), &mut out, &built_in)?,
+        WriteAll::Failed
     );
-    assert!(rt; out.held().is_empty());
+    assert_eq!(rt; out.held(), b"interface".as_slice());
+    Ok(())
+}
+
+/// What comes of the file `f` with this text.
+fn ran(alloc: Global, source: &str, out: &mut MemSink) -> Result<IdlEnd, Fail> {
+    let mut files = files(alloc, source.as_bytes(), List::new(alloc))?;
+    let name = text(alloc, b"f")?;
+    Ok(idl_run(alloc, &mut files, &name, out))
+}
+
+/// Whether a text has this listing.
+fn lists(alloc: Global, source: &str, wanted: &str) -> Result<bool, Fail> {
+    let mut out = sink(alloc);
+    let end = ran(alloc, source, &mut out)?;
+    Ok(matches!(end, IdlEnd::Done) && out.held() == wanted.as_bytes())
+}
+
+/// Whether a text is refused with this cause at this place, and nothing is written.
+fn refuses(
+    alloc: Global,
+    source: &str,
+    cause: IdlCause,
+    line: u32,
+    column: u32,
+) -> Result<bool, Fail> {
+    let mut out = sink(alloc);
+    let end = ran(alloc, source, &mut out)?;
+    let fault = IdlFault {
+        cause,
+        line,
+        column,
+    };
+    Ok(matches!(end, IdlEnd::Refused(told) if told == fault) && out.held().is_empty())
+}
+
+#[test]
+fn each_kind_of_thing_has_its_word(rt: HostRuntime) -> Result<(), Fail> {
+    let alloc = rt.alloc();
+    assert!(rt; lists(alloc, "", "")?);
+    assert!(rt; lists(alloc, "const long C = 1;", "const IDL:C:1.0\n")?);
+    assert!(rt; lists(alloc, "typedef long T;", "type IDL:T:1.0\n")?);
+    assert!(rt; lists(alloc, "enum E { a, b };", "type IDL:E:1.0\n")?);
+    assert!(rt; lists(alloc, "struct S { long a; };", "type IDL:S:1.0\n")?);
+    assert!(rt; lists(alloc, "exception X { long a; };", "exception IDL:X:1.0\n")?);
+    assert!(rt; lists(alloc, "interface I {};", "interface IDL:I:1.0\n")?);
+    assert!(rt;
+        lists(
+            alloc,
+            "module M { const long C = 1; };",
+            "const IDL:M/C:1.0\n"
+        )?
+    );
     Ok(())
 }
 
 #[test]
-fn a_write_that_fails_leaves_a_front(rt: HostRuntime) -> Result<(), Fail> {
-    let repository = repository(rt.alloc())?;
+fn each_operation_has_its_counts(rt: HostRuntime) -> Result<(), Fail> {
+    let alloc = rt.alloc();
+    assert!(rt;
+        lists(
+            alloc,
+            "module M { interface V { long twice(in long x); }; };",
+            "interface IDL:M/V:1.0\nop twice in 1 out 0 raises 0\n"
+        )?
+    );
+    assert!(rt;
+        lists(
+            alloc,
+            "interface V { void f(inout long x, out long y); };",
+            "interface IDL:V:1.0\nop f in 1 out 2 raises 0\n"
+        )?
+    );
+    assert!(rt;
+        lists(
+            alloc,
+            "exception X {}; interface V { oneway void f(); void g() raises (X); };",
+            "exception IDL:X:1.0\ninterface IDL:V:1.0\nop f in 0 out 0 raises 0\nop g in 0 out 0 raises 1\n"
+        )?
+    );
+    assert!(rt;
+        lists(
+            alloc,
+            "interface V { attribute long a; readonly attribute long b; };",
+            "interface IDL:V:1.0\nop _get_a in 0 out 0 raises 0\nop _set_a in 1 out 0 raises 0\nop _get_b in 0 out 0 raises 0\n"
+        )?
+    );
+    Ok(())
+}
+
+#[test]
+fn inherited_operations_come_first(rt: HostRuntime) -> Result<(), Fail> {
+    let source = "interface A { void f(); }; interface B : A { void g(); };";
+    let wanted =
+        "interface IDL:A:1.0\nop f in 0 out 0 raises 0\ninterface IDL:B:1.0\nop f in 0 out 0 raises 0\nop g in 0 out 0 raises 0\n";
+    assert!(rt; lists(rt.alloc(), source, wanted)?);
+    Ok(())
+}
+
+#[test]
+fn the_first_fault_is_told_with_its_place(rt: HostRuntime) -> Result<(), Fail> {
+    let alloc = rt.alloc();
+    assert!(rt;
+        refuses(
+            alloc,
+            "const long C = 1;\n  long x;",
+            IdlCause::Expected,
+            2,
+            3
+        )?
+    );
+    assert!(rt;
+        refuses(
+            alloc,
+            "typedef T U; const long C = c;",
+            IdlCause::Unknown,
+            1,
+            9
+        )?
+    );
+    assert!(rt;
+        refuses(
+            alloc,
+            "module Orb { const long x = 1; };",
+            IdlCause::Clash,
+            1,
+            8
+        )?
+    );
+    Ok(())
+}
+
+/// The end of a run over the file `f`, of so many blanks, whose reads fail as told, for this name.
+fn end_of(alloc: Global, name: &[u8], len: usize, failing: List<u64>) -> Result<IdlEnd, Fail> {
+    let blanks = vec![in alloc; b' '; len]?;
+    let mut files = files(alloc, blanks.as_slice(), failing)?;
+    let name = text(alloc, name)?;
+    let mut out = sink(alloc);
+    Ok(idl_run(alloc, &mut files, &name, &mut out))
+}
+
+#[test]
+fn a_file_that_is_not_read_is_told(rt: HostRuntime) -> Result<(), Fail> {
+    let alloc = rt.alloc();
+    let none = List::new(alloc);
+    assert!(rt; matches!(end_of(alloc, b"g", 0, none)?, IdlEnd::Absent));
+    let first = List::from_vec(Vec::from_slice(alloc, &[0])?);
+    assert!(rt; matches!(end_of(alloc, b"f", 0, first)?, IdlEnd::ReadFault));
+    let none = List::new(alloc);
+    assert!(rt; matches!(end_of(alloc, b"f", 1_048_577, none)?, IdlEnd::TooLong));
+    Ok(())
+}
+
+#[test]
+fn a_listing_that_fails_leaves_a_front(rt: HostRuntime) -> Result<(), Fail> {
     let cuts = List::from_vec(Vec::from_slice(rt.alloc(), &[5])?);
     let failing = List::from_vec(Vec::from_slice(rt.alloc(), &[1])?);
     let mut out = MemSink::new(rt.alloc(), cuts, failing);
-    assert_eq!(rt;
-        write_listing(rt.alloc(), &mut out, &repository)?,
-        WriteAll::Failed
-    );
+    let end = ran(rt.alloc(), "const long C = 1;", &mut out)?;
+    assert!(rt; matches!(end, IdlEnd::WriteFault));
     assert_eq!(rt; out.held(), b"const".as_slice());
     Ok(())
 }
