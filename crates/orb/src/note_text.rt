@@ -14,6 +14,7 @@ pub struct NoteText<'a> {
 fn role_name(role: Role) -> &'static str {
     match role {
         Role::Config => "config",
+        Role::Idl => "idl",
     }
 }
 
@@ -26,6 +27,7 @@ impl fmt::Display for NoteText<'_> {
                 let path = shown(fault.path.as_slice());
                 write!(f, "refused: config: {path}: {}", fault.cause)
             }
+            Note::Idl(fault) => write!(f, "refused: idl: {fault}"),
             Note::TooLong(role) => write!(f, "refused: {}: TooLong", role_name(*role)),
             Note::ReadFault => f.write_str("read fault"),
             Note::WriteFault => f.write_str("write fault"),

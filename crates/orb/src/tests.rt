@@ -5,6 +5,7 @@ use crate::std_files::StdFiles;
 use crate::without_words;
 use config_tables::{ConfigCause, ConfigFault};
 use giop_messages::Fault;
+use idl_grammar::{IdlCause, IdlFault};
 use object_refs::{RefCause, RefFault};
 use orb_base::{Filed, Files, List, Text};
 use orb_command::{Note, Role};
@@ -33,6 +34,16 @@ fn each_note_has_its_line(rt: HostRuntime) -> Result<(), Fail> {
         ),
         (Note::TooLong(Role::Config), "refused: config: TooLong"),
         (Note::Absent(Role::Config), "absent: config"),
+        (Note::TooLong(Role::Idl), "refused: idl: TooLong"),
+        (Note::Absent(Role::Idl), "absent: idl"),
+        (
+            Note::Idl(IdlFault {
+                cause: IdlCause::Clash,
+                line: 1,
+                column: 8,
+            }),
+            "refused: idl: 1:8: Clash",
+        ),
         (Note::Memory, "memory"),
         (Note::Limit, "limit"),
         (Note::NotBuilt, "not built"),

@@ -10,6 +10,7 @@ pub mod Turns
 pub mod PipedLaws
 pub mod CommandLaws
 pub mod AtLaws
+pub mod IdlLaws
 pub mod PipeNotes
 pub mod Replays
 pub mod HeardLaws

@@ -20,7 +20,7 @@ use Rattle.orb_command.specs.declared.ends.ReadEnd.TheVariants as read
 use Rattle.orb_command.specs.declared.ends.WriteEnd.{WriteEnd}
 use Rattle.orb_command.specs.declared.ends.WriteEnd.TheVariants as write
 use Rattle.orb_command.specs.declared.meaning.Meaning.{Meaning}
-use Rattle.orb_command.specs.declared.meaning.Meaning.TheVariants.{Pipe, Dump, Refs, RefsAt, Unbuilt, Unread}
+use Rattle.orb_command.specs.declared.meaning.Meaning.TheVariants.{Pipe, Dump, Refs, RefsAt, Idl, Unbuilt, Unread}
 use Rattle.orb_command.specs.declared.note.Note.{Note}
 use Rattle.orb_command.specs.declared.note.Note.TheVariants.{Memory, NotBuilt}
 use Rattle.orb_command.specs.declared.request.TheConstants.{MAX_PIPED}
@@ -33,6 +33,7 @@ use Rattle.orb_command.specs.Pipe.{Pipes, PipesTo, PipesBytes}
 use Rattle.orb_command.specs.PipeAnswer.{note_of, note_of_ends, Ran, Declined, PipesSetup, PipesBy}
 use Rattle.orb_command.specs.Setup.{IsRunnable}
 use Rattle.orb_command.specs.Words.{NamesThings}
+use Rattle.orb_command.proofs.IdlLaws.{idl_wanting}
 use Rattle.orb_command.proofs.AtLaws.{at_wanting}
 
 -- ---- a setup, and a configuration
@@ -219,6 +220,7 @@ wanting_answers (RefsAt place config) answered before h note status = at_wanting
 wanting_answers (Pipe (Some name)) answered before h note status =
     pipe_answers (Some name) answered before before (by_none (Some name) end.NoMemory answered.note before.files before.files before.input before.out refl note)
     (status ∙ ap status_of (sym note))
+wanting_answers (Idl name) answered before h note status = idl_wanting name answered before note status
 wanting_answers (Pipe None) answered before h note status = absurd h
 wanting_answers Dump answered before h note status = absurd h
 wanting_answers Refs answered before h note status = absurd h

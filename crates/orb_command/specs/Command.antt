@@ -1,10 +1,10 @@
 -- The answers of the top call: for each note its cause, and what was written.
 use Rattle.std.specs.Prelude.{◌≡◌, ◌+◌, ℕ}
 use Rattle.orb_command.specs.declared.meaning.Meaning.{Meaning}
-use Rattle.orb_command.specs.declared.meaning.Meaning.TheVariants.{Pipe, Dump, Refs, RefsAt, Unbuilt, Unread}
+use Rattle.orb_command.specs.declared.meaning.Meaning.TheVariants.{Pipe, Dump, Refs, RefsAt, Idl, Unbuilt, Unread}
 use Rattle.orb_command.specs.declared.answered.Answered.{Answered}
 use Rattle.orb_command.specs.declared.note.Note.{Note}
-use Rattle.orb_command.specs.declared.note.Note.TheVariants.{Nothing, Usage, Config, TooLong, ReadFault, WriteFault, Input, Absent, Reference, Memory, Limit, NotBuilt}
+use Rattle.orb_command.specs.declared.note.Note.TheVariants.{Nothing, Usage, Config, Idl as IdlNote, TooLong, ReadFault, WriteFault, Input, Absent, Reference, Memory, Limit, NotBuilt}
 use Rattle.orb_command.specs.declared.request.TheConstants.{MAX_PIPED}
 use Rattle.giop_dump.specs.declared.dump_end.TheConstants.{MAX_DUMPED}
 use Rattle.reference_lines.specs.declared.refs_end.TheConstants.{MAX_REFERENCE}
@@ -15,12 +15,14 @@ use Rattle.orb_command.specs.PipeAnswer.{PipeAnswers}
 use Rattle.orb_command.specs.DumpAnswer.{DumpAnswers}
 use Rattle.orb_command.specs.RefsAnswer.{RefsAnswers}
 use Rattle.orb_command.specs.AtAnswer.{AtAnswers}
+use Rattle.orb_command.specs.IdlAnswer.{IdlAnswers}
 
 -- the exit status of a note
 abbrev pub status_of : Note → ℕ
 status_of Nothing = 0
 status_of Usage = 1
 status_of (Config _) = 2
+status_of (IdlNote _) = 2
 status_of (TooLong _) = 2
 status_of ReadFault = 3
 status_of WriteFault = 4
@@ -37,6 +39,7 @@ most_taken (Pipe config) = MAX_PIPED + 1
 most_taken Dump = MAX_DUMPED
 most_taken Refs = MAX_REFERENCE + 2
 most_taken (RefsAt place config) = 0
+most_taken (Idl name) = 0
 most_taken Unbuilt = 0
 most_taken Unread = 0
 
@@ -46,6 +49,7 @@ NoteMeans (Pipe config) note before after = PipeAnswers config note before after
 NoteMeans Dump note before after = DumpAnswers note before after
 NoteMeans Refs note before after = RefsAnswers note before after
 NoteMeans (RefsAt place config) note before after = AtAnswers place config note before after
+NoteMeans (Idl name) note before after = IdlAnswers name note before after
 NoteMeans Unbuilt note before after = (note ≡ NotBuilt) × (after ≡ before)
 NoteMeans Unread note before after = (note ≡ Usage) × (after ≡ before)
 

@@ -4,9 +4,9 @@ use Rattle.orb_base.specs.Outside.{Rose}
 use Rattle.text_streams.specs.Faults.{NoneFailed, ReadFailed, WriteFailed}
 use Rattle.orb_command.specs.Moment.{Moment}
 use Rattle.orb_command.specs.declared.meaning.Meaning.{Meaning}
-use Rattle.orb_command.specs.declared.meaning.Meaning.TheVariants.{Pipe, Dump, Refs, RefsAt, Unbuilt, Unread}
+use Rattle.orb_command.specs.declared.meaning.Meaning.TheVariants.{Pipe, Dump, Refs, RefsAt, Idl, Unbuilt, Unread}
 use Rattle.orb_command.specs.declared.note.Note.{Note}
-use Rattle.orb_command.specs.declared.note.Note.TheVariants.{Nothing, Usage, Config, TooLong, ReadFault, WriteFault, Input, Absent, Reference, Memory, Limit, NotBuilt}
+use Rattle.orb_command.specs.declared.note.Note.TheVariants.{Nothing, Usage, Config, Idl as IdlNote, TooLong, ReadFault, WriteFault, Input, Absent, Reference, Memory, Limit, NotBuilt}
 
 -- of a command over the input: none but at a fault, the input's alone at a read fault, and the output's alone at a write fault. A
 -- reference that is too long is told also where the next read fails. Such a command refuses no file
@@ -21,6 +21,7 @@ StreamFaults Memory before after = Unit {0}
 StreamFaults Limit before after = NoneFailed before.input after.input before.out after.out
 StreamFaults NotBuilt before after = NoneFailed before.input after.input before.out after.out
 StreamFaults (Config _) before after = ⊥
+StreamFaults (IdlNote _) before after = ⊥
 StreamFaults (TooLong _) before after = ⊥
 StreamFaults (Absent _) before after = ⊥
 
@@ -33,6 +34,7 @@ NoFileFailed before after = (after.files.faults ≡ before.files.faults) × (aft
 abbrev pub FiledFaults : Note → Moment → Moment → Type 0
 FiledFaults Nothing before after = NoFileFailed before after
 FiledFaults (Config _) before after = NoFileFailed before after
+FiledFaults (IdlNote _) before after = NoFileFailed before after
 FiledFaults (TooLong _) before after = NoFileFailed before after
 FiledFaults (Absent _) before after = NoFileFailed before after
 FiledFaults ReadFault before after = Rose before.files.faults after.files.faults × (after.out.faults ≡ before.out.faults)
@@ -63,6 +65,7 @@ ConfiguredFaults WriteFault before after =
 ConfiguredFaults Memory before after = after.files.faults ≡ before.files.faults
 ConfiguredFaults Limit before after = NothingFailed before after
 ConfiguredFaults NotBuilt before after = NothingFailed before after
+ConfiguredFaults (IdlNote _) before after = ⊥
 ConfiguredFaults Usage before after = ⊥
 ConfiguredFaults (Input _ _) before after = ⊥
 ConfiguredFaults (Reference _) before after = ⊥
@@ -78,5 +81,6 @@ FaultsAt (Pipe config) note before after = PipeFaults config note before after
 FaultsAt Dump note before after = (after.files ≡ before.files) × StreamFaults note before after
 FaultsAt Refs note before after = (after.files ≡ before.files) × StreamFaults note before after
 FaultsAt (RefsAt place config) note before after = (after.input ≡ before.input) × FiledFaults note before after
+FaultsAt (Idl name) note before after = (after.input ≡ before.input) × FiledFaults note before after
 FaultsAt Unbuilt note before after = (after.files ≡ before.files) × StreamFaults note before after
 FaultsAt Unread note before after = (after.files ≡ before.files) × StreamFaults note before after

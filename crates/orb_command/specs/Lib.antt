@@ -12,6 +12,7 @@ pub mod Words
 pub mod Moment
 pub mod Pipe
 pub mod AtAnswer
+pub mod IdlAnswer
 pub mod PipeAnswer
 pub mod DumpAnswer
 pub mod RefsAnswer

@@ -5,7 +5,7 @@ use Rattle.object_lines.specs.Addresses.{Place, address_of}
 use Rattle.orb_base.specs.NulFree.{nul_at}
 use Rattle.orb_base.specs.declared.no_memory.NoMemory.{NoMemory}
 use Rattle.orb_command.specs.declared.meaning.Meaning.{Meaning}
-use Rattle.orb_command.specs.declared.meaning.Meaning.TheVariants.{Pipe, Dump, Refs, RefsAt, Unbuilt, Unread}
+use Rattle.orb_command.specs.declared.meaning.Meaning.TheVariants.{Pipe, Dump, Refs, RefsAt, Idl, Unbuilt, Unread}
 
 -- one of the seven commands
 abbrev pub is_command : List ℕ → Bool
@@ -13,7 +13,7 @@ is_command word =
     bytes_eq word (codes "pipe") || bytes_eq word (codes "serve") || bytes_eq word (codes "call") || bytes_eq word (codes "refs")
     || bytes_eq word (codes "dump") || bytes_eq word (codes "idl") || bytes_eq word (codes "load")
 
--- a command other than `pipe` and `refs`: `dump` alone is built
+-- a command other than `pipe`, `refs` and `idl`: `dump` alone is built
 abbrev pub alone_of : {W : Type 0} → List ℕ → List W → Meaning
 alone_of word [] = if bytes_eq word (codes "dump") then Dump else Unbuilt
 alone_of word (_ ∷ _) = Unbuilt
@@ -71,11 +71,25 @@ refs_of spelling (option ∷ place ∷ other ∷ name ∷ []) =
     else Unbuilt
 refs_of spelling (_ ∷ _ ∷ _ ∷ _ ∷ _ ∷ _) = Unbuilt
 
+-- the listing of a file, whose name has to be there
+abbrev pub listed_by : Option (List ℕ) → Meaning
+listed_by (Some name) = Idl name
+listed_by None = Unbuilt
+
+-- the words behind `idl`: `--file` and a name
+abbrev pub idl_of : {W : Type 0} → (W → List ℕ) → List W → Meaning
+idl_of spelling [] = Unbuilt
+idl_of spelling (_ ∷ []) = Unbuilt
+idl_of spelling (option ∷ name ∷ []) =
+    if bytes_eq (spelling option) (codes "--file") then listed_by (name_of (spelling name)) else Unbuilt
+idl_of spelling (_ ∷ _ ∷ _ ∷ _) = Unbuilt
+
 -- what is built of a command; what else begins with a command isn't yet
 abbrev pub built_of : {W : Type 0} → (W → List ℕ) → List ℕ → List W → Meaning
 built_of spelling word words =
     if bytes_eq word (codes "refs") then refs_of spelling words
     else if bytes_eq word (codes "pipe") then pipe_of spelling words
+    else if bytes_eq word (codes "idl") then idl_of spelling words
     else alone_of word words
 
 -- `spelling` gives the bytes of a word
@@ -83,17 +97,18 @@ abbrev pub command_of : {W : Type 0} → (W → List ℕ) → List W → Meaning
 command_of spelling [] = Unread
 command_of spelling (word ∷ words) = if is_command (spelling word) then built_of spelling (spelling word) words else Unread
 
--- the words mean references at an address, or a configuration
+-- the words mean references at an address, or name a file
 abbrev pub NamesThings : Meaning → Type 0
 NamesThings (RefsAt place config) = Unit {0}
 NamesThings (Pipe (Some name)) = Unit {0}
+NamesThings (Idl name) = Unit {0}
 NamesThings (Pipe None) = ⊥
 NamesThings Dump = ⊥
 NamesThings Refs = ⊥
 NamesThings Unbuilt = ⊥
 NamesThings Unread = ⊥
 
--- the words were read as what they mean; memory can be wanting where they name an address or a configuration
+-- the words were read as what they mean; memory can be wanting where they name an address or a file
 abbrev pub Means : Result Meaning NoMemory → Meaning → Type 0
 Means (Ok meaning) meant = meaning ≡ meant
 Means (Err _) meant = NamesThings meant

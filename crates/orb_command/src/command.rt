@@ -7,12 +7,14 @@ ghost use Rattle.orb_command.specs.Command.{Answers, status_of};
 use crate::answered::Answered;
 use crate::at_note::note_at;
 use crate::dump_note::dump_note;
+use crate::idl_note::idl_note;
 use crate::meaning::Meaning;
 use crate::note::Note;
 use crate::pipe_note::pipe_note;
 use crate::refs_note::refs_note;
 use crate::words::read_words;
 use giop_dump::dump_run;
+use idl_lines::idl_run;
 use object_lines::at_run;
 use orb_base::{Files, NoMemory, Sink, Source};
 use reference_lines::refs_run;
@@ -26,7 +28,7 @@ fn answered(note: Note) -> Answered
     let status = match &note {
         Note::Nothing => 0,
         Note::Usage => 1,
-        Note::Config(_) | Note::TooLong(_) => 2,
+        Note::Config(_) | Note::Idl(_) | Note::TooLong(_) => 2,
         Note::ReadFault => 3,
         Note::WriteFault => 4,
         Note::Input(_, _) | Note::Reference(_) => 8,
@@ -42,9 +44,10 @@ fn answered(note: Note) -> Answered
 /// status with its note. `pipe` answers each request of its input, by the built-in setup, and with `--config FILE` by the
 /// configuration of this name; `dump` writes a line for each message of it, and `refs` writes
 /// the parts of the reference that it is. `refs --at HOST:PORT` writes the reference of each object of the built-in setup at that
-/// address, and with `--config FILE` of each object of the configuration of this name. The other commands aren't built yet. It
+/// address, and with `--config FILE` of each object of the configuration of this name. `idl --file FILE` lists what the
+/// IDL of the file declares. The other commands aren't built yet. It
 /// returns where each read and write returns.
-#[tactic(auto, using(crate::proofs::CommandLaws::dump_answers, crate::proofs::CommandLaws::refs_answers, crate::proofs::CommandLaws::unbuilt_answers, crate::proofs::CommandLaws::unread_answers, crate::proofs::AtLaws::at_answers, crate::proofs::PipeNotes::pipe_answers, crate::proofs::PipeNotes::wanting_answers))]
+#[tactic(auto, using(crate::proofs::CommandLaws::dump_answers, crate::proofs::CommandLaws::refs_answers, crate::proofs::CommandLaws::unbuilt_answers, crate::proofs::CommandLaws::unread_answers, crate::proofs::AtLaws::at_answers, crate::proofs::IdlLaws::idl_answers, crate::proofs::PipeNotes::pipe_answers, crate::proofs::PipeNotes::wanting_answers))]
 pub fn orb_main<F: Files, I: Source, O: Sink>(
     alloc: Global,
     words: &[String],
@@ -67,6 +70,7 @@ pub fn orb_main<F: Files, I: Source, O: Sink>(
         Ok(Meaning::RefsAt(at, config)) => {
             answered(note_at(at_run(alloc, files, out, config.as_ref(), &at)))
         }
+        Ok(Meaning::Idl(name)) => answered(idl_note(idl_run(alloc, files, &name, out))),
         Ok(Meaning::Unbuilt) => answered(Note::NotBuilt),
         Ok(Meaning::Unread) => answered(Note::Usage),
         Err(NoMemory) => answered(Note::Memory),

@@ -7,6 +7,7 @@ mod command;
 mod course;
 mod dump_note;
 mod ends;
+mod idl_note;
 mod laws;
 mod meaning;
 mod note;
@@ -36,6 +37,8 @@ pub use setup::is_runnable;
 mod at_tests;
 #[cfg(test)]
 mod config_tests;
+#[cfg(test)]
+mod idl_tests;
 #[cfg(test)]
 mod tests;
 #[cfg(test)]

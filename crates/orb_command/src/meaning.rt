@@ -14,6 +14,8 @@ pub enum Meaning {
     Refs,
     /// The command `refs` at an address, with the name of a configuration where there is one.
     RefsAt(Address, Option<Text>),
+    /// The command `idl`, with the name of a file.
+    Idl(Text),
     /// A command, or options of one, that isn't built yet.
     Unbuilt,
     /// No command.

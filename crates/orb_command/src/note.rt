@@ -2,6 +2,7 @@
 
 use adapter_policies::ConfigFault;
 use giop_messages::Fault;
+use idl_grammar::IdlFault;
 use object_refs::RefFault;
 
 /// What a file that the words name is for.
@@ -9,6 +10,8 @@ use object_refs::RefFault;
 pub enum Role {
     /// It is the configuration.
     Config,
+    /// It is the text of IDL.
+    Idl,
 }
 
 /// What a run came to, as the program prints it on standard error.
@@ -20,6 +23,8 @@ pub enum Note {
     Usage,
     /// The configuration has this first fault.
     Config(ConfigFault),
+    /// The text of IDL has this first fault.
+    Idl(IdlFault),
     /// A file is longer than it may be.
     TooLong(Role),
     /// The input, or the store of files, failed.

@@ -8,7 +8,7 @@ use object_lines::{Address, read_address};
 use orb_base::{NoMemory, Text};
 use std::alloc::Global;
 
-/// What the words mean, the first of which is the command. Memory is asked for an address, and for the name of a configuration.
+/// What the words mean, the first of which is the command. Memory is asked for an address, and for the name of a file.
 pub fn read_words(alloc: Global, words: &[String]) -> Result<Meaning, NoMemory>
     ensures { Spec.Means result (Spec.command_of string_bytes words.now) }
 {
@@ -21,6 +21,8 @@ pub fn read_words(alloc: Global, words: &[String]) -> Result<Meaning, NoMemory>
                 read_refs(alloc, options)
             } else if word.as_str() == "pipe" {
                 read_pipe(alloc, options)
+            } else if word.as_str() == "idl" {
+                read_idl(alloc, options)
             } else {
                 Ok(alone(word.as_str(), options))
             }
@@ -40,7 +42,7 @@ fn is_command(word: &str) -> bool
         || word == "load"
 }
 
-/// What a command other than `pipe` and `refs` means.
+/// What a command other than `pipe`, `refs` and `idl` means.
 fn alone(word: &str, options: &[String]) -> Meaning
     ensures { result ≡ Spec.alone_of word.now options.now }
 {
@@ -83,6 +85,35 @@ fn pipe_with(alloc: Global, name: &str) -> Result<Meaning, NoMemory>
     }
     let name = text_of(alloc, name.as_bytes())?;
     Ok(Meaning::Pipe(Some(name)))
+}
+
+/// What `idl` means with these words behind it.
+fn read_idl(alloc: Global, options: &[String]) -> Result<Meaning, NoMemory>
+    ensures { Spec.Means result (Spec.idl_of string_bytes options.now) }
+{
+    match options {
+        [] => Ok(Meaning::Unbuilt),
+        [_] => Ok(Meaning::Unbuilt),
+        [option, name] => {
+            if option.as_str() == "--file" {
+                listing_of(alloc, name.as_str())
+            } else {
+                Ok(Meaning::Unbuilt)
+            }
+        }
+        [_, _, _, ..] => Ok(Meaning::Unbuilt),
+    }
+}
+
+/// The listing of a file, where the word is a name.
+fn listing_of(alloc: Global, name: &str) -> Result<Meaning, NoMemory>
+    ensures { Spec.Means result (Spec.listed_by (Spec.name_of name.now)) }
+{
+    if !is_name(name.as_bytes()) {
+        return Ok(Meaning::Unbuilt);
+    }
+    let name = text_of(alloc, name.as_bytes())?;
+    Ok(Meaning::Idl(name))
 }
 
 /// What `refs` means with these words behind it.

@@ -3,6 +3,7 @@ use Rattle.orb_command.specs.Moment.{moment}
 use Rattle.orb_command.specs.Command.{status_of}
 use Rattle.orb_command.proofs.CommandLaws.{unbuilt_answers, unread_answers}
 use Rattle.orb_command.proofs.AtLaws.{at_answers}
+use Rattle.orb_command.proofs.IdlLaws.{idl_answers}
 use Rattle.orb_command.proofs.PipeNotes.{pipe_answers, wanting_answers}
 use Rattle.orb_command.proofs.command.orb_main.Goals as goal
 
@@ -24,6 +25,16 @@ returns-in-Ok-RefsAt g c =
     (moment (g.F.Files.state c.args.files.now) (g.I.Source.state c.args.input.now) (g.O.Sink.state c.args.out.now))
     (moment (g.F.Files.state c.at_run.new.files) (g.I.Source.state c.args.input.now) (g.O.Sink.state c.at_run.new.sink))
     refl (rw (sym c.as_ref-in-Ok-RefsAt.ensures.value) c.at_run.ensures) note status)
+
+pub returns-in-Ok-Idl : goal.returns-in-Ok-Idl
+returns-in-Ok-Idl g c =
+    let note = c.answered-in-Ok-Idl.ensures.note ∙ c.idl_note.ensures in
+    let status = c.answered-in-Ok-Idl.ensures.status ∙ ap status_of c.idl_note.ensures in
+    rw (sym c.in-Ok-Idl.ensures, c.in-Ok-Idl.field-0-is)
+    (idl_answers c.idl_run.result c.in-Ok-Idl.name c.answered-in-Ok-Idl.result
+    (moment (g.F.Files.state c.args.files.now) (g.I.Source.state c.args.input.now) (g.O.Sink.state c.args.out.now))
+    (moment (g.F.Files.state c.idl_run.new.files) (g.I.Source.state c.args.input.now) (g.O.Sink.state c.idl_run.new.out))
+    refl c.idl_run.ensures.lists c.idl_run.ensures.only note status)
 
 pub returns-in-Ok-Unbuilt : goal.returns-in-Ok-Unbuilt
 returns-in-Ok-Unbuilt g c =

@@ -1,0 +1,4 @@
+pub mod Pairs
+pub mod Outward
+pub mod Listing
+pub mod Walking
