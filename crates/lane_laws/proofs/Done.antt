@@ -57,10 +57,17 @@ empty : {X : Type 0} (f : X → ℕ) (xs : List X) → ((k : ℕ) (x : X) → sl
 empty {X} f [] h = refl
 empty {X} f (x ∷ xs) h = absurd (h 0 x refl)
 
-pub all_done : (s0 : State) (h : History) → Opens s0 → IsLegal s0 h → AreFit s0 h → ((t : ℕ) → t < length s0.threads → latest None (of (worker_seat s0.slots t) h) ≡ Some reply.Ended)
+-- where all threads are free, each admitted request was finished or removed
+pub done_where_free : (s0 : State) (h : History) → Opens s0 → IsLegal s0 h → ((t : ℕ) (thread : Thread) → slice_get (replay s0 h).threads t ≡ Some thread → is_free thread.doing ≡ true)
     → (conn : ConnId) (serial : ℕ) → finished conn serial h + removed conn serial s0 h ≡ admitted conn serial h
-all_done s0 h o l f over conn serial = let d = along s0 (Ends s0) (ends_step s0 o) [] h s0 (ends_first s0 o) l f in let k = d.knows.threads in
-    let free : (t : ℕ) (thread : Thread) → slice_get (replay s0 h).threads t ≡ Some thread → is_free thread.doing ≡ true = λ t thread g. (let w = slice_get_within (replay s0 h).threads t thread g in let n : t < length s0.threads = omega arith in (d.rests t n (over t n)).1 thread g) in
+done_where_free s0 h o l free conn serial =
     let idle = always NoneIdles none_idles s0 h (subst NoneIdles (sym o.fresh) (none_idles_first s0.pool s0.slots s0.per_slot)) l in
     let served = always (Served s0) (served_step s0) s0 h (subst (λ (z : State). Served z z) (sym o.fresh) (served_first s0.pool s0.slots s0.per_slot o.can.well_formed.lanes.each)) l in
     let a = all_free conn serial (replay s0 h).threads free in let b = empty (named conn serial) (replay s0 h).waiting (nothing_waits s0 (replay s0 h) served idle free) in let c = one_place conn serial s0 h o l in omega arith
+
+pub all_done : (s0 : State) (h : History) → Opens s0 → IsLegal s0 h → AreFit s0 h → ((t : ℕ) → t < length s0.threads → latest None (of (worker_seat s0.slots t) h) ≡ Some reply.Ended)
+    → (conn : ConnId) (serial : ℕ) → finished conn serial h + removed conn serial s0 h ≡ admitted conn serial h
+all_done s0 h o l f over conn serial =
+    let d = along s0 (Ends s0) (ends_step s0 o) [] h s0 (ends_first s0 o) l f in
+    let k = d.knows.threads in
+    done_where_free s0 h o l (λ t thread g. (let w = slice_get_within (replay s0 h).threads t thread g in let n : t < length s0.threads = omega arith in (d.rests t n (over t n)).1 thread g)) conn serial
