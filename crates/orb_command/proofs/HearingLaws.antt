@@ -22,7 +22,8 @@ use Rattle.giop_messages.specs.MessageReading.{IsMessage}
 use Rattle.giop_messages.specs.Answers.{Fails}
 use Rattle.giop_messages.proofs.OneReading.{reads_one_way}
 use Rattle.lane_machine.specs.declared.call.LaneCall.TheVariants.{Offer}
-use Rattle.orb_command.specs.Setup.{IsKnown, pipe_conn}
+use Rattle.orb_command.specs.Setup.{IsKnown}
+use Rattle.pipe_laws.specs.Setup.{pipe_conn}
 use Rattle.orb_command.specs.declared.place.Place.{Place}
 use Rattle.adapter_policies.specs.SetupData.{SetupData}
 use Rattle.orb_base.specs.Priorities.{mandated}

@@ -12,6 +12,5 @@ pub mod CommandLaws
 pub mod AtLaws
 pub mod IdlLaws
 pub mod PipeNotes
-pub mod Replays
 pub mod HeardLaws
 pub mod RepliedLaws

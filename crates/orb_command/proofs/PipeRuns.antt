@@ -22,10 +22,10 @@ use Rattle.lane_machine.specs.Machine.{step, is_over, offered}
 use Rattle.lane_machine.specs.Readiness.{owed}
 use Rattle.turn_cell.specs.declared.entry.Entry.{Entry}
 use Rattle.lane_machine.specs.Histories.{History, replay, IsLegal}
-use Rattle.orb_command.specs.Setup.{pipe_conn, interface_of}
+use Rattle.pipe_laws.specs.Setup.{pipe_conn, interface_of}
 use Rattle.adapter_policies.specs.SetupData.{SetupData}
-use Rattle.orb_command.specs.Said.{call_bytes, said, item_bytes}
-use Rattle.orb_command.specs.Piped.{Run, settled, grouped, answer_of}
+use Rattle.pipe_laws.specs.Said.{call_bytes, said, item_bytes}
+use Rattle.pipe_laws.specs.Piped.{Run, settled, grouped, answer_of}
 use Rattle.orb_command.specs.Stops.{has_closing, has_end}
 use Rattle.orb_command.specs.Built.{Spares}
 use Rattle.orb_command.specs.PingRun.{ping_job, IsPingJob, ArePingJobs, offers, outcome_at, with_thread, IsSettled, IsAnswered, Ran, Runs, RunsOn}

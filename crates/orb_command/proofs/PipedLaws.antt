@@ -38,11 +38,12 @@ use Rattle.orb_command.specs.declared.ends.ReadEnd.{ReadEnd}
 use Rattle.orb_command.specs.declared.ends.ReadEnd.TheVariants as read
 use Rattle.orb_command.specs.declared.ends.WriteEnd.{WriteEnd}
 use Rattle.orb_command.specs.declared.ends.WriteEnd.TheVariants as write
-use Rattle.orb_command.specs.Setup.{IsKnown, IsRunnable, interface_at, opened, pipe_conn}
+use Rattle.orb_command.specs.Setup.{IsKnown, IsRunnable, opened}
+use Rattle.pipe_laws.specs.Setup.{interface_at, pipe_conn}
 use Rattle.adapter_policies.specs.SetupData.{SetupData}
 use Rattle.adapter_policies.specs.declared.object_spec.ObjectSpec.{ObjectSpec}
-use Rattle.orb_command.specs.Said.{item_bytes, call_bytes, said}
-use Rattle.orb_command.specs.Piped.{Run, closed_by, grouped as grouped_so, answer_of, piped}
+use Rattle.pipe_laws.specs.Said.{item_bytes, call_bytes, said}
+use Rattle.pipe_laws.specs.Piped.{Run, closed_by, grouped as grouped_so, answer_of, piped}
 use Rattle.orb_command.specs.Built.{IsBuilt, IsPiped}
 use Rattle.orb_command.specs.Hearing.{MeanJobs}
 use Rattle.lane_machine.specs.Callers.{is_closing}

@@ -28,13 +28,14 @@ use Rattle.lane_machine.specs.declared.call.How.TheVariants.{Quiet}
 use Rattle.lane_machine.specs.declared.call.LaneCall.{LaneCall}
 use Rattle.lane_machine.specs.State.{State}
 use Rattle.orb_command.specs.declared.request.TheConstants.{MAX_PIPED}
-use Rattle.orb_command.specs.Setup.{HasDistinctKeys, IsRunnable, opened, pipe_conn}
+use Rattle.orb_command.specs.Setup.{HasDistinctKeys, IsRunnable, opened}
+use Rattle.pipe_laws.specs.Setup.{pipe_conn}
 use Rattle.orb_command.specs.declared.place.Place.{Place}
 use Rattle.adapter_policies.specs.BuiltIn.{built_in}
 use Rattle.adapter_policies.specs.SetupData.{SetupData}
 use Rattle.orb_command.specs.Ping.{ping_outcome, ping_request}
-use Rattle.orb_command.specs.Said.{reply_status, reply_body, bare, call_bytes, said}
-use Rattle.orb_command.specs.Piped.{Run, closed_by, grouped, answer_of, piped}
+use Rattle.pipe_laws.specs.Said.{reply_status, reply_body, bare, call_bytes, said}
+use Rattle.pipe_laws.specs.Piped.{Run, closed_by, grouped, answer_of, piped}
 use Rattle.orb_command.specs.Built.{IsPing, Spares, IsPiped}
 use Rattle.orb_command.specs.PingRun.{ping_job, offers, outcome_at, IsAnswered, Ran, Runs, farewell, IsRun}
 use Rattle.orb_command.specs.Replied.{IsReplyTo, AreRepliesTo, PingsReplied, PingRunsAt100, MeetsNoLimit}

@@ -9,7 +9,7 @@ use Rattle.cdr_core.proofs.CallerLemmas.{fields_end-is, length-number_bytes}
 use Rattle.orb_base.specs.declared.order.Order.TheVariants.{Big}
 use Rattle.giop_messages.specs.Message.{reply, close}
 use Rattle.giop_messages.specs.Spelling.{framed, spelled, all_fields}
-use Rattle.orb_command.specs.Said.{bare}
+use Rattle.pipe_laws.specs.Said.{bare}
 
 framed_len : (order : Order) (kind : ℕ) (inner : List ℕ) → length (framed order kind inner) ≡ 12 + length inner
 framed_len order kind inner =

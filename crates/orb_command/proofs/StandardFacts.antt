@@ -10,7 +10,7 @@ use Rattle.lane_machine.specs.Readiness.{owed}
 use Rattle.adapter_policies.specs.BuiltIn.{built_in}
 use Rattle.orb_command.specs.Ping.{ping_outcome}
 use Rattle.orb_command.specs.PingRun.{ping_job}
-use Rattle.orb_command.specs.Piped.{piped_bytes}
+use Rattle.pipe_laws.specs.Piped.{piped_bytes}
 
 ping_is_answered : piped_bytes built_in ping_outcome 1 (Offer (ping_job 0 Big 48 1 0 100) ∷ []) Quiet [] ≡ 71 ∷ 73 ∷ 79 ∷ 80 ∷ 1 ∷ 2 ∷ 0 ∷ 1 ∷ 0 ∷ 0 ∷ 0 ∷ 14 ∷ 0 ∷ 0 ∷ 0 ∷ 1 ∷ 0 ∷ 0 ∷ 0 ∷ 0 ∷ 0 ∷ 0 ∷ 0 ∷ 0 ∷ 0 ∷ 100 ∷ []
 unfolding chosen_thread next_job owed number_bytes

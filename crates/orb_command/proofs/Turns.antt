@@ -16,7 +16,7 @@ use Rattle.lane_machine.specs.State.{State}
 use Rattle.request_buffer.specs.Next.{next_job}
 use Rattle.lane_machine.specs.Machine.{step, is_over}
 use Rattle.lane_machine.specs.Readiness.{is_ready, IsSound, owed}
-use Rattle.orb_command.specs.Setup.{pipe_conn}
+use Rattle.pipe_laws.specs.Setup.{pipe_conn}
 use Rattle.orb_command.specs.PingRun.{IsPingJob, with_thread, Does, Becomes, owing, Owes, IsSettled, Offers}
 use Rattle.orb_command.proofs.PipeRuns.{idle, shut, offer_runs, offer_closes}
 

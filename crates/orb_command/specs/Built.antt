@@ -15,11 +15,12 @@ use Rattle.lane_machine.specs.declared.call.How.TheVariants.{Quiet}
 use Rattle.lane_machine.specs.Histories.{IsLegal}
 use Rattle.orb_command.specs.declared.request.TheConstants.{MAX_PIPED}
 use Rattle.orb_command.specs.declared.place.Place.{Place}
-use Rattle.orb_command.specs.Setup.{interface_of, opened, pipe_conn, place_of}
+use Rattle.orb_command.specs.Setup.{opened, place_of}
+use Rattle.pipe_laws.specs.Setup.{interface_of, pipe_conn}
 use Rattle.adapter_policies.specs.SetupData.{SetupData}
 use Rattle.orb_command.specs.Ping.{ping_request}
 use Rattle.orb_command.specs.Heard.{Hears}
-use Rattle.orb_command.specs.Piped.{piped, piped_bytes}
+use Rattle.pipe_laws.specs.Piped.{piped, piped_bytes}
 use Rattle.orb_command.specs.Stops.{has_closing}
 
 -- the request is for `current` of the object of a key, with a reply due, without contexts and body, and runs at this place: the

@@ -8,7 +8,8 @@ use Rattle.giop_frames.specs.Messages.{Message}
 use Rattle.giop_frames.specs.Stream.{stream}
 use Rattle.giop_messages.specs.Message.{Request, Target, key, profile, addressing}
 use Rattle.orb_command.specs.declared.place.Place.{Place}
-use Rattle.orb_command.specs.Setup.{IsKnown, pipe_conn, place_of}
+use Rattle.orb_command.specs.Setup.{IsKnown, place_of}
+use Rattle.pipe_laws.specs.Setup.{pipe_conn}
 use Rattle.adapter_policies.specs.SetupData.{SetupData}
 use Rattle.orb_command.specs.Heard.{HearsEach}
 use Rattle.orb_command.specs.Built.{IsAsked, IsPing, IsBuilt}

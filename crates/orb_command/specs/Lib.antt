@@ -1,8 +1,6 @@
 pub mod Setup
 pub mod Ping
 pub mod Heard
-pub mod Said
-pub mod Piped
 pub mod Stops
 pub mod Built
 pub mod PingRun

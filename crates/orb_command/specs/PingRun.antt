@@ -24,11 +24,11 @@ use Rattle.orb_command.specs.declared.ends.WriteEnd.TheVariants as write
 use Rattle.orb_command.specs.declared.ends.Piped.{Piped}
 use Rattle.orb_base.specs.Pool.{Pool}
 use Rattle.orb_base.specs.declared.lane_spec.LaneSpec.{LaneSpec}
-use Rattle.orb_command.specs.Setup.{interface_of, pipe_conn}
+use Rattle.pipe_laws.specs.Setup.{interface_of, pipe_conn}
 use Rattle.adapter_policies.specs.SetupData.{SetupData}
 use Rattle.orb_command.specs.Ping.{ping_request}
 use Rattle.orb_command.specs.Heard.{job_of}
-use Rattle.orb_command.specs.Said.{item_bytes}
+use Rattle.pipe_laws.specs.Said.{item_bytes}
 use Rattle.text_streams.specs.Streams.{WroteText, WroteSome}
 
 -- the request of so many bytes for `current` of the object of a number, at a priority, as the call of this number of the pipe's

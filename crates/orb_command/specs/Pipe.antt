@@ -13,7 +13,7 @@ use Rattle.orb_command.specs.declared.ends.PipeFault.{PipeFault}
 use Rattle.orb_command.specs.declared.ends.PipeFault.TheVariants.{NotBuilt, NoMemory}
 use Rattle.orb_command.specs.declared.request.TheConstants.{MAX_PIPED}
 use Rattle.adapter_policies.specs.SetupData.{SetupData}
-use Rattle.orb_command.specs.Piped.{piped}
+use Rattle.pipe_laws.specs.Piped.{piped}
 use Rattle.orb_command.specs.Stops.{StopsAt}
 use Rattle.orb_command.specs.Built.{IsBuilt, IsPiped}
 use Rattle.text_streams.specs.Streams.{Gave, WroteText, WroteSome}

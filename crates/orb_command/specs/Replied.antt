@@ -10,7 +10,7 @@ use Rattle.giop_frames.specs.Stream.{stream}
 use Rattle.giop_messages.specs.Message.{Message, reply}
 use Rattle.giop_messages.specs.Written.{wholes_from}
 use Rattle.orb_command.specs.Ping.{ping_outcome}
-use Rattle.orb_command.specs.Said.{reply_status, reply_body, bare}
+use Rattle.pipe_laws.specs.Said.{reply_status, reply_body, bare}
 use Rattle.orb_command.specs.Built.{IsPing, IsPiped}
 use Rattle.orb_command.specs.declared.place.Place.{Place}
 use Rattle.orb_command.specs.Setup.{HasDistinctKeys, IsRunnable, place_of}

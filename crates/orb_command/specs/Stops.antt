@@ -8,8 +8,8 @@ use Rattle.turn_cell.specs.declared.entry.Entry.{Entry}
 use Rattle.lane_machine.specs.Callers.{is_closing, is_end}
 use Rattle.lane_machine.specs.State.{State}
 use Rattle.lane_machine.specs.Histories.{History}
-use Rattle.orb_command.specs.Setup.{pipe_conn}
-use Rattle.orb_command.specs.Said.{call_bytes, said}
+use Rattle.pipe_laws.specs.Setup.{pipe_conn}
+use Rattle.pipe_laws.specs.Said.{call_bytes, said}
 use Rattle.text_streams.specs.Streams.{WroteText}
 
 -- a call of the history was answered Closing

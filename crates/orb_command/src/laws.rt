@@ -1,23 +1,13 @@
 //! Laws on the runs of the pipe.
 ghost use Rattle.std.specs.Prelude.{◌≡◌, ℕ, List};
-ghost use Rattle.orb_base.specs.JobRecord.{JobRecord};
 ghost use Rattle.orb_base.specs.declared.conn_id.ConnId.{ConnId};
-ghost use Rattle.orb_base.specs.declared.outcome.Outcome.{Outcome};
 ghost use Rattle.lane_machine.specs.declared.call.How.{How};
 ghost use Rattle.lane_machine.specs.declared.call.LaneCall.{LaneCall};
-ghost use Rattle.lane_machine.specs.State.{opening};
 ghost use Rattle.orb_command.specs.Setup.{HasDistinctKeys, IsRunnable};
 ghost use Rattle.adapter_policies.specs.BuiltIn.{built_in};
 ghost use Rattle.adapter_policies.specs.SetupData.{SetupData};
 ghost use Rattle.orb_command.specs.Heard.{Hears};
-ghost use Rattle.orb_command.specs.Piped.{piped, IsReplayed};
 ghost use Rattle.orb_command.specs.Replied.{PingsReplied, PingRunsAt100, MeetsNoLimit};
-
-/// A run of the pipe, over any setup, servants, calls and groups, stands where its history leads.
-pub fn piped_is_replayed()
-    ensures { (setup : SetupData) (outcome : List ℕ → JobRecord → Outcome) (batch : ℕ) (calls : List LaneCall) (how : How)
-        (lacks : List ℕ) → IsReplayed (opening setup.pool setup.slots setup.per_slot) (piped setup outcome batch calls how lacks) }
-{}
 
 /// A whole input means one list of calls, with one end, where no two objects have one key.
 pub fn hears_one_way()

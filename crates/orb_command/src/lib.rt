@@ -25,9 +25,7 @@ mod words;
 pub use answered::Answered;
 pub use command::orb_main;
 pub use ends::{PipeFault, Piped, ReadEnd, WriteEnd};
-pub use laws::{
-    built_in_is_distinct, built_in_is_runnable, hears_one_way, pings_are_replied, piped_is_replayed,
-};
+pub use laws::{built_in_is_distinct, built_in_is_runnable, hears_one_way, pings_are_replied};
 pub use note::{Note, Role};
 pub use pipe::pipe_run;
 pub use request::MAX_PIPED;

@@ -5,7 +5,7 @@ ghost use Rattle.orb_base.specs.declared.item.Item.TheVariants.{Answered};
 ghost use Rattle.orb_base.specs.declared.order.Order.TheVariants.{Big};
 ghost use Rattle.giop_messages.specs.Message.{reply, close};
 ghost use Rattle.giop_messages.specs.Spelling.{spelled};
-ghost use Rattle.orb_command.specs.Said.{bare, item_bytes};
+ghost use Rattle.pipe_laws.specs.Said.{bare, item_bytes};
 
 use cdr_core::Writer;
 use giop_messages::{Message, system_exception_body, write_message, write_reply};

@@ -5,7 +5,7 @@ ghost use Rattle.lane_machine.specs.declared.call.LaneCall.TheVariants.{End, Col
 ghost use Rattle.thread_borrowing.specs.declared.doing.Doing.TheVariants.{Free, Given, Busy};
 ghost use Rattle.lane_machine.specs.Machine.{step};
 ghost use Rattle.lane_machine.specs.Readiness.{is_ready, IsSound};
-ghost use Rattle.orb_command.specs.Setup.{pipe_conn};
+ghost use Rattle.pipe_laws.specs.Setup.{pipe_conn};
 ghost use Rattle.orb_command.specs.PingRun.{IsPingJob, Does, Becomes, owing, Owes, IsSettled, Offers, IsAnswerTo, Carries};
 
 use crate::request::PIPE_CONN;

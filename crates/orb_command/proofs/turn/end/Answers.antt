@@ -3,7 +3,7 @@ use Rattle.std.proofs.Common.{◌≡◌, true, sym, subst}
 use Rattle.lane_machine.specs.declared.call.LaneCall.TheVariants.{Collect}
 use Rattle.lane_machine.specs.State.{State}
 use Rattle.lane_machine.specs.Readiness.{is_ready}
-use Rattle.orb_command.specs.Setup.{pipe_conn}
+use Rattle.pipe_laws.specs.Setup.{pipe_conn}
 use Rattle.orb_command.proofs.Turns.{end_ready}
 use Rattle.orb_command.proofs.turn.end.Goals as goal
 

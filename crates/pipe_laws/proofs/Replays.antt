@@ -15,9 +15,9 @@ use Rattle.lane_machine.specs.Machine.{step, item_place}
 use Rattle.lane_machine.specs.Readiness.{is_ready}
 use Rattle.turn_cell.specs.declared.entry.Entry.{Entry}
 use Rattle.turn_cell.specs.History as history
-use Rattle.orb_command.specs.Setup.{pipe_conn}
+use Rattle.pipe_laws.specs.Setup.{pipe_conn}
 use Rattle.adapter_policies.specs.SetupData.{SetupData}
-use Rattle.orb_command.specs.Piped.{Run, applied, first_given, finished_by, turned, rested_after, rested, in_hand, collected, emptied_after, settled, before_call, room_behind, behind_call, grouped, answer_of, piped, IsReplayed}
+use Rattle.pipe_laws.specs.Piped.{Run, applied, first_given, finished_by, turned, rested_after, rested, in_hand, collected, emptied_after, settled, before_call, room_behind, behind_call, grouped, answer_of, piped, IsReplayed}
 
 -- one more entry is one more step
 replay-append : {O C R : Type 0} (one : O → C → O × R) (s : O) (h : List (Entry O C R)) (e : Entry O C R) → history.replay one s (h ++ e ∷ []) ≡ (one (history.replay one s h) e.call).0

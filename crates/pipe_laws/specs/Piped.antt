@@ -19,9 +19,9 @@ use Rattle.thread_borrowing.specs.ThreadList.{is_free}
 use Rattle.lane_machine.specs.Machine.{step, item_place}
 use Rattle.lane_machine.specs.Readiness.{is_ready}
 use Rattle.lane_machine.specs.Histories.{History, replay}
-use Rattle.orb_command.specs.Setup.{interface_of, pipe_conn}
+use Rattle.pipe_laws.specs.Setup.{interface_of, pipe_conn}
 use Rattle.adapter_policies.specs.SetupData.{SetupData}
-use Rattle.orb_command.specs.Said.{said}
+use Rattle.pipe_laws.specs.Said.{said}
 
 -- where a run stands: its state, and the history that led to it
 pub record Run : Type 0 where

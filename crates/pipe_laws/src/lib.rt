@@ -1,0 +1,11 @@
+//! The runs of the pipe, over any setup: what its history is, what it writes, and the laws of both.
+//!
+//! `specs/` has the definitions: `Piped` is the run of one connection's calls in groups, `Said` the bytes that a history
+//! writes. The functions here have empty bodies: each contract is a law of the definitions.
+#![tactic(auto)]
+
+mod laws;
+
+pub use laws::{
+    groups_are_folded, piped_is_done, piped_is_legal, piped_is_replayed, piped_owes_nothing,
+};
