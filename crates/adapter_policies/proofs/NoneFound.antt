@@ -1,20 +1,16 @@
 -- What it means that no entry was found at fault.
-use Rattle.std.proofs.Common.{◌≡◌, ◌⊎◌, ◌<◌, ◌≤◌, ◌+◌, inl, inr, ℕ, zero, suc, Bool, true, false, ◌&&◌, ◌||◌, List, [], ◌∷◌, ◌++◌, length, get_or, Option, Some, None, cond, refl, sym, subst, arith, nat_lt}
+use Rattle.std.proofs.Common.{◌≡◌, ◌⊎◌, ◌<◌, ◌≤◌, ◌+◌, inl, inr, ℕ, zero, suc, Bool, true, false, List, [], ◌∷◌, ◌++◌, length, get_or, Option, Some, None, cond, refl, sym, subst, arith, nat_lt}
 use Rattle.std.specs.List.{All, AllPairs, list_any, position, position_or_len}
 use Rattle.std.specs.List.Sorted.{IsStrictlyIncreasing}
 use Rattle.std.proofs.Math.Numerals.{add-one}
 use Rattle.std.proofs.lemmas.Bool.Decides.{nat_tests}
 use Rattle.std.proofs.lemmas.List.Elements.{All-cons, All-nil}
 use Rattle.std.proofs.lemmas.List.Sums.{fails_before_first}
-use Rattle.config_tables.specs.Fault.{Fault, first_of}
+use Rattle.config_tables.specs.Fault.{Fault}
 use Rattle.config_tables.specs.declared.fault.ConfigCause.{ConfigCause}
+use Rattle.config_tables.proofs.RulesHold.{or_neither}
 use Rattle.adapter_policies.specs.Found.{entry_fault, entry_key_fault, fault_where, first_clash}
 use Rattle.adapter_policies.specs.PoolRelations.{out_of_order}
-
--- neither of two parts has a fault
-pub both_none : (x y : Option Fault) → first_of x y ≡ None → (x ≡ None) × (y ≡ None)
-both_none None y none = (refl, none)
-both_none (Some f) y none = absurd (cc)
 
 -- what would be a fault doesn't hold
 pub nowhere : (b : Bool) (path : List ℕ) (cause : ConfigCause) → fault_where b path cause ≡ None → b ≡ false
@@ -30,16 +26,6 @@ no_entry path cause (Some n) none = absurd (cc)
 pub no_key : (path key : List ℕ) (cause : ConfigCause) (found : Option ℕ) → entry_key_fault path key cause found ≡ None → found ≡ None
 no_key path key cause None none = refl
 no_key path key cause (Some n) none = absurd (cc)
-
--- ---- tests
-
-pub and_both : (a b : Bool) → (a && b) ≡ true → (a ≡ true) × (b ≡ true)
-and_both true b h = (refl, h)
-and_both false b h = absurd (cc)
-
-pub or_neither : (a b : Bool) → (a || b) ≡ false → (a ≡ false) × (b ≡ false)
-or_neither false b h = (refl, h)
-or_neither true b h = absurd (cc)
 
 -- ---- lists
 

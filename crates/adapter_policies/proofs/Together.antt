@@ -16,6 +16,7 @@ use Rattle.config_tables.specs.Fault.{Fault, first_of}
 use Rattle.config_tables.specs.Keys.{same_text}
 use Rattle.config_tables.specs.declared.fault.ConfigCause.{ConfigCause}
 use Rattle.config_tables.specs.declared.fault.ConfigCause.TheVariants.{LaneOrder, NoThread, TooManyThreads, SlotLimit, BorrowWithoutLanes, BadMap, BandEmpty, BandOverlap, Duplicate, UnknownAdapter, PriorityNotAllowed, PriorityNotALane, NoNative, BandWithoutLane}
+use Rattle.config_tables.proofs.RulesHold.{and_both, both_none}
 use Rattle.adapter_policies.specs.BandRelations.{bands_fault, bands_path, band_empty_fault, band_without_lane_fault, holds_lane, is_reversed, overlap_fault, share_one, without_lane}
 use Rattle.adapter_policies.specs.Configuration.{Configures, first_fault, levels_fault, links_fault, parts_fault, relations_fault}
 use Rattle.adapter_policies.specs.Document.{DocumentSaid, document_fault, document_of}
@@ -31,7 +32,7 @@ use Rattle.adapter_policies.specs.declared.band.BandTable.{BandTable}
 use Rattle.adapter_policies.specs.declared.lane.LaneTable.{LaneTable}
 use Rattle.adapter_policies.specs.declared.object.ObjectTable.{ObjectTable}
 use Rattle.adapter_policies.specs.declared.object_spec.ObjectSpec.{ObjectSpec}
-use Rattle.adapter_policies.proofs.NoneFound.{and_both, both_none, no_entry, no_key, none_at, none_clash, none_pass, nowhere, rises}
+use Rattle.adapter_policies.proofs.NoneFound.{no_entry, no_key, none_at, none_clash, none_pass, nowhere, rises}
 
 not_false : (b : Bool) → not b ≡ false → b ≡ true
 not_false true h = refl

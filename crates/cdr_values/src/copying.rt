@@ -115,8 +115,9 @@ fn copy_case(alloc: Global, case: &Case) -> Result<Case, NoMemory>
     })
 }
 
-fn copy_texts(alloc: Global, texts: &[Text]) -> Result<List<Text>, NoMemory>
-    ensures { IfOk result (λ l. l.items ≡ texts.now) }
+/// Equal texts, in order. Work and memory grow with their bytes.
+pub fn copy_texts(alloc: Global, texts: &[Text]) -> Result<List<Text>, NoMemory>
+    ensures copies { IfOk result (λ l. l.items ≡ texts.now) }
 {
     let mut copies = Vec::new(alloc);
     for text in texts {

@@ -17,7 +17,7 @@ mod number;
 mod spelled;
 mod value;
 
-pub use copying::{copy_members, copy_type, copy_value};
+pub use copying::{copy_members, copy_texts, copy_type, copy_value};
 pub use decoding::decode;
 pub use encoding::encode;
 pub use fault::DecodeFault;

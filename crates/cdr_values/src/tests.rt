@@ -112,6 +112,22 @@ fn again(rt: &impl Abort, alloc: Global, kind: IdlType, bytes: &[u8]) -> Result<
 }
 
 #[test]
+fn texts_are_copied_in_order(rt: HostRuntime) -> Result<(), Fail> {
+    let mut texts = Vec::new(rt.alloc());
+    texts.push(text(rt.alloc(), b"b")?)?;
+    texts.push(text(rt.alloc(), b"")?)?;
+    let copies = copy_texts(rt.alloc(), texts.as_slice())?;
+    match copies.as_slice() {
+        [first, second] => {
+            assert_eq!(rt; first.as_slice(), b"b".as_slice());
+            assert!(rt; second.as_slice().is_empty());
+        }
+        _ => assert!(rt; false),
+    }
+    Ok(())
+}
+
+#[test]
 fn numbers_are_read_and_spelled_again(rt: HostRuntime) -> Result<(), Fail> {
     let alloc = rt.alloc();
     again(&rt, alloc, IdlType::Boolean, b"\x01")?;

@@ -18,7 +18,8 @@ use Rattle.config_tables.specs.Values.{are_tables, fault_at, in_range, is_betwee
 use Rattle.config_tables.specs.declared.fault.ConfigCause.{ConfigCause}
 use Rattle.config_tables.proofs.LeastKey.{all_known}
 
-both_none : (x y : Option Fault) → first_of x y ≡ None → (x ≡ None) × (y ≡ None)
+-- neither of two parts has a fault
+pub both_none : (x y : Option Fault) → first_of x y ≡ None → (x ≡ None) × (y ≡ None)
 both_none None y none = (refl, none)
 both_none (Some f) y none = absurd (cc)
 
@@ -30,7 +31,7 @@ in_range_of : (b : Bool) → in_range b ≡ None → b ≡ true
 in_range_of true none = refl
 in_range_of false none = absurd (cc)
 
-and_both : (a b : Bool) → (a && b) ≡ true → (a ≡ true) × (b ≡ true)
+pub and_both : (a b : Bool) → (a && b) ≡ true → (a ≡ true) × (b ≡ true)
 and_both true b h = (refl, h)
 and_both false b h = absurd (cc)
 
@@ -38,7 +39,7 @@ not_holds : (b : Bool) → not b ≡ true → b ≡ false
 not_holds false h = refl
 not_holds true h = absurd (cc)
 
-or_neither : (a b : Bool) → (a || b) ≡ false → (a ≡ false) × (b ≡ false)
+pub or_neither : (a b : Bool) → (a || b) ≡ false → (a ≡ false) × (b ≡ false)
 or_neither false b h = (refl, h)
 or_neither true b h = absurd (cc)
 

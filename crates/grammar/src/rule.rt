@@ -18,6 +18,38 @@ macro_rules! alt {
     ($a:expr, $($rest:expr),+) => { $crate::Rule::Or(&$a, &$crate::alt![$($rest),+]) };
 }
 
+/// One token, where nothing is done. The kinds of tokens and the labels are called `Kind` and `Label` where this is used.
+#[macro_export]
+macro_rules! word {
+    ($kind:ident) => {
+        $crate::Rule::One(Kind::$kind, Label::Skip)
+    };
+}
+
+/// One token, and what is done there.
+#[macro_export]
+macro_rules! token {
+    ($kind:ident, $label:ident) => {
+        $crate::Rule::One(Kind::$kind, Label::$label)
+    };
+}
+
+/// Something done without a token.
+#[macro_export]
+macro_rules! does {
+    ($label:ident) => {
+        $crate::Rule::Does(Label::$label)
+    };
+}
+
+/// A rule once or more, with commas between.
+#[macro_export]
+macro_rules! listed {
+    ($rule:expr) => {
+        $crate::Rule::Chained(&$rule, &$crate::word!(Comma), Label::Skip)
+    };
+}
+
 /// A rule of a grammar, over labels for what is done and names of the rules that stand in brackets. Rules refer to
 /// their parts, so that a grammar is a set of constants.
 #[derive(Drop)]

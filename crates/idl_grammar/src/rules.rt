@@ -4,23 +4,11 @@ ghost use Rattle.grammar.specs.Views.{rule_of};
 ghost use Rattle.idl_grammar.specs.IdlRules as Spec;
 
 use crate::{Basic, IdlCause, IdlLabel as Label, Inner};
-use grammar::{Rule, alt, seq};
+use grammar::{Rule, alt, does, listed, seq, token, word};
 use idl_tokens::Kind;
 
 /// A rule of IDL.
 pub type IdlRule = Rule<'static, Label, Inner>;
-
-macro_rules! word {
-    ($kind:ident) => {
-        Rule::One(Kind::$kind, Label::Skip)
-    };
-}
-
-macro_rules! token {
-    ($kind:ident, $label:ident) => {
-        Rule::One(Kind::$kind, Label::$label)
-    };
-}
 
 macro_rules! basic {
     ($kind:ident, $basic:ident) => {
@@ -31,18 +19,6 @@ macro_rules! basic {
 macro_rules! refused {
     ($kind:ident, $cause:ident) => {
         Rule::One(Kind::$kind, Label::Refuse(IdlCause::$cause))
-    };
-}
-
-macro_rules! does {
-    ($label:ident) => {
-        Rule::Does(Label::$label)
-    };
-}
-
-macro_rules! listed {
-    ($rule:expr) => {
-        Rule::Chained(&$rule, &word!(Comma), Label::Skip)
     };
 }
 

@@ -2,6 +2,7 @@
 use Rattle.std.specs.Prelude.{◌≡◌, ◌≤◌, ◌<◌, ℕ, List, length, Some, None, Result, Ok, Err, IfSome, MatchOption}
 use Rattle.orb_base.specs.Filing.{FilesState, content}
 use Rattle.orb_base.specs.Outside.{Rose}
+use Rattle.text_streams.specs.Files.{IsFile}
 use Rattle.idl_tokens.specs.declared.token.TheConstants.{MAX_TEXT}
 use Rattle.idl_grammar.specs.declared.fault.IdlFault.{IdlFault}
 use Rattle.idl_types.specs.declared.repository.Repository.{Repository}
@@ -12,20 +13,16 @@ use Rattle.idl_reader.specs.Whole.{Declares}
 use Rattle.idl_lines.specs.declared.idl_end.IdlEnd.{IdlEnd}
 use Rattle.idl_lines.specs.declared.idl_end.IdlEnd.TheVariants.{Refused, Absent, TooLong, ReadFault, NoMemory}
 
--- these bytes, which aren't too long, are the file of this name, where the store tells its files
-abbrev pub IsFile : FilesState → List ℕ → List ℕ → Type 0
-IsFile files name bytes = (length bytes ≤ MAX_TEXT) × IfSome files.files (λ fs. content fs name ≡ Some bytes)
-
 -- the file of this name declares these things
 pub record FileDeclares (files : FilesState) (name : List ℕ) (things : List Thing) : Type 0 where
   pub bytes : List ℕ
-  pub file : IsFile files name bytes
+  pub file : IsFile MAX_TEXT files name bytes
   pub declares : Declares bytes things
 
 -- the file of this name has this first fault
 pub record FileFails (files : FilesState) (name : List ℕ) (fault : IdlFault) : Type 0 where
   pub bytes : List ℕ
-  pub file : IsFile files name bytes
+  pub file : IsFile MAX_TEXT files name bytes
   pub first : IsFirstFault bytes fault
 
 -- a store that tells its files has one of this name with these bytes, which aren't too long

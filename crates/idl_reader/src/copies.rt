@@ -7,22 +7,11 @@ ghost use Rattle.idl_constants.specs.Views as constants;
 ghost use Rattle.idl_types.specs.Views.{operation_of, param_of};
 ghost use Rattle.idl_reader.specs.Values.{constant_value};
 
-use cdr_values::{IdlType, IdlValue, copy_type};
+use cdr_values::{IdlType, IdlValue, copy_texts, copy_type};
 use idl_constants::ConstValue;
 use idl_types::{Operation, Param};
-use orb_base::{List, NoMemory, Text};
+use orb_base::{List, NoMemory};
 use std::alloc::Global;
-
-/// Equal texts, in order.
-fn copy_texts(alloc: Global, texts: &[Text]) -> Result<List<Text>, NoMemory>
-    ensures { IfOk result (λ l. l.items ≡ texts.now) }
-{
-    let mut copies = Vec::new(alloc);
-    for text in texts {
-        copies.push(text.copy(alloc)?)?;
-    }
-    Ok(List::from_vec(copies))
-}
 
 /// A parameter of the same way, name and type.
 fn copy_param(alloc: Global, param: &Param) -> Result<Param, NoMemory>

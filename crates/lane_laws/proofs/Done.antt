@@ -34,8 +34,8 @@ record Ends (s0 : State) (h : History) (s : State) : Type 0 where
 
 ends_step : (s0 : State) → Opens s0 → (h : History) (s : State) (e : One) → Ends s0 h s → is_ready s e.call ≡ true → IsSound s e.call → e.reply ≡ (step s e.call).1 → IsFit s0 e.caller (of e.caller h) e.call → Ends s0 (h ++ e ∷ []) (step s e.call).0
 ends_step s0 o h s e d r q w f = record {
-  knows = known_step s0 o.can.few_slots (few_threads s0 o) h s e d.knows r q w f;
-  rests = rests_step s0 h s e e.call o.can.few_slots (few_threads s0 o) d.knows r w f d.rests;
+  knows = known_step s0 o.can.slots.few_slots (few_threads s0 o) h s e d.knows r q w f;
+  rests = rests_step s0 h s e e.call o.can.slots.few_slots (few_threads s0 o) d.knows r w f d.rests;
 }
 
 ends_first : (s0 : State) → Opens s0 → Ends s0 [] s0

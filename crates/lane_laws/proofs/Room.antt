@@ -132,13 +132,13 @@ first pool slots per_slot = record {
 }
 
 both : (s0 : State) (h : History) → Opens s0 → IsLegal s0 h → AreFit s0 h → Both s0 h (replay s0 h)
-both s0 h o l f = along s0 (Both s0) (both_step s0 o.can.few_slots) [] h s0 (subst (λ (z : State). Both z [] z) (sym o.fresh) (first s0.pool s0.slots s0.per_slot)) l f
+both s0 h o l f = along s0 (Both s0) (both_step s0 o.can.slots.few_slots) [] h s0 (subst (λ (z : State). Both z [] z) (sym o.fresh) (first s0.pool s0.slots s0.per_slot)) l f
 
 pub counts : (s0 : State) (h : History) → Opens s0 → IsLegal s0 h → AreFit s0 h → Counted s0.pool.run_calls h (replay s0 h)
 counts s0 h o l f = (both s0 h o l f).counted
 
 pub has_room : (s0 : State) (h : History) (n : ℕ) (call : LaneCall) → Opens s0 → IsLegal s0 h → AreFit s0 h → IsFit s0 n (of n h) call → length h < room s0
-has_room s0 h n call o l f fit = let b = both s0 h o l f in let c = b.counted in let a = c.length in let d = c.calls in let e = mark_left s0 o.can.few_slots h n call b.marked fit in omega arith
+has_room s0 h n call o l f fit = let b = both s0 h o l f in let c = b.counted in let a = c.length in let d = c.calls in let e = mark_left s0 o.can.slots.few_slots h n call b.marked fit in omega arith
 
 -- without the callers
 counted_along : (most : ℕ) (before h : History) (s : State) → s.pool.run_calls ≡ most → Counted most before s → IsLegal s h → Counted most (before ++ h) (replay s h)

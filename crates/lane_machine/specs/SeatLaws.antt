@@ -308,7 +308,7 @@ known_first pool slots per_slot = record {
 }
 
 pub known : (s0 : State) (h : History) → Opens s0 → IsLegal s0 h → AreFit s0 h → Known s0 h (replay s0 h)
-known s0 h o l f = along s0 (Known s0) (known_step s0 o.can.few_slots (let a = ap (λ (z : State). length z.threads) o.fresh in let b = o.can.well_formed.lanes.few_threads in let c = length-pool_threads 0 s0.pool.lanes in omega arith)) [] h s0
+known s0 h o l f = along s0 (Known s0) (known_step s0 o.can.slots.few_slots (let a = ap (λ (z : State). length z.threads) o.fresh in let b = o.can.well_formed.lanes.few_threads in let c = length-pool_threads 0 s0.pool.lanes in omega arith)) [] h s0
     (subst (λ (z : State). Known z [] z) (sym o.fresh) (known_first s0.pool s0.slots s0.per_slot)) l f
 
 pub enough : (s0 : State) (h : History) (n : ℕ) (call : LaneCall) → Opens s0 → IsLegal s0 h → AreFit s0 h → IsFit s0 n (of n h) call → IsSound (replay s0 h) call

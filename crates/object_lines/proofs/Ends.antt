@@ -7,11 +7,13 @@ use Rattle.adapter_policies.specs.SetupData.{SetupData}
 use Rattle.object_lines.specs.declared.at_end.AtEnd.{AtEnd}
 use Rattle.object_lines.specs.declared.at_end.AtEnd.TheVariants.{Done, Refused, Absent, TooLong, NotBuilt, ReadFault, WriteFault, NoMemory}
 use Rattle.object_lines.specs.Serving.{IsWhole, JudgesWhole}
-use Rattle.object_lines.specs.Setups.{GivesSetup, IsFile, ReadsBytes, ReadsConfig}
+use Rattle.object_lines.specs.declared.at_end.TheConstants.{MAX_CONFIG}
+use Rattle.text_streams.specs.Files.{IsFile}
+use Rattle.object_lines.specs.Setups.{GivesSetup, ReadsBytes, ReadsConfig}
 use Rattle.object_lines.specs.Lines.{At, Comes, WritesLines, lines_text}
 
 -- a file's bytes give what the configuration of its name gives
-pub config_read : (answer : Result SetupData AtEnd) (name bytes : List ℕ) (old new : FilesState) → IsFile old name bytes → new.faults ≡ old.faults
+pub config_read : (answer : Result SetupData AtEnd) (name bytes : List ℕ) (old new : FilesState) → IsFile MAX_CONFIG old name bytes → new.faults ≡ old.faults
     → ReadsBytes answer bytes → ReadsConfig answer name old new
 config_read (Ok setup) name bytes old new file same h = ((bytes, file, h), same)
 config_read (Err (Refused f)) name bytes old new file same h = ((bytes, file, h), same)

@@ -2,6 +2,7 @@
 use Rattle.std.specs.Prelude.{◌≡◌, ◌≤◌, ◌<◌, ℕ, List, length, Option, Some, None, Result, Ok, Err, IfSome, MatchOption}
 use Rattle.orb_base.specs.Filing.{FilesState, content}
 use Rattle.orb_base.specs.Outside.{Rose}
+use Rattle.text_streams.specs.Files.{IsFile}
 use Rattle.config_tables.specs.Fault.{fault_of}
 use Rattle.adapter_policies.specs.BuiltIn.{built_in}
 use Rattle.adapter_policies.specs.Configuration.{Configures, HasFault}
@@ -9,10 +10,6 @@ use Rattle.adapter_policies.specs.SetupData.{SetupData}
 use Rattle.object_lines.specs.declared.at_end.AtEnd.{AtEnd}
 use Rattle.object_lines.specs.declared.at_end.AtEnd.TheVariants.{Refused, Absent, TooLong, ReadFault, NoMemory}
 use Rattle.object_lines.specs.declared.at_end.TheConstants.{MAX_CONFIG}
-
--- these bytes, which aren't too long, are the file of this name, where the store tells its files
-abbrev pub IsFile : FilesState → List ℕ → List ℕ → Type 0
-IsFile files name bytes = (length bytes ≤ MAX_CONFIG) × IfSome files.files (λ fs. content fs name ≡ Some bytes)
 
 -- what the bytes of a configuration give: its setup, or its first fault
 abbrev pub ReadsBytes : Result SetupData AtEnd → List ℕ → Type 0
@@ -23,9 +20,9 @@ ReadsBytes (Err _) bytes = ⊥
 
 -- what the configuration of a name gives: what its bytes give, or why there are none
 abbrev pub ReadsConfig : Result SetupData AtEnd → List ℕ → FilesState → FilesState → Type 0
-ReadsConfig (Ok setup) name old new = ((bytes : List ℕ) × IsFile old name bytes × Configures bytes setup) × (new.faults ≡ old.faults)
+ReadsConfig (Ok setup) name old new = ((bytes : List ℕ) × IsFile MAX_CONFIG old name bytes × Configures bytes setup) × (new.faults ≡ old.faults)
 ReadsConfig (Err (Refused f)) name old new =
-    ((bytes : List ℕ) × IsFile old name bytes × HasFault bytes (fault_of f)) × (new.faults ≡ old.faults)
+    ((bytes : List ℕ) × IsFile MAX_CONFIG old name bytes × HasFault bytes (fault_of f)) × (new.faults ≡ old.faults)
 ReadsConfig (Err Absent) name old new = IfSome old.files (λ fs. content fs name ≡ None) × (new.faults ≡ old.faults)
 ReadsConfig (Err TooLong) name old new =
     IfSome old.files (λ fs. MatchOption (content fs name) ⊥ (λ bytes. MAX_CONFIG < length bytes)) × (new.faults ≡ old.faults)

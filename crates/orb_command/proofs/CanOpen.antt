@@ -3,20 +3,14 @@ use Rattle.std.proofs.Common.{◌≡◌, ℕ, Bool, List, [], ◌∷◌, refl, s
 use Rattle.orb_base.specs.Pool.{Pool, IsWellFormed}
 use Rattle.orb_base.specs.declared.lane_spec.LaneSpec.{LaneSpec}
 use Rattle.thread_borrowing.specs.declared.doing.Doing.TheVariants.{Free}
-use Rattle.lane_machine.specs.State.{State, CanOpen, opening}
+use Rattle.lane_machine.specs.State.{HasSlots, State, CanOpen, opening}
 use Rattle.adapter_policies.specs.BuiltIn.{built_in}
 use Rattle.adapter_policies.specs.SetupData.{SetupData}
-use Rattle.orb_command.specs.Setup.{HasOneThread, HasSlots, IsSingle, IsRunnable, opened}
+use Rattle.orb_command.specs.Setup.{HasOneThread, IsSingle, IsRunnable, opened}
 use Rattle.orb_command.specs.PingRun.{Does, first_level, single_pool}
 
 pub can_open : (pool : Pool) (slots per_slot : ℕ) → IsWellFormed pool → HasSlots slots per_slot → CanOpen pool slots per_slot
-can_open pool slots per_slot formed has = record {
-  well_formed = formed;
-  some_slot = has.some_slot;
-  few_slots = has.few_slots;
-  some_connection = has.some_connection;
-  few_connections = has.few_connections;
-}
+can_open pool slots per_slot formed has = record { well_formed = formed; slots = has }
 
 lane_at : ℕ → ℕ → ℕ → List LaneSpec
 lane_at level statics dynamics = record { priority = level; statics = statics; dynamics = dynamics } ∷ []

@@ -2,8 +2,9 @@
 use Rattle.std.proofs.Common.{◌≡◌, ℕ, List, refl, ap, ◌∙◌, subst, sym}
 use Rattle.orb_base.specs.Outside.{SinkState, SourceState}
 use Rattle.idl_types.specs.Things.{Thing}
-use Rattle.idl_lines.specs.Texts.{FileTells}
-use Rattle.idl_lines.specs.Ending.{Lists, OnlyLists}
+use Rattle.idl_reader.specs.Whole.{text_things}
+use Rattle.idl_lines.specs.Texts.{FileTells, IsTold}
+use Rattle.idl_lines.specs.Ending.{Lists, ListsExactly, OnlyLists}
 use Rattle.idl_lines.specs.declared.idl_end.IdlEnd.{IdlEnd}
 use Rattle.idl_lines.specs.declared.idl_end.IdlEnd.TheVariants as end
 use Rattle.text_streams.proofs.CallerLemmas.{gave_none}
@@ -30,10 +31,11 @@ idl_faults end.NoMemory name before after h = (h.0, ap (λ (o : SinkState). o.fa
 pub idl_answers : (answer : IdlEnd) (name : List ℕ) (answered : Answered) (before after : Moment)
     → after.input ≡ before.input → Lists answer name before.files after.files before.out after.out
     → ((things : List Thing) → FileTells before.files name things → OnlyLists answer things before.out after.out)
+    → ((bytes : List ℕ) → IsTold before.files name bytes → ListsExactly answer (text_things bytes) before.out after.out)
     → answered.note ≡ idl_note answer → answered.status ≡ status_of (idl_note answer) → Answers (Idl name) answered before after
-idl_answers answer name answered before after same h only note status = record {
+idl_answers answer name answered before after same h only exact note status = record {
   status = status ∙ ap status_of (sym note);
-  means = record { answer = answer; told = note; lists = h; only = only; input = same };
+  means = record { answer = answer; told = note; lists = h; only = only; exact = exact; input = same };
   faults = (same, subst (λ n. FiledFaults n before after) (sym note) (idl_faults answer name before after h));
   few = subst (λ (s : SourceState). GaveFew 0 before.input s) (sym same) (gave_none 0 before.input);
 }
@@ -41,4 +43,4 @@ idl_answers answer name answered before after same h only note status = record {
 -- where memory is wanting for the words, nothing was done
 pub idl_wanting : (name : List ℕ) (answered : Answered) (before : Moment) → answered.note ≡ Memory → answered.status ≡ 12
     → Answers (Idl name) answered before before
-idl_wanting name answered before note status = idl_answers end.NoMemory name answered before before refl (refl, refl) (λ things tells. tt) note status
+idl_wanting name answered before note status = idl_answers end.NoMemory name answered before before refl (refl, refl) (λ things tells. tt) (λ bytes told. tt) note status

@@ -1,5 +1,6 @@
 //! What the pipe asks of a setup.
 ghost use Rattle.std.specs.Prelude.{◌≡◌, ◌↔◌, IsTrue, IfOk, IfSome};
+ghost use Rattle.lane_machine.specs.State.{HasSlots};
 ghost use Rattle.orb_command.specs.Setup as Spec;
 
 use crate::place::Place;
@@ -29,7 +30,7 @@ fn is_single(pool: &PoolSpec) -> bool
 
 /// Whether a run may open with so many slots, and connections in each.
 fn are_slots(slots: u8, per_slot: u8) -> bool
-    ensures { IsTrue result ↔ Spec.HasSlots slots per_slot }
+    ensures { IsTrue result ↔ HasSlots slots per_slot }
 {
     1 <= slots
         && slots <= MAX_SLOTS
@@ -48,7 +49,7 @@ pub fn is_runnable(setup: &Setup) -> bool
 /// The lane machine of a setup.
 #[tactic(auto, using(crate::proofs::CanOpen::can_open))]
 pub fn open(alloc: Global, setup: &Setup) -> Result<Lanes, NoMemory>
-    requires { Spec.HasSlots setup.now.slots setup.now.per_slot }
+    requires { HasSlots setup.now.slots setup.now.per_slot }
     ensures { IfOk result (λ lanes. lanes ≡ Spec.opened setup.now) }
 {
     Lanes::new(alloc, setup.pool(), setup.slots(), setup.per_slot())

@@ -4,23 +4,11 @@ ghost use Rattle.grammar.specs.Views.{rule_of};
 ghost use Rattle.script_grammar.specs.ScriptRules as Spec;
 
 use crate::{Binary, Inner, ScriptLabel as Label, Unary};
-use grammar::{Rule, alt, seq};
+use grammar::{Rule, alt, does, listed, seq, token, word};
 use idl_tokens::Kind;
 
 /// A rule of scripts.
 pub type ScriptRule = Rule<'static, Label, Inner>;
-
-macro_rules! word {
-    ($kind:ident) => {
-        Rule::One(Kind::$kind, Label::Skip)
-    };
-}
-
-macro_rules! token {
-    ($kind:ident, $label:ident) => {
-        Rule::One(Kind::$kind, Label::$label)
-    };
-}
 
 macro_rules! unary {
     ($kind:ident, $operator:ident) => {
@@ -31,18 +19,6 @@ macro_rules! unary {
 macro_rules! binary {
     ($kind:ident, $operator:ident) => {
         Rule::One(Kind::$kind, Label::Binary(Binary::$operator))
-    };
-}
-
-macro_rules! does {
-    ($label:ident) => {
-        Rule::Does(Label::$label)
-    };
-}
-
-macro_rules! listed {
-    ($rule:expr) => {
-        Rule::Chained(&$rule, &word!(Comma), Label::Skip)
     };
 }
 

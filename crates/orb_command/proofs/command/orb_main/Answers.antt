@@ -34,7 +34,7 @@ returns-in-Ok-Idl g c =
     (idl_answers c.idl_run.result c.in-Ok-Idl.name c.answered-in-Ok-Idl.result
     (moment (g.F.Files.state c.args.files.now) (g.I.Source.state c.args.input.now) (g.O.Sink.state c.args.out.now))
     (moment (g.F.Files.state c.idl_run.new.files) (g.I.Source.state c.args.input.now) (g.O.Sink.state c.idl_run.new.out))
-    refl c.idl_run.ensures.lists c.idl_run.ensures.only note status)
+    refl c.idl_run.ensures.lists c.idl_run.ensures.only c.idl_run.ensures.exact note status)
 
 pub returns-in-Ok-Unbuilt : goal.returns-in-Ok-Unbuilt
 returns-in-Ok-Unbuilt g c =
