@@ -42,4 +42,12 @@ pub use reading::read_setup;
 pub use setup::Setup;
 
 #[cfg(test)]
+mod order_tests;
+#[cfg(test)]
+mod range_tests;
+#[cfg(test)]
+mod reference_tests;
+#[cfg(test)]
 mod tests;
+#[cfg(test)]
+mod text_tests;

@@ -214,7 +214,7 @@ const PAIRS: [(&str, ConfigCause, &str); 11] = [
 ];
 
 /// Whether an answer is a refusal with this cause at this path.
-fn tells(answer: Result<Setup, SetupError>, cause: ConfigCause, path: &str) -> bool {
+pub fn tells(answer: Result<Setup, SetupError>, cause: ConfigCause, path: &str) -> bool {
     match answer {
         Err(SetupError::Refused(fault)) => {
             fault.cause == cause && fault.path.as_slice() == path.as_bytes()
@@ -233,7 +233,7 @@ fn is_refused(alloc: Global, before: &str, behind: &str, row: &(&str, ConfigCaus
 }
 
 /// Whether each text between two others is refused with its cause at its path.
-fn all_refused(
+pub fn all_refused(
     alloc: Global,
     before: &str,
     behind: &str,
@@ -241,6 +241,21 @@ fn all_refused(
 ) -> bool {
     rows.iter()
         .all(|row| is_refused(alloc, before, behind, row))
+}
+
+/// Whether a text between two others is a configuration.
+fn is_accepted(alloc: Global, before: &str, behind: &str, text: &str) -> bool {
+    match format!(in alloc; "{before}{text}{behind}") {
+        Ok(text) => read_setup(alloc, text.as_bytes()).is_ok(),
+        Err(_) => false,
+    }
+}
+
+/// Whether each text between two others is a configuration.
+pub fn all_accepted(alloc: Global, before: &str, behind: &str, texts: &[&str]) -> bool {
+    texts
+        .iter()
+        .all(|text| is_accepted(alloc, before, behind, text))
 }
 
 #[test]
@@ -269,7 +284,7 @@ const REST: &str =
     "[server]\nslots = 3\nmax_calls = 7\n[map]\nkind = \"linear\"\ncorba_low = 0\ncorba_high = 99\nnative_low = -10\nnative_high = -1\n[[adapter]]\nname = \"high\"\nmodel = \"SERVER_DECLARED\"\npriority = 20\nbands = [{ low = 0, high = 10 }]\n[[object]]\nkey = \"a\"\nadapter = \"high\"\ninterface = \"i\"\n[[object]]\nkey = \"b\"\nadapter = \"high\"\ninterface = \"j\"\npriority = 10\n";
 
 /// A setup with each table.
-fn whole(alloc: Global) -> Result<Setup, Fail> {
+pub fn whole(alloc: Global) -> Result<Setup, Fail> {
     let text = format!(in alloc; "{FILES}{LANES}{REST}")?;
     match read_setup(alloc, text.as_bytes()) {
         Ok(setup) => Ok(setup),
