@@ -1,7 +1,8 @@
 //! The lane machine, as its callers see it.
 ghost use Rattle.std.specs.Prelude.{◌≡◌, ◌≤◌, ◌==◌, ◌&&◌, ◌||◌, nat_le, is_some, length, IfOk, true};
+ghost use Rattle.thread_borrowing.specs.ThreadList.{first_given};
 ghost use Rattle.lane_machine.specs.State.{CanOpen, opening};
-ghost use Rattle.lane_machine.specs.Machine.{step, end_of};
+ghost use Rattle.lane_machine.specs.Machine.{step, end_of, item_place};
 ghost use Rattle.lane_machine.specs.Readiness.{is_ready, IsSound, owed};
 ghost use Rattle.lane_machine.specs.Histories.{Steps};
 
@@ -53,6 +54,27 @@ impl Lanes {
         ensures few { result ≤ MAX_THREADS }
     {
         self.machine.count_threads()
+    }
+
+    /// The first thread, by number, with a task that it hasn't taken yet. One pass over the threads.
+    pub fn first_given(&self) -> Option<u8>
+        ensures { result ≡ first_given self.now.threads }
+    {
+        self.machine.first_given()
+    }
+
+    /// Whether the run is closing, for a limit that it met.
+    pub fn is_closing(&self) -> bool
+        ensures { result ≡ self.now.closing }
+    {
+        self.machine.is_closing()
+    }
+
+    /// Whether a message is at hand for the connection. One pass over what is owed to all connections.
+    pub fn has_item(&self, conn: ConnId) -> bool
+        ensures { result ≡ is_some (item_place self.now conn) }
+    {
+        self.machine.has_item(conn)
     }
 
     /// Whether the call is answered now; else it waits. Takes no memory. Work grows with the threads, with what waits,

@@ -3,6 +3,7 @@
 //! A call that fails for want of memory leaves the machine as it was: what takes memory comes before what changes.
 ghost use Rattle.std.specs.Prelude.{◌≡◌, ◌<◌, ◌≤◌, ◌+◌, ◌^◌, length, ◌==◌, ◌&&◌, ◌||◌, is_some, slice_get, IfOk, OnOk, OnErr, ◌∷◌, []};
 ghost use Rattle.std.specs.Bool.{OnFalse};
+ghost use Rattle.thread_borrowing.specs.ThreadList.{first_given};
 ghost use Rattle.lane_machine.specs.State.{CanOpen, opening};
 ghost use Rattle.lane_machine.specs.Machine.{step, item_place, end_of, is_over, heard, add_items};
 ghost use Rattle.lane_machine.specs.Readiness.{owed, can_take, IsSound};
@@ -146,6 +147,13 @@ impl Machine {
             Task::Free => look::all_left(self.left.as_slice(), self.slots),
             Task::Busy => false,
         }
+    }
+
+    /// The first thread with a task that it hasn't taken yet.
+    pub fn first_given(&self) -> Option<u8>
+        ensures { result ≡ first_given self.now.threads }
+    {
+        self.threads.first_given()
     }
 
     /// Whether a message is owed to the connection.

@@ -14,11 +14,11 @@ use Rattle.lane_machine.specs.declared.call.LaneReply.TheVariants as reply
 use Rattle.thread_borrowing.specs.declared.doing.Doing.{Doing}
 use Rattle.thread_borrowing.specs.declared.doing.Doing.TheVariants.{Free, Given, Busy}
 use Rattle.lane_machine.specs.State.{State}
-use Rattle.thread_borrowing.specs.ThreadList.{Thread, is_free, doing, given}
+use Rattle.thread_borrowing.specs.ThreadList.{Thread, is_free, is_given, doing, given}
 use Rattle.request_buffer.specs.Next.{next_job}
 use Rattle.lane_machine.specs.Machine.{step, taken, begun, finished, answered, freed, handed_on, set_thread}
 use Rattle.lane_machine.specs.Readiness.{is_ready, IsSound, IsBusyWith, can_take, can_go_on}
-use Rattle.pipe_laws.specs.Piped.{is_given, first_given, in_hand}
+use Rattle.pipe_laws.specs.Piped.{first_given, in_hand}
 use Rattle.pipe_laws.specs.Calm.{is_busy, NoneBusy}
 use Rattle.thread_borrowing.proofs.Places.{at_place, set_same, set_other, sum_set}
 use Rattle.request_buffer.proofs.NextJobs.{next_is}

@@ -18,7 +18,7 @@ use Rattle.lane_machine.specs.declared.call.LaneCall.TheVariants.{Offer, Post, C
 use Rattle.thread_borrowing.specs.declared.doing.Doing.{Doing}
 use Rattle.thread_borrowing.specs.declared.doing.Doing.TheVariants.{Free, Given, Busy}
 use Rattle.lane_machine.specs.State.{State, Opens, CanOpen, opening}
-use Rattle.thread_borrowing.specs.ThreadList.{Thread, is_free, works_for, given, some_threads, pool_threads}
+use Rattle.thread_borrowing.specs.ThreadList.{Thread, is_free, is_given, works_for, given, some_threads, pool_threads}
 use Rattle.orb_base.specs.declared.lane_spec.LaneSpec.{LaneSpec}
 use Rattle.thread_borrowing.specs.Choice.{may_run, chosen_thread}
 use Rattle.request_buffer.specs.Kept.{may_cancel}
@@ -28,7 +28,7 @@ use Rattle.lane_machine.specs.Readiness.{is_ready, IsSound, owed}
 use Rattle.lane_machine.specs.Histories.{replay, IsLegal}
 use Rattle.adapter_policies.specs.SetupData.{SetupData}
 use Rattle.pipe_laws.specs.Setup.{pipe_conn, interface_of}
-use Rattle.pipe_laws.specs.Piped.{Run, is_given, first_given, in_hand, applied, turned, rested_after, rested, collected, emptied_after, settled, before_call, room_behind, closed_by, answer_of, piped}
+use Rattle.pipe_laws.specs.Piped.{Run, first_given, in_hand, applied, turned, rested_after, rested, collected, emptied_after, settled, before_call, room_behind, closed_by, answer_of, piped}
 use Rattle.pipe_laws.specs.Reached.{IsReached}
 use Rattle.orb_base.specs.declared.item.Item.{Item}
 use Rattle.orb_base.specs.declared.item.Item.TheVariants.{Noticed}

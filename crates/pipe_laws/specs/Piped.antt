@@ -1,6 +1,6 @@
 -- What the pipe answers: one connection, whose calls are applied in groups. Behind each group, and behind the end, the
 -- threads are run to rest and all items are collected; behind the end the connection collects once more. Own profile.
-use Rattle.std.specs.Prelude.{◌≡◌, ℕ, zero, suc, ◌+◌, ◌-◌, ◌==◌, Bool, true, false, not, if◌then◌else◌, List, [], ◌∷◌, ◌++◌, Option, Some, None, length, position, count_by}
+use Rattle.std.specs.Prelude.{◌≡◌, ℕ, zero, suc, ◌+◌, ◌-◌, ◌==◌, Bool, true, false, not, if◌then◌else◌, List, [], ◌∷◌, ◌++◌, Option, Some, None, length, count_by}
 use Rattle.std.specs.List.{list_any}
 use Rattle.orb_base.specs.Outcomes.{no_memory}
 use Rattle.orb_base.specs.JobRecord.{JobRecord}
@@ -12,10 +12,8 @@ use Rattle.lane_machine.specs.declared.call.LaneCall.{LaneCall}
 use Rattle.lane_machine.specs.declared.call.LaneCall.TheVariants.{Take, Finish, Collect, End}
 use Rattle.lane_machine.specs.declared.call.LaneReply.{LaneReply}
 use Rattle.lane_machine.specs.declared.call.LaneReply.TheVariants as reply
-use Rattle.thread_borrowing.specs.declared.doing.Doing.{Doing}
-use Rattle.thread_borrowing.specs.declared.doing.Doing.TheVariants.{Free, Given, Busy}
 use Rattle.lane_machine.specs.State.{State, opening}
-use Rattle.thread_borrowing.specs.ThreadList.{is_free}
+use Rattle.thread_borrowing.specs.ThreadList.{is_free, first_given as given_in}
 use Rattle.lane_machine.specs.Machine.{step, item_place}
 use Rattle.lane_machine.specs.Readiness.{is_ready}
 use Rattle.lane_machine.specs.Histories.{History, replay}
@@ -40,14 +38,8 @@ applied run call = record {
 }
 
 -- the number of the first thread with a task that it hasn't taken yet
-abbrev pub is_given : Doing → Bool
-is_given (Given _) = true
-is_given Free = false
-is_given (Busy _) = false
-
--- the thread of smallest number among them
 abbrev pub first_given : State → Option ℕ
-first_given s = position (λ thread. is_given thread.doing) s.threads
+first_given s = given_in s.threads
 
 -- a turn: that thread takes its task, and finishes it with the servant's answer
 abbrev pub finished_by : (JobRecord → Outcome) → Run → ℕ → LaneReply → Run

@@ -1,5 +1,5 @@
 -- The threads of a pool and what they do: Real-time CORBA 1.2, Threadpools. A pool is seen as one list of its threads.
-use Rattle.std.specs.Prelude.{◌+◌, ◌≤◌, ℕ, Bool, true, false, List, [], ◌∷◌, ◌++◌, replicate, length, Option, Some, None, slice_get, slice_set}
+use Rattle.std.specs.Prelude.{◌+◌, ◌≤◌, ℕ, Bool, true, false, List, [], ◌∷◌, ◌++◌, replicate, length, position, Option, Some, None, slice_get, slice_set}
 use Rattle.orb_base.specs.Conn.{same_conn}
 use Rattle.orb_base.specs.declared.limits.TheConstants.{MAX_THREADS}
 use Rattle.orb_base.specs.declared.conn_id.ConnId.{ConnId}
@@ -44,6 +44,16 @@ is_free doing = is_none (task_of doing)
     is_none task.Free = true
     is_none task.Given = false
     is_none task.Busy = false
+
+-- a thread with this to do has a task that it hasn't taken yet
+abbrev pub is_given : Doing → Bool
+is_given (Given _) = true
+is_given Free = false
+is_given (Busy _) = false
+
+-- the number of the first thread with such a task
+abbrev pub first_given : List Thread → Option ℕ
+first_given threads = position (λ thread. is_given thread.doing) threads
 
 -- the request, where there is one
 abbrev pub job_of : Doing → Option Job

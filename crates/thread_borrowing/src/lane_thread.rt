@@ -1,6 +1,6 @@
 //! One thread of a lane.
 ghost use Rattle.std.specs.Prelude.{◌≡◌, true, false};
-ghost use Rattle.thread_borrowing.specs.ThreadList.{is_free, works_for, task_of, job_of, given, begun, freed};
+ghost use Rattle.thread_borrowing.specs.ThreadList.{is_free, is_given, works_for, task_of, job_of, given, begun, freed};
 ghost use Rattle.thread_borrowing.specs.Choice.{can_start, rank};
 ghost use Rattle.std.specs.Prelude.{Some};
 
@@ -110,6 +110,13 @@ impl LaneThread {
             Doing::Given(_) => Task::Given,
             Doing::Busy(_) => Task::Busy,
         }
+    }
+
+    /// Whether it has a task that it hasn't taken yet.
+    pub fn is_given(&self) -> bool
+        ensures { result ≡ is_given self.now.doing }
+    {
+        matches!(&self.doing, Doing::Given(_))
     }
 
     /// Its request. It has a task.

@@ -64,6 +64,7 @@ fn sixteen_lanes_have_sixty_four_threads(rt: HostRuntime) -> Result<(), Fail> {
     assert_eq!(rt; threads.choose(8, true).map(parts), Some((28, true, false)));
     assert_eq!(rt; threads.choose(8, false).map(parts), None);
     assert_eq!(rt; threads.count_for(CONN), 32);
+    assert_eq!(rt; threads.first_given(), Some(32));
     Ok(())
 }
 
@@ -75,6 +76,7 @@ fn a_thread_takes_and_finishes_its_request(rt: HostRuntime) -> Result<(), Fail> 
         Task::Given => {
             assert_eq!(rt; threads.job(0).get().id, 7);
             threads.begin(0);
+            assert_eq!(rt; threads.first_given(), None);
         }
         _ => panic!(rt; "it was given a request"),
     }

@@ -1,7 +1,7 @@
 //! The threads of a pool.
 ghost use Rattle.std.specs.Prelude.{◌≡◌, ◌<◌, ◌≤◌, false, true, slice_get, length, count_by, option_map, IfOk, IfSome, IsSomeAnd, Some};
 ghost use Rattle.orb_base.specs.Pool.{IsWellFormed};
-ghost use Rattle.thread_borrowing.specs.ThreadList.{pool_threads, is_free, works_for, task_of, job_of, given, begun, freed, with_thread};
+ghost use Rattle.thread_borrowing.specs.ThreadList.{pool_threads, is_free, first_given, works_for, task_of, job_of, given, begun, freed, with_thread};
 ghost use Rattle.thread_borrowing.specs.declared.doing.Doing.TheVariants.{Busy};
 ghost use Rattle.thread_borrowing.specs.Choice.{chosen_thread, greatest, can_start, rank, Suits};
 
@@ -127,6 +127,22 @@ impl Threads {
             .iter()
             .filter(|thread| thread.works_for(conn))
             .count()
+    }
+
+    /// The first thread, by number, with a task that it hasn't taken yet. One pass over the threads.
+    pub fn first_given(&self) -> Option<u8>
+        ensures { result ≡ first_given self.now }
+    {
+        let at = self.given_place()?;
+        Some(at as u8)
+    }
+
+    /// The place of the first thread with a task that it hasn't taken yet.
+    fn given_place(&self) -> Option<usize>
+        ensures given { result ≡ first_given self.now }
+        ensures few { IfSome result (λ at. at < MAX_THREADS) }
+    {
+        self.threads.iter().position(|thread| thread.is_given())
     }
 
     /// The number of the thread that a request of this lane is given to.
