@@ -33,7 +33,7 @@ use Rattle.orb_command.specs.Built.{IsAsked, IsPing}
 use Rattle.orb_command.specs.PingRun.{ping_job, IsPingJob, ArePingJobs, offers}
 use Rattle.orb_command.specs.Hearing.{AsksCurrent, target_place, Asks, MeansJob, MeanJobs, MeansJobs, HeardAs}
 use Rattle.orb_command.proofs.Places.{placed_so, known_there}
-use Rattle.orb_command.proofs.StreamCounts.{few_messages}
+use Rattle.heard_calls.proofs.StreamCounts.{few_messages}
 
 -- ---- the order of a message
 

@@ -1,6 +1,5 @@
 pub mod StandardFacts
 pub mod CanOpen
-pub mod StreamCounts
 pub mod Places
 pub mod HearingLaws
 pub mod ReplyLaws

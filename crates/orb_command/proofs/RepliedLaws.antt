@@ -44,7 +44,7 @@ use Rattle.orb_command.proofs.HeardLaws.{hears_one_way, built_in_is_distinct}
 use Rattle.orb_command.proofs.CanOpen.{opens_free, built_in_is_runnable}
 use Rattle.orb_command.proofs.Places.{pings_place}
 use Rattle.orb_command.proofs.ReplyLaws.{reply_short}
-use Rattle.orb_command.proofs.StreamCounts.{few_messages}
+use Rattle.heard_calls.proofs.StreamCounts.{few_messages}
 use Rattle.orb_command.proofs.PingSizes.{ping_size, answer_size, not_over}
 use Rattle.orb_command.proofs.PipeRuns.{at, idle, run_over}
 use Rattle.orb_command.proofs.PipedLaws.{gone, last, closes_so, last_says}

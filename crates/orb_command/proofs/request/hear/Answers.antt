@@ -7,7 +7,7 @@ use Rattle.giop_frames.specs.Messages.{Message}
 use Rattle.giop_messages.specs.MessageReading.{IsMessage}
 use Rattle.giop_messages.proofs.CallerLemmas.{streams_messages}
 use Rattle.orb_command.specs.Hearing.{MeansJobs}
-use Rattle.orb_command.proofs.StreamCounts.{few_messages}
+use Rattle.heard_calls.proofs.StreamCounts.{few_messages}
 use Rattle.orb_command.proofs.HearingLaws.{fed_all, no_rest, heard_as}
 use Rattle.orb_command.proofs.request.hear.Goals as goal
 

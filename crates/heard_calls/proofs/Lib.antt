@@ -1,0 +1,4 @@
+pub mod Hearings
+pub mod StreamCounts
+pub mod Framing
+pub mod OneMeaning

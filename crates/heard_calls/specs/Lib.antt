@@ -1,0 +1,4 @@
+pub mod Meaning
+pub mod Hearing
+pub mod Input
+pub mod Laws

@@ -1,0 +1,117 @@
+//! What one message means.
+ghost use Rattle.std.specs.Prelude.{◌≡◌, IfOk};
+ghost use Rattle.giop_messages.specs.MessageReading.{IsMessage};
+ghost use Rattle.giop_messages.specs.TargetView.{target_of};
+ghost use Rattle.heard_calls.specs.Meaning as Spec;
+ghost use Rattle.heard_calls.specs.declared.means.Means.TheVariants.{Goes};
+
+use crate::means::Means;
+use adapter_policies::Setup;
+use giop_frames::Whole;
+use giop_messages::{Fault, Locate, Message, Request, Target, read_message};
+use lane_machine::LaneCall;
+use orb_base::{Band, ConnId, NoMemory, Notice, Order, What};
+use request_judge::{Refusal, Verdict, call_of, judge, served_at};
+use std::alloc::Global;
+
+/// Whether a target is the key of an object that an adapter serves.
+fn is_here(setup: &Setup, target: &Target) -> bool
+    ensures { result ≡ Spec.is_here setup.now (target_of target.now) }
+{
+    match target {
+        Target::Key(key) => served_at(setup, key.as_slice()).is_some(),
+        Target::Profile(_) | Target::Addressing { .. } => false,
+    }
+}
+
+/// The answer to a question where an object is.
+fn located(setup: &Setup, conn: ConnId, order: Order, asked: &Locate) -> LaneCall
+    ensures { result ≡ Spec.where_is setup.now conn order asked.now }
+{
+    LaneCall::Post(Notice {
+        conn,
+        order,
+        id: asked.id,
+        what: What::Located(is_here(setup, &asked.target)),
+    })
+}
+
+/// The band that is bound behind a request that isn't refused.
+fn bound_by(verdict: Verdict, band: Option<Band>) -> Option<Band>
+    ensures { result ≡ Spec.bound_by verdict band }
+{
+    match verdict {
+        Verdict::Binds(bound) => Some(bound),
+        Verdict::Runs(_) => band,
+    }
+}
+
+/// The meaning of a request of a verdict, with its call.
+fn going(verdict: Result<Verdict, Refusal>, band: Option<Band>, call: Option<LaneCall>) -> Means
+    ensures { result ≡ Goes (Spec.band_behind verdict band) call }
+{
+    match verdict {
+        Ok(verdict) => Means::Goes {
+            band: bound_by(verdict, band),
+            call,
+        },
+        Err(_) => Means::Goes { band, call },
+    }
+}
+
+/// What a request means whose message has so many bytes.
+fn requested(
+    alloc: Global,
+    setup: &Setup,
+    conn: ConnId,
+    band: Option<Band>,
+    serial: u32,
+    order: Order,
+    size: u32,
+    request: Request,
+) -> Result<Means, NoMemory>
+    ensures { IfOk result (Spec.MeansRequest setup.now conn band serial order size request) }
+{
+    let bound = band;
+    let verdict = judge(setup, band, &request);
+    let again = verdict;
+    let call = call_of(alloc, conn, serial, order, size, request, verdict)?;
+    Ok(going(again, bound, call))
+}
+
+/// What a message means to a server of a setup, by the band that its connection has bound and by the number of the calls before
+/// it. The work per byte is constant, but for what `judge` takes for a request.
+pub fn meaning_of(
+    alloc: Global,
+    setup: &Setup,
+    conn: ConnId,
+    band: Option<Band>,
+    serial: u32,
+    whole: &Whole,
+) -> Result<Means, NoMemory>
+    requires { IsMessage whole.now }
+    ensures { IfOk result (Spec.IsMeant setup.now conn band serial whole.now) }
+{
+    match read_message(alloc, whole) {
+        Ok(Message::Request(request)) => {
+            let size = whole.bytes.len() as u32;
+            requested(alloc, setup, conn, band, serial, whole.order, size, request)
+        }
+        Ok(Message::Cancel(id)) => Ok(Means::Goes {
+            band,
+            call: Some(LaneCall::Cancel { conn, id }),
+        }),
+        Ok(Message::Locate(asked)) => Ok(Means::Goes {
+            band,
+            call: Some(located(setup, conn, whole.order, &asked)),
+        }),
+        Ok(Message::Reply(_)) => Ok(Means::Breaks(Fault::WrongWay)),
+        Ok(Message::Located(_)) => Ok(Means::Breaks(Fault::WrongWay)),
+        Ok(Message::Close) => Ok(Means::Ends),
+        Ok(Message::Error) => Ok(Means::Ends),
+        Err(fault) => match fault.cause() {
+            Some(cause) => Ok(Means::Breaks(cause)),
+            None => Err(NoMemory),
+        },
+    }
+}

@@ -1,0 +1,13 @@
+-- Laws of judging.
+use Rattle.std.specs.Prelude.{◌≡◌, Option, Result}
+use Rattle.orb_base.specs.Span.{Span}
+use Rattle.giop_messages.specs.Message.{Request}
+use Rattle.adapter_policies.specs.SetupData.{SetupData}
+use Rattle.request_judge.specs.Judging.{Judges}
+use Rattle.request_judge.specs.declared.refusal.Refusal.{Refusal}
+use Rattle.request_judge.specs.declared.verdict.Verdict.{Verdict}
+
+-- there are no two verdicts of one request
+abbrev pub JudgesOneWay : Type 0
+JudgesOneWay = (setup : SetupData) (band : Option Span) (r : Request) (a b : Result Verdict Refusal)
+    → Judges setup band r a → Judges setup band r b → a ≡ b

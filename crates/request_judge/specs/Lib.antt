@@ -1,0 +1,5 @@
+pub mod Served
+pub mod Answers
+pub mod Judging
+pub mod Calls
+pub mod Laws

@@ -1,0 +1,23 @@
+-- The objects of a setup, as requests see them.
+use Rattle.std.specs.Prelude.{ℕ, List, Option, slice_get}
+use Rattle.std.specs.Option.{option_map, option_and_then}
+use Rattle.adapter_policies.specs.Index.{number_from}
+use Rattle.adapter_policies.specs.SetupData.{AdapterData, SetupData}
+use Rattle.adapter_policies.specs.declared.object_spec.ObjectSpec.{ObjectSpec}
+use Rattle.request_judge.specs.declared.served.Served.{Served}
+
+-- the object of this number under its adapter
+abbrev pub served_by : ℕ → ObjectSpec → AdapterData → Served
+served_by number object adapter = record { number = number; model = adapter.model; priority = object.priority }
+
+-- the same, where its adapter is there
+abbrev pub served_as : SetupData → ℕ → ObjectSpec → Option Served
+served_as setup number object = option_map (served_by number object) (slice_get setup.adapters object.adapter)
+
+-- the object of this number, where there is one and its adapter is there
+abbrev pub served_of : SetupData → ℕ → Option Served
+served_of setup number = option_and_then (served_as setup number) (slice_get setup.objects number)
+
+-- the first object of a key, where there is one and its adapter is there
+abbrev pub served_at : SetupData → List ℕ → Option Served
+served_at setup key = option_and_then (served_of setup) (number_from 0 setup.objects key)

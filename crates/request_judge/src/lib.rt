@@ -1,0 +1,24 @@
+//! What a server makes of a request before it runs: whether it may run, where, and at which priority (Real-time CORBA 1.2,
+//! Priority models, Priority banded connections and Threadpools; the order of the causes and their minor codes are own
+//! profile).
+//!
+//! A request is judged by the setup and by the band that its connection has bound. `specs/Judging.antt` says what each
+//! verdict means. Judging takes no memory.
+#![tactic(auto)]
+
+mod calls;
+mod judging;
+mod laws;
+mod refusal;
+mod served;
+mod verdict;
+
+pub use calls::call_of;
+pub use judging::{BIND_OPERATION, judge};
+pub use laws::requests_are_judged_one_way;
+pub use refusal::Refusal;
+pub use served::{Served, served_at};
+pub use verdict::{Place, Verdict};
+
+#[cfg(test)]
+mod tests;
