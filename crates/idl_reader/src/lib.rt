@@ -13,4 +13,8 @@ mod reader;
 pub use reader::read_idl;
 
 #[cfg(test)]
+mod accepted_tests;
+#[cfg(test)]
+mod fault_tests;
+#[cfg(test)]
 mod tests;
