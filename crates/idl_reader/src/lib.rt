@@ -8,8 +8,10 @@
 mod copies;
 mod declaring;
 mod interfaces;
+mod laws;
 mod reader;
 
+pub use laws::texts_give_new_ids;
 pub use reader::read_idl;
 
 #[cfg(test)]
