@@ -17,3 +17,5 @@ pub mod Places
 pub mod ThingLists
 pub mod Shapes
 pub mod Standing
+pub mod EarlierBases
+pub mod BasedThings

@@ -2,7 +2,7 @@
 use Rattle.std.specs.Prelude.{◌≡◌, ℕ, true, false, List, [], ◌∷◌, ◌++◌}
 use Rattle.idl_types.specs.Things.{Thing, id_of}
 use Rattle.idl_types.specs.Declaring.{is_new}
-use Rattle.idl_types.specs.Sound.{is_reserved}
+use Rattle.idl_types.specs.Sound.{is_reserved, has_bases_in}
 use Rattle.idl_reader.specs.Whole.{Declares}
 
 -- so of each thing with those before it, behind these things
@@ -17,3 +17,7 @@ TextsGive P = (text : List ℕ) (things : List Thing) → Declares text things �
 -- no thing before it has its id, case aside, and it isn't in the built-in module
 abbrev pub IsNew : List Thing → Thing → Type 0
 IsNew before t = (is_new before t ≡ true) × (is_reserved (id_of t) ≡ false)
+
+-- its bases are interfaces among those before it
+abbrev pub HasEarlierBases : List Thing → Thing → Type 0
+HasEarlierBases before t = has_bases_in before t ≡ true
