@@ -138,7 +138,7 @@ based_gained ts n at h i bases os e =
     let q = g.from i bases os e in
     (bases_mapped ts (gained n at ts) g.kept bases (h i bases q.0 q.1).0, (h i bases q.0 q.1).1)
 
-gained_nothing : (ts : List Thing) (n at i : ℕ) → slice_get ts i ≡ Some nothing → slice_get (gained n at ts) i ≡ Some nothing
+pub gained_nothing : (ts : List Thing) (n at i : ℕ) → slice_get ts i ≡ Some nothing → slice_get (gained n at ts) i ≡ Some nothing
 gained_nothing ts n at i e = elim (cases_eq n i) [
   | inl p ↦ subst (λ (k : ℕ). slice_get (gained k at ts) i ≡ Some nothing) (sym p)
       (ap (λ (o : Option Thing). slice_get (set ts i (and_operation at (thing_in o))) i) e ∙ set_there ts i nothing nothing e)
@@ -173,11 +173,11 @@ based_adds : (s c : Built) (x : Thing) → c.things ≡ s.things ++ x ∷ [] →
 based_adds s c x e plain h = based_as (s.things ++ x ∷ []) c.things e (based_more s.things x plain h)
 
 -- the open declaration is set
-based_ends : (s c : Built) (x : Thing) → Ends (opened s) x s c → is_interface x ≡ false → slice_get s.things (s.here - 1) ≡ Some nothing → AreBased s.things → IsBased outside c
-based_ends s c x d plain there h = (based_as (set s.things (opened s) x) c.things d.things (based_set s.things (opened s) x there plain h), d.bases)
+based_ends : (n : ℕ) (s c : Built) (x : Thing) → Ends n (opened s) x s c → is_interface x ≡ false → slice_get s.things (s.here - 1) ≡ Some nothing → AreBased s.things → IsBased outside c
+based_ends n s c x d plain there h = (based_as (set s.things (opened s) x) c.things d.things (based_set s.things (opened s) x there plain h), d.bases)
 
 -- the newest is set
-newest_there : (s : Built) → IsOrderly s → slice_get s.things (length s.things - 1) ≡ Some nothing → slice_get s.things (newest s) ≡ Some nothing
+pub newest_there : (s : Built) → IsOrderly s → slice_get s.things (length s.things - 1) ≡ Some nothing → slice_get s.things (newest s) ≡ Some nothing
 newest_there s o e = ap (λ (n : ℕ). slice_get s.things (n - 1)) (sym o.paired) ∙ e
 
 based_sets : (s c : Built) (x : Thing) → IsOrderly s → c.things ≡ set s.things (newest s) x → is_interface x ≡ false → slice_get s.things (length s.things - 1) ≡ Some nothing → AreBased s.things → AreBased c.things
@@ -238,18 +238,18 @@ based_at l.Open outside n e t s c w h a =
 based_at l.Open m n e t s c w h a = absurd (none-some n e)
 based_at l.EndStruct inside n e t s c w h a =
     let k : Sized = record { kind = structure (bodies.open_id s) (members_of s.parts.members); leaves = s.parts.leaves; levels = plus s.parts.levels 1 } in
-    subst (λ (k : Spot). IsBased k c) (same_Some outside n e) (based_ends s c (type k) (type_ends k s c a) refl w.1.there h.0)
+    subst (λ (k : Spot). IsBased k c) (same_Some outside n e) (based_ends k.leaves s c (type k) (type_ends k s c a) refl w.1.there h.0)
 based_at l.EndStruct m n e t s c w h a = absurd (none-some n e)
 based_at l.EndException inside n e t s c w h a =
-    subst (λ (k : Spot). IsBased k c) (same_Some outside n e) (based_ends s c (exception s.parts.members) (exception_ends s c a) refl w.1.there h.0)
+    subst (λ (k : Spot). IsBased k c) (same_Some outside n e) (based_ends s.parts.leaves s c (exception s.parts.members) (exception_ends s c a) refl w.1.there h.0)
 based_at l.EndException m n e t s c w h a = absurd (none-some n e)
 based_at l.EndUnion inside n e t s c w h a =
     let k : Sized = record { kind = union (bodies.open_id s) s.parts.discriminator (cases_of s.parts.cases); leaves = plus s.parts.leaves 1; levels = plus s.parts.levels 1 } in
-    subst (λ (k : Spot). IsBased k c) (same_Some outside n e) (based_ends s c (type k) (type_ends k s c a) refl w.1.there h.0)
+    subst (λ (k : Spot). IsBased k c) (same_Some outside n e) (based_ends k.leaves s c (type k) (type_ends k s c a) refl w.1.there h.0)
 based_at l.EndUnion m n e t s c w h a = absurd (none-some n e)
 based_at l.EndEnum inside n e t s c w h a =
     let k = leaf (scalar (enumeration (bodies.open_id s) s.parts.enumerators)) in
-    subst (λ (k : Spot). IsBased k c) (same_Some outside n e) (based_ends s c (type k) (type_ends k s c a) refl w.1.there h.0)
+    subst (λ (k : Spot). IsBased k c) (same_Some outside n e) (based_ends k.leaves s c (type k) (type_ends k s c a) refl w.1.there h.0)
 based_at l.EndEnum m n e t s c w h a = absurd (none-some n e)
 based_at l.Enumerator inside n e t s c w h a =
     let d = enumerate_adds t s c a in
@@ -259,8 +259,8 @@ based_at l.Attribute outside n e t s c w h a =
     let d = attribute_adds t s c a in
     let x = attribute_of s.parts.readonly t.text s.type in
     subst (λ (k : Spot). IsBased k c) (same_Some outside n e) (
-      based_as (gained (s.here - 1) d.at (s.things ++ x ∷ [])) c.things d.things
-          (based_gained (s.things ++ x ∷ []) (s.here - 1) d.at (based_more s.things x (attribute_no_interface s.parts.readonly t.text s.type) h.0)),
+      based_as (gained (s.here - 1) (length s.scopes.declared) (s.things ++ x ∷ [])) c.things d.things
+          (based_gained (s.things ++ x ∷ []) (s.here - 1) (length s.scopes.declared) (based_more s.things x (attribute_no_interface s.parts.readonly t.text s.type) h.0)),
       d.bases ∙ h.1,
     )
 based_at l.Attribute m n e t s c w h a = absurd (none-some n e)

@@ -19,3 +19,8 @@ pub mod Shapes
 pub mod Standing
 pub mod EarlierBases
 pub mod BasedThings
+pub mod SizedTypes
+pub mod Measured
+pub mod FileLeaves
+pub mod CountedThings
+pub mod RoomLeft

@@ -98,7 +98,7 @@ opened_opens s c a o =
     record { some = omega arith; there = subst (λ (i : ℕ). slice_get c.things i ≡ Some nothing) (omega arith) (added_last s c nothing a.things) }
 
 -- the newest was set, and it isn't the one that is open
-opened_set : (s c : Built) (thing : Thing) → Sets (newest s) thing s c → IsOrderly s → s.here < length s.things → IsOpened s → IsOpened c
+opened_set : (s c : Built) (thing : Thing) → Sets 0 (newest s) thing s c → IsOrderly s → s.here < length s.things → IsOpened s → IsOpened c
 opened_set s c thing a o less h =
     let p = o.paired in
     let k = h.some in
