@@ -7,4 +7,6 @@ pub mod Standing
 pub mod Lacks
 pub mod Once
 pub mod Making
+pub mod Rising
 pub mod Taking
+pub mod Beginning

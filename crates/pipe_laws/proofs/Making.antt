@@ -1,5 +1,5 @@
--- A run of the pipe makes its calls in order, and where their serials rise it offers none twice.
-use Rattle.std.proofs.Common.{◌≡◌, ℕ, ◌+◌, ◌<◌, zero, suc, Bool, true, false, ◌&&◌, ◌||◌, ◌==◌, List, [], ◌∷◌, ◌++◌, Option, Some, None, length, inl, inr, refl, sym, ap, ◌∙◌, subst, arith, append_assoc, append-nil}
+-- A run of the pipe makes its calls in order.
+use Rattle.std.proofs.Common.{◌≡◌, ℕ, zero, suc, Bool, true, false, ◌&&◌, ◌||◌, ◌==◌, List, [], ◌∷◌, ◌++◌, Option, Some, None, length, inl, inr, refl, sym, ap, ◌∙◌, subst, append_assoc, append-nil}
 use Rattle.std.specs.Prelude.{if◌then◌else◌, position, slice_get}
 use Rattle.std.proofs.lemmas.Bool.{cases_Bool, both_ways, or_left, or_right}
 use Rattle.orb_base.specs.JobRecord.{JobRecord}
@@ -32,7 +32,7 @@ use Rattle.pipe_laws.specs.Setup.{pipe_conn}
 use Rattle.pipe_laws.specs.Piped.{Run, applied, first_given, finished_by, turned, rested_after, rested, in_hand, collected, emptied_after, settled, before_call, room_behind, behind_call, closed_by, answer_of, piped}
 use Rattle.pipe_laws.specs.Groups.{Group, called, folded}
 use Rattle.pipe_laws.specs.Legality.{IsHeardCall, AreHeardCalls}
-use Rattle.pipe_laws.specs.Serials.{OffersOther, NeverOffers, OffersNew, OffersOnce, in_front, heard_of, StopsAtClosing, PipedMakesCalls, RisesFrom, RisingOffersOnce}
+use Rattle.pipe_laws.specs.Serials.{in_front, heard_of, StopsAtClosing, PipedMakesCalls}
 use Rattle.lane_laws.proofs.Marks.{closed_push}
 use Rattle.pipe_laws.proofs.Folds.{closing_stays, groups_are_folded}
 use Rattle.pipe_laws.proofs.Once.{same_self}
@@ -45,7 +45,7 @@ front_more (Post notice) calls more = refl
 front_more (Cancel conn id) calls more = refl
 front_more call calls more = refl
 
-heard_more : (h more : History) → heard_of (h ++ more) ≡ heard_of h ++ heard_of more
+pub heard_more : (h more : History) → heard_of (h ++ more) ≡ heard_of h ++ heard_of more
 heard_more [] more = refl
 heard_more (e ∷ es) more = ap (in_front e.call) (heard_more es more) ∙ sym (front_more e.call (heard_of es) (heard_of more))
 
@@ -358,35 +358,3 @@ piped_makes_calls setup outcome batch calls how lacks are =
       all = λ untold. x.all (x.tells ∙ sym quiet.told ∙ untold);
       stops = quiet.stops (x.stops tt);
     }
-
--- ---- rising serials
-
-never_at : (n k : ℕ) (call : LaneCall) (es : History) (rest : List LaneCall) → RisesFrom n (in_front call (heard_of es) ++ rest) → k < n
-    → ((m : ℕ) → RisesFrom m (heard_of es ++ rest) → k < m → NeverOffers k es) → OffersOther k call × NeverOffers k es
-never_at n k (Offer job) es rest (from, rises) less later = ((λ is. absurd (omega arith)), later (job.serial + 1) rises (omega arith))
-never_at n k (Post notice) es rest (from, rises) less later = (tt, later n rises less)
-never_at n k (Cancel c id) es rest (from, rises) less later = (tt, later n rises less)
-never_at n k call es rest rises less later = (tt, later n rises less)
-
-never_offers : (n k : ℕ) (h : History) (rest : List LaneCall) → RisesFrom n (heard_of h ++ rest) → k < n → NeverOffers k h
-never_offers n k [] rest rises less = tt
-never_offers n k (e ∷ es) rest rises less = never_at n k e.call es rest rises less (λ m r l. never_offers m k es rest r l)
-
-new_at : (pool : Pool) (conn : ConnId) (n : ℕ) (call : LaneCall) (es : History) (rest : List LaneCall)
-    → AreHeardCalls pool conn (in_front call (heard_of es) ++ rest) → RisesFrom n (in_front call (heard_of es) ++ rest)
-    → ((m : ℕ) → AreHeardCalls pool conn (heard_of es ++ rest) → RisesFrom m (heard_of es ++ rest) → OffersOnce conn es)
-    → OffersNew conn call es × OffersOnce conn es
-new_at pool conn n (Offer job) es rest (is, are) (from, rises) later =
-    ((is.0, never_offers (job.serial + 1) job.serial es rest rises (omega arith)), later (job.serial + 1) are rises)
-new_at pool conn n (Post notice) es rest (is, are) (from, rises) later = (tt, later n are rises)
-new_at pool conn n (Cancel c id) es rest (is, are) (from, rises) later = (tt, later n are rises)
-new_at pool conn n call es rest are rises later = (tt, later n are rises)
-
-offers_once : (pool : Pool) (conn : ConnId) (n : ℕ) (h : History) (rest : List LaneCall) → AreHeardCalls pool conn (heard_of h ++ rest)
-    → RisesFrom n (heard_of h ++ rest) → OffersOnce conn h
-offers_once pool conn n [] rest are rises = tt
-offers_once pool conn n (e ∷ es) rest are rises = new_at pool conn n e.call es rest are rises (λ m a r. offers_once pool conn m es rest a r)
-
-pub rising_offers_once : RisingOffersOnce
-rising_offers_once pool conn n calls rest h are rises front =
-    offers_once pool conn n h rest (subst (AreHeardCalls pool conn) (sym front) are) (subst (RisesFrom n) (sym front) rises)

@@ -14,7 +14,8 @@ use Rattle.pipe_laws.specs.Setup.{pipe_conn}
 use Rattle.pipe_laws.specs.Piped.{piped}
 use Rattle.pipe_laws.specs.Serials.{PipedTakesOnce}
 use Rattle.pipe_laws.proofs.Once.{admitted_once}
-use Rattle.pipe_laws.proofs.Making.{piped_makes_calls, rising_offers_once}
+use Rattle.pipe_laws.proofs.Making.{piped_makes_calls}
+use Rattle.pipe_laws.proofs.Rising.{rising_offers_once}
 use Rattle.pipe_laws.proofs.Standing.{opens_so, piped_closed, piped_is_done}
 
 -- where all threads are free, nothing runs

@@ -7,3 +7,4 @@ pub mod Reached
 pub mod Calm
 pub mod Lacking
 pub mod Serials
+pub mod Begun

@@ -90,7 +90,21 @@ abbrev pub RisesFrom : ℕ → List LaneCall → Type 0
 RisesFrom n [] = Unit {0}
 RisesFrom n (call ∷ calls) = IsFrom n call × RisesFrom (serial_behind n call) calls
 
--- a history that made a front of such calls of a connection, in order, offered no serial twice
+-- a request that the call offers has this serial
+abbrev pub IsNumbered : ℕ → LaneCall → Type 0
+IsNumbered n (Offer job) = job.serial ≡ n
+IsNumbered n _ = Unit {0}
+
+-- the serial of each request is the number of the calls before it, counted on from this number
+abbrev pub CountsFrom : ℕ → List LaneCall → Type 0
+CountsFrom n [] = Unit {0}
+CountsFrom n (call ∷ calls) = IsNumbered n call × CountsFrom (n + 1) calls
+
+-- such serials rise
+abbrev pub CountingRises : Type 0
+CountingRises = (n : ℕ) (calls : List LaneCall) → CountsFrom n calls → RisesFrom n calls
+
+-- a history that made a front of a connection's calls, in order, offers no serial twice, where their serials rise
 abbrev pub RisingOffersOnce : Type 0
 RisingOffersOnce = (pool : Pool) (conn : ConnId) (n : ℕ) (calls rest : List LaneCall) (h : History)
     → AreHeardCalls pool conn calls → RisesFrom n calls → heard_of h ++ rest ≡ calls → OffersOnce conn h

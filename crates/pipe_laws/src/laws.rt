@@ -9,8 +9,9 @@ ghost use Rattle.adapter_policies.specs.SetupData.{SetupData};
 ghost use Rattle.pipe_laws.specs.Piped.{IsReplayed, piped};
 ghost use Rattle.pipe_laws.specs.Groups.{GroupsAreFolded, FoldsGoOn};
 ghost use Rattle.pipe_laws.specs.Legality.{PipedIsLegal, PipedOwesNothing, PipedIsDone};
+ghost use Rattle.pipe_laws.specs.Begun.{BegunTellsLacks};
 ghost use Rattle.pipe_laws.specs.Lacking.{LacksAreThere};
-ghost use Rattle.pipe_laws.specs.Serials.{OfferedFinishesOnce, PipedMakesCalls, RisingOffersOnce, PipedTakesOnce};
+ghost use Rattle.pipe_laws.specs.Serials.{OfferedFinishesOnce, PipedMakesCalls, CountingRises, RisingOffersOnce, PipedTakesOnce};
 
 /// A run of the pipe, over any setup, servants, calls and groups, stands where its history leads.
 pub fn piped_is_replayed()
@@ -57,6 +58,11 @@ pub fn piped_makes_calls()
     ensures { PipedMakesCalls }
 {}
 
+/// Serial numbers that count the calls rise.
+pub fn counting_rises()
+    ensures { CountingRises }
+{}
+
 /// A history that made a front of calls whose serial numbers rise offered no request twice.
 pub fn rising_offers_once()
     ensures { RisingOffersOnce }
@@ -66,4 +72,11 @@ pub fn rising_offers_once()
 /// finished once.
 pub fn piped_takes_once()
     ensures { PipedTakesOnce }
+{}
+
+/// What was done from the opening of a setup on tells the serial numbers of the requests to which memory was wanting, if it
+/// is legal, each answer is the outcome or tells of that want, and whatever front of it the servants of a run of the pipe
+/// give, that run begins so. The serial numbers of the calls rise.
+pub fn begun_tells_lacks()
+    ensures { BegunTellsLacks }
 {}

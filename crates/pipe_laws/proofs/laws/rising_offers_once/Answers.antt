@@ -1,4 +1,4 @@
-use Rattle.pipe_laws.proofs.Making as laws
+use Rattle.pipe_laws.proofs.Rising as laws
 use Rattle.pipe_laws.proofs.laws.rising_offers_once.Goals as goal
 
 pub returns : goal.returns
