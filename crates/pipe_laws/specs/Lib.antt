@@ -5,3 +5,4 @@ pub mod Groups
 pub mod Legality
 pub mod Reached
 pub mod Calm
+pub mod Lacking
