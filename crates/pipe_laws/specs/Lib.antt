@@ -5,3 +5,6 @@ pub mod Groups
 pub mod Legality
 pub mod Reached
 pub mod Calm
+pub mod Lacking
+pub mod Serials
+pub mod Begun

@@ -1,0 +1,10 @@
+pub mod ReplyLaws
+pub mod Fronts
+pub mod Driving
+pub mod Opened
+pub mod Short
+pub mod Grow
+pub mod Items
+pub mod Calls
+pub mod FedCalls
+pub mod Whole

@@ -1,0 +1,6 @@
+pub mod Driving
+pub mod Turning
+pub mod Shortness
+pub mod Collecting
+pub mod Feeding
+pub mod Running
