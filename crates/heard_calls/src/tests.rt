@@ -75,6 +75,9 @@ fn means(alloc: Global, parts: &[&[u8]], calls: &[Call], ending: Ending) -> Resu
     for part in parts {
         bytes.extend_from_slice(part)?;
     }
+    if bytes.len() > 1024 {
+        return Ok(false);
+    }
     let heard = hear_input(alloc, &setup(alloc)?, CONN, bytes.as_slice())?;
     let mut shapes = Vec::new(alloc);
     for call in heard.calls.as_slice() {

@@ -1,0 +1,84 @@
+-- What the driver did over the calls of an input is the run of the input.
+use Rattle.std.proofs.Common.{◌≡◌, ◌⊎◌, inl, inr, ℕ, Bool, true, false, List, ◌++◌, Option, Result, Ok, Err, refl, sym, ap, ◌∙◌, subst}
+use Rattle.std.specs.Prelude.{option_map}
+use Rattle.orb_base.specs.JobRecord.{JobRecord}
+use Rattle.orb_base.specs.Outside.{SinkState}
+use Rattle.orb_base.specs.Pool.{IsWellFormed}
+use Rattle.orb_base.specs.declared.outcome.Outcome.{Outcome}
+use Rattle.lane_machine.specs.declared.call.How.{How}
+use Rattle.lane_machine.specs.declared.call.LaneCall.{LaneCall}
+use Rattle.lane_machine.specs.Histories.{History}
+use Rattle.lane_machine.specs.State.{State, HasSlots, CanOpen, opening}
+use Rattle.adapter_policies.specs.SetupData.{SetupData}
+use Rattle.pipe_laws.specs.Lacking.{served}
+use Rattle.pipe_laws.specs.Legality.{AreHeardCalls}
+use Rattle.pipe_laws.specs.Piped.{Run, piped}
+use Rattle.pipe_laws.specs.Serials.{CountsFrom, RisesFrom}
+use Rattle.pipe_laws.specs.Setup.{pipe_conn}
+use Rattle.pipe_laws.proofs.Rising.{counting_rises}
+use Rattle.lane_driver.specs.Driving.{Drives, Did, Doer, StoppedWriting, BeganWriting, run_at}
+use Rattle.lane_driver.specs.Running.{running}
+use Rattle.lane_driver.specs.declared.course.Course.{Course}
+use Rattle.lane_driver.specs.declared.course.Course.TheVariants.{Whole, Stopped}
+use Rattle.lane_driver.proofs.Opened.{can_open}
+use Rattle.lane_driver.proofs.Whole.{done_is_piped, begun_is_piped}
+use Rattle.heard_calls.specs.Input.{HearsInput}
+use Rattle.heard_calls.specs.declared.ending.Ending.{Ending}
+use Rattle.pipe_runs.specs.Runs.{RanWhole, RanFront, how_of}
+use Rattle.pipe_runs.proofs.HeardCalls.{heard_ones}
+
+-- the calls of an input are those of the reading side
+pub calls_heard : (setup : SetupData) (input : List ℕ) (calls : List LaneCall) (ending : Ending) → IsWellFormed setup.pool → HearsInput setup pipe_conn input calls ending
+    → AreHeardCalls setup.pool pipe_conn calls
+calls_heard setup input calls ending well h =
+    subst (λ (cs : List LaneCall). AreHeardCalls setup.pool pipe_conn cs) (sym h.calls_are) (heard_ones setup pipe_conn _ _ 0 h.told well h.hears).0
+
+-- and their serials rise
+calls_rise : (setup : SetupData) (input : List ℕ) (calls : List LaneCall) (ending : Ending) → IsWellFormed setup.pool → HearsInput setup pipe_conn input calls ending
+    → RisesFrom 0 calls
+calls_rise setup input calls ending well h =
+    counting_rises 0 calls (subst (λ (cs : List LaneCall). CountsFrom 0 cs) (sym h.calls_are) (heard_ones setup pipe_conn _ _ 0 h.told well h.hears).1)
+
+abbrev first : SetupData → State
+first setup = opening setup.pool setup.slots setup.per_slot
+
+pub ran_whole : (setup : SetupData) (outcome : List ℕ → JobRecord → Outcome) (batch : ℕ) (input : List ℕ) (calls : List LaneCall) (ending : Ending) (s' : State)
+    (log log' : Option History) (out out' : SinkState) → IsWellFormed setup.pool → HasSlots setup.slots setup.per_slot → HearsInput setup pipe_conn input calls ending
+    → Did (running batch calls (how_of ending)) (served setup outcome) (first setup) s' log log' out out'
+    → RanWhole setup outcome batch input ending s'.closing log log' out out'
+ran_whole setup outcome batch input calls ending s' log log' out out' well slots heard did =
+    let can = can_open setup.pool setup.slots setup.per_slot well slots in
+    let is = done_is_piped setup outcome batch calls (how_of ending) 0 s' did.entries can (calls_heard setup input calls ending well heard)
+    (calls_rise setup input calls ending well heard) did.does_so
+    in
+    record {
+      calls = calls;
+      heard = heard;
+      entries = did.entries;
+      lacking = is.0;
+      runs = ap (λ (r : Run). r.history) is.1;
+      legal = did.does_so.leads.legal;
+      closes = ap (λ (r : Run). r.state.closing) is.1;
+      logged = did.logged;
+      wrote = did.wrote;
+    }
+
+pub ran_front : (setup : SetupData) (outcome : List ℕ → JobRecord → Outcome) (batch : ℕ) (input : List ℕ) (calls : List LaneCall) (ending : Ending)
+    (out out' : SinkState) → IsWellFormed setup.pool → HasSlots setup.slots setup.per_slot → HearsInput setup pipe_conn input calls ending
+    → BeganWriting (running batch calls (how_of ending)) (served setup outcome) (first setup) out out'
+    → RanFront setup outcome batch input out out'
+ran_front setup outcome batch input calls ending out out' well slots heard began =
+    let can = can_open setup.pool setup.slots setup.per_slot well slots in
+    let is = begun_is_piped setup outcome batch calls (how_of ending) 0 began.entries can (calls_heard setup input calls ending well heard)
+    (calls_rise setup input calls ending well heard) began.begins
+    in
+    record {
+      calls = calls;
+      ending = ending;
+      heard = heard;
+      entries = began.entries;
+      lacking = is.0;
+      later = is.1;
+      begins = is.2;
+      wrote = began.wrote;
+    }

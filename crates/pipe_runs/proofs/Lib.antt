@@ -1,0 +1,2 @@
+pub mod HeardCalls
+pub mod Inputs
