@@ -1,5 +1,5 @@
 -- One call in its group, and the end of the connection.
-use Rattle.std.proofs.Common.{◌≡◌, ℕ, ◌≤◌, Bool, true, false, ◌==◌, List, [], ◌∷◌, ◌++◌, Option, None, refl, sym, ap, ◌∙◌, subst, arith, append-nil}
+use Rattle.std.proofs.Common.{◌≡◌, ℕ, Bool, true, false, ◌==◌, List, [], ◌∷◌, ◌++◌, Option, None, refl, sym, ap, ◌∙◌, subst, append-nil}
 use Rattle.std.specs.Prelude.{Result, Ok, Err, if◌then◌else◌, option_map, find}
 use Rattle.orb_base.specs.Outside.{SinkState, Rose}
 use Rattle.orb_base.specs.Pool.{Pool}
@@ -11,7 +11,7 @@ use Rattle.lane_machine.specs.declared.call.LaneCall.TheVariants.{Offer, Post, C
 use Rattle.lane_machine.specs.declared.call.LaneReply.{LaneReply}
 use Rattle.lane_machine.specs.State.{State}
 use Rattle.orb_base.specs.Conn.{same_conn}
-use Rattle.lane_machine.specs.Machine.{step, item_place}
+use Rattle.lane_machine.specs.Machine.{item_place}
 use Rattle.lane_machine.specs.Readiness.{is_ready, IsSound, owed}
 use Rattle.lane_machine.specs.Histories.{History}
 use Rattle.text_streams.specs.Streams.{WroteText, WroteFrontOf}

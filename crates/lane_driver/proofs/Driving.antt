@@ -22,7 +22,7 @@ use Rattle.pipe_laws.specs.Reached.{IsReached}
 use Rattle.lane_driver.specs.Driving.{Leads, Servant, Doer, run_at, entry, Goes, Does, Began, Logged, IsApplied, IsBetween, Stays}
 use Rattle.pipe_laws.specs.Lacking.{Agrees, HasAnswers}
 use Rattle.pipe_laws.specs.Calm.{NoneBusy}
-use Rattle.lane_driver.specs.Turning.{CameOf, IsAnswer, Turns, TurnsOnce, RunsToRest}
+use Rattle.lane_driver.specs.Turning.{IsAnswer, Turns, TurnsOnce, RunsToRest}
 use Rattle.lane_machine.specs.Changes.{changes, marks}
 use Rattle.pipe_laws.proofs.Reached.{legal_push, replay_push}
 use Rattle.pipe_laws.proofs.OneTurn.{turning, takes, take_ready, take_sound, busy_at, done_at, finishes, finish_sound, busy_sound, turn_hands, turn_calm}

@@ -1,5 +1,5 @@
 -- Collects one after another, and the ends of groups.
-use Rattle.std.proofs.Common.{◌≡◌, ℕ, ◌≤◌, ◌<◌, true, false, List, [], ◌∷◌, ◌++◌, Option, Some, None, length, refl, sym, ap, ◌∙◌, subst, arith, append-nil}
+use Rattle.std.proofs.Common.{◌≡◌, ℕ, ◌<◌, true, false, List, [], ◌∷◌, ◌++◌, Option, Some, None, length, refl, sym, ap, ◌∙◌, subst, arith, append-nil}
 use Rattle.std.specs.Prelude.{Result, Ok, Err, is_some}
 use Rattle.orb_base.specs.Outside.{SinkState, Rose}
 use Rattle.lane_machine.specs.declared.call.LaneCall.TheVariants.{Collect}

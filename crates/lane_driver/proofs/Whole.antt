@@ -1,5 +1,5 @@
 -- The whole run of a connection's calls.
-use Rattle.std.proofs.Common.{◌≡◌, ℕ, List, [], ◌++◌, Option, ap, ◌∙◌, subst}
+use Rattle.std.proofs.Common.{◌≡◌, ℕ, List, [], Option, ap, ◌∙◌, subst}
 use Rattle.std.specs.Prelude.{Result, Ok, Err}
 use Rattle.orb_base.specs.Outside.{SinkState, Rose}
 use Rattle.orb_base.specs.JobRecord.{JobRecord}

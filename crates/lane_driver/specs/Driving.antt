@@ -1,6 +1,6 @@
 -- What a driver of the lane machine did: the entries that it added to the history, whatever run led to the state at which it
 -- began. Own profile.
-use Rattle.std.specs.Prelude.{◌≡◌, ℕ, true, [], ◌∷◌, ◌++◌, Option, option_map, Result, Ok, Err}
+use Rattle.std.specs.Prelude.{◌≡◌, true, [], ◌∷◌, ◌++◌, Option, option_map, Result, Ok, Err}
 use Rattle.orb_base.specs.Outside.{SinkState, Rose}
 use Rattle.orb_base.specs.JobRecord.{JobRecord}
 use Rattle.orb_base.specs.declared.outcome.Outcome.{Outcome}
