@@ -22,25 +22,36 @@ use Rattle.pipe_laws.specs.Setup.{pipe_conn}
 use Rattle.pipe_laws.specs.Said.{said}
 use Rattle.pipe_laws.specs.Piped.{Run, applied, settled, before_call, behind_call}
 use Rattle.pipe_laws.specs.Legality.{IsHeardCall}
-use Rattle.lane_driver.specs.Driving.{Servant, Doer, run_at, entry, Did, BeganWriting, StoppedWriting, Drives, IsApplied, IsBetween, Stays, StaysWhole}
+use Rattle.lane_driver.specs.Driving.{Servant, Doer, run_at, entry, Begins, Did, BeganWriting, StoppedWriting, Drives, IsApplied, IsBetween, Stays, StaysWhole}
 use Rattle.pipe_laws.specs.Lacking.{came_at}
 use Rattle.pipe_laws.specs.Calm.{NoneBusy}
 use Rattle.lane_driver.specs.Collecting.{Collects, SettlesWhole}
 use Rattle.lane_driver.specs.Feeding.{befores, behinds, taking, ending, ReadyWhole}
 use Rattle.lane_machine.specs.Changes.{changes}
-use Rattle.lane_driver.proofs.Driving.{leads_none, leads_one, goes_none, goes_began, does_both, does_began, logged_both, logged_none, applied_is, reached_applied, stays_both, Grows}
+use Rattle.lane_driver.proofs.Fronts.{Grows, begins_none, begins_one}
+use Rattle.lane_driver.proofs.Driving.{leads_none, leads_one, goes_none, goes_began, does_both, does_began, logged_both, logged_none, applied_is, reached_applied, stays_both}
 use Rattle.lane_driver.proofs.Grow.{grows_applied, grows_behind, grows_closed, behind_both}
-use Rattle.lane_driver.proofs.Items.{said_one, wrote_entries, front_entries, front_nothing, drives_then, stopped_first, want_first, want_at_once}
+use Rattle.lane_driver.proofs.Items.{said_one, wrote_entries, front_entries, front_nothing, drives_then, stopped_first, want_first, want_at_once, grows_settling}
 use Rattle.pipe_laws.proofs.Standing.{heard_sound, heard_ready, heard_calm, heard_ends, last_ready}
 
 -- ---- another name for what is done from this state
+
+begins_as : (one other : Doer) (s : State) (entries : History)
+    → ((servant : Servant) (h : History) → other servant (run_at s h) ≡ one servant (run_at s h)) → Begins one s entries → Begins other s entries
+begins_as one other s entries same begins servant front is agrees h =
+    let b = begins servant front is agrees h in (b.0, ap (λ (r : Run). r.history) (same servant h) ∙ b.1)
 
 pub drives_as : {E : Type 0} (one other : Doer) (outcome : Servant) (result : Result Course E) (s s' : State) (log log' : Option History) (out out' : SinkState)
     → ((servant : Servant) (h : History) → other servant (run_at s h) ≡ one servant (run_at s h)) → Drives result one outcome s s' log log' out out' → Drives result other outcome s s' log log' out out'
 drives_as one other outcome (Ok Whole) s s' log log' out out' same (did, le) = (
   record {
     entries = did.entries;
-    does_so = record { leads = did.does_so.leads; answers = did.does_so.answers; done = λ servant agrees h. same servant h ∙ did.does_so.done servant agrees h };
+    does_so = record {
+      leads = did.does_so.leads;
+      answers = did.does_so.answers;
+      done = λ servant agrees h. same servant h ∙ did.does_so.done servant agrees h;
+      begins = begins_as one other s did.entries same did.does_so.begins;
+    };
     logged = did.logged;
     wrote = did.wrote;
   },
@@ -49,7 +60,11 @@ drives_as one other outcome (Ok Whole) s s' log log' out out' same (did, le) = (
 drives_as one other outcome (Ok Stopped) s s' log log' out out' same (stopped, rose) = (
   record {
     entries = stopped.entries;
-    begins = record { legal = stopped.begins.legal; answers = stopped.begins.answers; begun = λ servant agrees h. (let b = stopped.begins.begun servant agrees h in (b.0, ap (λ (r : Run). r.history) (same servant h) ∙ b.1)) };
+    begins = record {
+      legal = stopped.begins.legal;
+      answers = stopped.begins.answers;
+      begins = begins_as one other s stopped.entries same stopped.begins.begins;
+    };
     logged = stopped.logged;
     wrote = stopped.wrote;
   },
@@ -57,14 +72,24 @@ drives_as one other outcome (Ok Stopped) s s' log log' out out' same (stopped, r
 )
 drives_as one other outcome (Err e) s s' log log' out out' same want = record {
   entries = want.entries;
-  begins = record { legal = want.begins.legal; answers = want.begins.answers; begun = λ servant agrees h. (let b = want.begins.begun servant agrees h in (b.0, ap (λ (r : Run). r.history) (same servant h) ∙ b.1)) };
+  begins = record {
+    legal = want.begins.legal;
+    answers = want.begins.answers;
+    begins = begins_as one other s want.entries same want.begins.begins;
+  };
   wrote = want.wrote;
 }
 
 pub did_nothing : (does : Doer) (outcome : Servant) (s : State) (log : Option History) (out : SinkState) → ((servant : Servant) (h : History) → does servant (run_at s h) ≡ run_at s h) → Did does outcome s s log log out out
 did_nothing does outcome s log out same = record {
   entries = [];
-  does_so = record { leads = leads_none s; answers = tt; done = λ servant agrees h. same servant h ∙ ap (run_at s) (sym (append-nil h)) };
+  does_so = record {
+    leads = leads_none s;
+    answers = tt;
+    done = λ servant agrees h. same servant h ∙ ap (run_at s) (sym (append-nil h));
+    begins = begins_none does s (λ servant agrees h.
+        ([], ap (λ (r : Run). r.history) (same servant h) ∙ sym (append-nil h) ∙ sym (append-nil (h ++ []))));
+  };
   logged = logged_none log;
   wrote = wrote_nothing out;
 }
@@ -74,7 +99,7 @@ pub did_want : (first next : Doer) (outcome : Servant) (s m : State) (log mid : 
     → BeganWriting (λ servant run. next servant (first servant run)) outcome s out out'
 did_want first next outcome s m log mid out among out' one grows same = record {
   entries = one.entries ++ [];
-  begins = does_began one.does_so (goes_began grows (goes_none next outcome m));
+  begins = does_began grows one.does_so (goes_began (goes_none next outcome m grows));
   wrote = front_entries one.entries [] out among out' one.wrote (subst (λ (x : SinkState). WroteFrontOf [] among x) (sym same) (front_nothing [] among));
 }
 
@@ -112,19 +137,32 @@ silent_came outcome (Collect c) is = absurd is
 abbrev pub calling : LaneCall → Doer
 calling call servant run = applied run call
 
+grows_calling : (call : LaneCall) → Grows (calling call)
+grows_calling call servant run = grows_applied run call
+
+call_begins : (s s' : State) (call : LaneCall) (r : LaneReply) → s' ≡ (step s call).0 → r ≡ (step s call).1
+    → Begins (calling call) s (entry call r ∷ [])
+call_begins s s' call r state reply = begins_one (calling call) s (entry call r) (grows_calling call) (λ servant agrees h.
+    ([], ap (λ (r : Run). r.history) (applied_is s s' call r h state reply) ∙ sym (append-nil (h ++ entry call r ∷ []))))
+
 pub did_call : (outcome : Servant) (call : LaneCall) (s s' : State) (log log' : Option History) (r : LaneReply) (out : SinkState) → IsSilent call → IsApplied s call s' log log' r → Did (calling call) outcome s s' log log' out out
 did_call outcome call s s' log log' r out silent applies = record {
   entries = entry call r ∷ [];
-  does_so = record { leads = leads_one applies; answers = (silent_came outcome call silent, tt); done = λ servant agrees h. applied_is s s' call r h applies.state applies.reply };
+  does_so = record {
+    leads = leads_one applies;
+    answers = (silent_came outcome call silent, tt);
+    done = λ servant agrees h. applied_is s s' call r h applies.state applies.reply;
+    begins = call_begins s s' call r applies.state applies.reply;
+  };
   logged = applies.logged;
   wrote = subst (λ (x : List ℕ). WroteText x out out) (sym (silent_said call r silent)) (wrote_nothing out);
 }
 
-did_both : (first next : Doer) (outcome : Servant) (s m s' : State) (log mid log' : Option History) (out among out' : SinkState) → Did first outcome s m log mid out among → Did next outcome m s' mid log' among out'
+did_both : (first next : Doer) (outcome : Servant) (s m s' : State) (log mid log' : Option History) (out among out' : SinkState) → Grows next → Did first outcome s m log mid out among → Did next outcome m s' mid log' among out'
     → Did (λ servant run. next servant (first servant run)) outcome s s' log log' out out'
-did_both first next outcome s m s' log mid log' out among out' one other = record {
+did_both first next outcome s m s' log mid log' out among out' grows one other = record {
   entries = one.entries ++ other.entries;
-  does_so = does_both one.does_so other.does_so;
+  does_so = does_both grows one.does_so other.does_so;
   logged = logged_both one.entries other.entries log mid log' one.logged other.logged;
   wrote = wrote_entries one.entries other.entries out among out' one.wrote other.wrote;
 }
@@ -171,9 +209,6 @@ stays_settled (Err e) s s' whole = tt
 
 -- ---- the call
 
-grows_calling : (call : LaneCall) → Grows (calling call)
-grows_calling call servant run = grows_applied run call
-
 abbrev pub lasts : ℕ → LaneCall → Doer
 lasts left call servant run = behind_call servant left (applied run call)
 
@@ -210,7 +245,8 @@ call_drives outcome left call course result s m n s' log mid next log' r out amo
     let one = whole_of (befores call) outcome course s m log mid out among is drives in
     let two = did_call outcome call m n mid next r among (heard_silent s.pool call heard) applies in
     drives_then (λ servant run. applied (before_call servant run call) call) (behinds left) outcome result s n s' log next log' out among out'
-    (did_both (befores call) (calling call) outcome s m n log mid next out among among one.0 two) one.1 behind
+    (λ servant run. grows_behind servant left run)
+    (did_both (befores call) (calling call) outcome s m n log mid next out among among (grows_calling call) one.0 two) one.1 behind
 
 pub call_stays : (call : LaneCall) (s s' : State) (log log' : Option History) (r : LaneReply) → IsBetween s → IsHeardCall s.pool pipe_conn call → is_ready s call ≡ true → IsApplied s call s' log log' r → Stays s s'
 call_stays call s s' log log' r between heard ready applies =
@@ -250,7 +286,12 @@ pub collect_drives : {E : Type 0} (outcome : Servant) (result : Result Course E)
 collect_drives outcome (Ok Whole) s s' log log' out out' one = (
   record {
     entries = entry (Collect pipe_conn) one.reply ∷ [];
-    does_so = record { leads = leads_one one.applied; answers = (tt, tt); done = λ servant agrees h. applied_is s s' (Collect pipe_conn) one.reply h one.applied.state one.applied.reply };
+    does_so = record {
+      leads = leads_one one.applied;
+      answers = (tt, tt);
+      done = λ servant agrees h. applied_is s s' (Collect pipe_conn) one.reply h one.applied.state one.applied.reply;
+      begins = call_begins s s' (Collect pipe_conn) one.reply one.applied.state one.applied.reply;
+    };
     logged = one.applied.logged;
     wrote = subst (λ (x : List ℕ). WroteText x out out') (sym (said_one one.reply)) one.says.0;
   },
@@ -259,7 +300,11 @@ collect_drives outcome (Ok Whole) s s' log log' out out' one = (
 collect_drives outcome (Ok Stopped) s s' log log' out out' one = (
   record {
     entries = entry (Collect pipe_conn) one.reply ∷ [];
-    begins = record { legal = (let l = leads_one one.applied in l.legal); answers = (tt, tt); begun = λ servant agrees h. ([], ap (λ (r : Run). r.history) (applied_is s s' (Collect pipe_conn) one.reply h one.applied.state one.applied.reply) ∙ sym (append-nil (h ++ entry (Collect pipe_conn) one.reply ∷ []))) };
+    begins = record {
+      legal = (let l = leads_one one.applied in l.legal);
+      answers = (tt, tt);
+      begins = call_begins s s' (Collect pipe_conn) one.reply one.applied.state one.applied.reply;
+    };
     logged = one.applied.logged;
     wrote = subst (λ (x : List ℕ). WroteFrontOf x out out') (sym (said_one one.reply)) one.says.0;
   },
@@ -272,7 +317,7 @@ pub end_settled : {E : Type 0} (outcome : Servant) (last : How) (result : Result
     → IsApplied s (End pipe_conn last) m log mid r → Drives result settled outcome m s' mid log' out out'
     → Drives result (λ servant run. settled servant (applied run (End pipe_conn last))) outcome s s' log log' out out'
 end_settled outcome last result s m s' log mid log' r out out' applies drives =
-    drives_then (calling (End pipe_conn last)) settled outcome result s m s' log mid log' out out out' (did_call outcome (End pipe_conn last) s m log mid r out tt applies) refl drives
+    drives_then (calling (End pipe_conn last)) settled outcome result s m s' log mid log' out out out' grows_settling (did_call outcome (End pipe_conn last) s m log mid r out tt applies) refl drives
 
 abbrev pub ended_by : How → Doer
 ended_by last servant run = settled servant (applied run (End pipe_conn last))
@@ -289,7 +334,7 @@ pub end_drives : {F : Type 0} (outcome : Servant) (last : How) (course : Course)
     → Drives {E = ⊥} (Ok course) (ended_by last) outcome s m log mid out among → Collects result m s' mid log' among out' → Drives result (closings (End pipe_conn last)) outcome s s' log log' out out'
 end_drives outcome last course result s m s' log mid log' out among out' is drives last_one =
     let one = whole_of (ended_by last) outcome course s m log mid out among is drives in
-    drives_then (ended_by last) (calling (Collect pipe_conn)) outcome result s m s' log mid log' out among out' one.0 one.1 (collect_drives outcome result m s' mid log' among out' last_one)
+    drives_then (ended_by last) (calling (Collect pipe_conn)) outcome result s m s' log mid log' out among out' (grows_calling (Collect pipe_conn)) one.0 one.1 (collect_drives outcome result m s' mid log' among out' last_one)
 
 pub end_sound : (s : State) (last : How) → s.ended ≡ [] → IsSound s (End pipe_conn last)
 end_sound s last none = ap (λ (es : List (ConnId × How)). option_map (λ e. e.1) (find (λ e. same_conn e.0 pipe_conn) es)) none

@@ -21,22 +21,16 @@ use Rattle.pipe_laws.specs.Piped.{Run, applied, rested, first_given, in_hand}
 use Rattle.pipe_laws.specs.Reached.{IsReached}
 use Rattle.lane_driver.specs.Driving.{Leads, Servant, Doer, run_at, entry, Goes, Does, Began, Logged, IsApplied, IsBetween, Stays}
 use Rattle.pipe_laws.specs.Lacking.{Agrees, HasAnswers}
+use Rattle.lane_driver.proofs.Fronts.{agrees_first, agrees_then, Grows, BeginsAll, begins_nothing, begins_none, begins_two, begins_then, begins_first, begins_both}
+use Rattle.lane_driver.proofs.Grow.{grows_applied, grows_rested, behind_both}
 use Rattle.pipe_laws.specs.Calm.{NoneBusy}
 use Rattle.lane_driver.specs.Turning.{IsAnswer, Turns, TurnsOnce, RunsToRest}
 use Rattle.lane_machine.specs.Changes.{changes, marks}
 use Rattle.pipe_laws.proofs.Reached.{legal_push, replay_push}
-use Rattle.pipe_laws.proofs.OneTurn.{turning, takes, take_ready, take_sound, busy_at, done_at, finishes, finish_sound, busy_sound, turn_hands, turn_calm}
+use Rattle.pipe_laws.proofs.OneTurn.{Turning, turning, takes, take_ready, take_sound, busy_at, done_at, finishes, finish_sound, busy_sound, turn_hands, turn_calm}
 use Rattle.pipe_laws.proofs.Rests.{answer_by, rest_turns, rest_stays}
 
 -- ---- entries behind entries
-
-pub agrees_first : (servant : Servant) (a b : History) → Agrees servant (a ++ b) → Agrees servant a
-agrees_first servant [] b agrees = tt
-agrees_first servant (e ∷ a) b (here, agrees) = (here, agrees_first servant a b agrees)
-
-pub agrees_then : (servant : Servant) (a b : History) → Agrees servant (a ++ b) → Agrees servant b
-agrees_then servant [] b agrees = agrees
-agrees_then servant (e ∷ a) b (here, agrees) = agrees_then servant a b agrees
 
 pub answers_both : (outcome : Servant) (a b : History) → HasAnswers outcome a → HasAnswers outcome b → HasAnswers outcome (a ++ b)
 answers_both outcome [] b first then = then
@@ -81,67 +75,61 @@ leads_one applies = record { legal = (applies.ready, applies.sound, applies.repl
 
 -- ---- what was done behind what was done
 
-pub goes_none : (does : Doer) (outcome : Servant) (s : State) → Goes does outcome s s []
-goes_none does outcome s = record { leads = leads_none s; answers = tt; goes = λ servant agrees h. ap (λ (k : History). does servant (run_at s k)) (sym (append-nil h)) }
+pub goes_none : (does : Doer) (outcome : Servant) (s : State) → Grows does → Goes does outcome s s []
+goes_none does outcome s grows = record {
+  leads = leads_none s;
+  answers = tt;
+  goes = λ servant agrees h. ap (λ (k : History). does servant (run_at s k)) (sym (append-nil h));
+  begins = begins_none does s (begins_nothing does s grows);
+}
 
 pub goes_both : {does : Doer} {outcome : Servant} {s m s' : State} {a b : History} → Goes does outcome s m a → Goes does outcome m s' b → Goes does outcome s s' (a ++ b)
-goes_both {does = does} {outcome = outcome} {s' = s'} {a = a} {b = b} first then = record {
+goes_both {does = does} {outcome = outcome} {s = s} {s' = s'} {a = a} {b = b} first then = record {
   leads = leads_both first.leads then.leads;
   answers = answers_both outcome a b first.answers then.answers;
   goes = λ servant agrees h.
       first.goes servant (agrees_first servant a b agrees) h ∙ then.goes servant (agrees_then servant a b agrees) (h ++ a)
       ∙ ap (λ (k : History). does servant (run_at s' k)) (append_assoc h a b);
+  begins = begins_then does s a b first.begins (λ servant agrees rest is later h. (
+      let g = then.begins servant rest is later (h ++ a) in (g.0, ap (λ (r : Run). r.history) (first.goes servant agrees h) ∙ g.1)
+      ));
 }
 
 pub goes_done : {does : Doer} {outcome : Servant} {s s' : State} {a : History} → Goes does outcome s s' a
     → ((servant : Servant) (h : History) → does servant (run_at s' h) ≡ run_at s' h) → Does does outcome s s' a
-goes_done {a = a} goes over = record { leads = goes.leads; answers = goes.answers; done = λ servant agrees h. goes.goes servant agrees h ∙ over servant (h ++ a) }
-
--- a doer takes nothing of a history away
-abbrev pub Grows : Doer → Type 0
-Grows does = (servant : Servant) (run : Run) → (more : History) × ((does servant run).history ≡ run.history ++ more)
-
-pub goes_began : {does : Doer} {outcome : Servant} {s s' : State} {a : History} → Grows does → Goes does outcome s s' a → Began does outcome s a
-goes_began {s' = s'} {a = a} grows goes = record {
-  legal = goes.leads.legal;
+goes_done {a = a} goes over = record {
+  leads = goes.leads;
   answers = goes.answers;
-  begun = λ servant agrees h. (let g = grows servant (run_at s' (h ++ a)) in (g.0, ap (λ (r : Run). r.history) (goes.goes servant agrees h) ∙ g.1));
+  done = λ servant agrees h. goes.goes servant agrees h ∙ over servant (h ++ a);
+  begins = goes.begins;
 }
 
-pub does_both : {first then : Doer} {outcome : Servant} {s m s' : State} {a b : History} → Does first outcome s m a → Does then outcome m s' b
-    → Does (λ servant run. then servant (first servant run)) outcome s s' (a ++ b)
-does_both {then = then} {outcome = outcome} {s' = s'} {a = a} {b = b} one other = record {
+pub goes_began : {does : Doer} {outcome : Servant} {s s' : State} {a : History} → Goes does outcome s s' a → Began does outcome s a
+goes_began goes = record { legal = goes.leads.legal; answers = goes.answers; begins = goes.begins }
+
+pub does_both : {first then : Doer} {outcome : Servant} {s m s' : State} {a b : History} → Grows then → Does first outcome s m a
+    → Does then outcome m s' b → Does (λ servant run. then servant (first servant run)) outcome s s' (a ++ b)
+does_both {first = first} {then = then} {outcome = outcome} {s = s} {m = m} {s' = s'} {a = a} {b = b} grows one other = record {
   leads = leads_both one.leads other.leads;
   answers = answers_both outcome a b one.answers other.answers;
   done = λ servant agrees h.
       ap (then servant) (one.done servant (agrees_first servant a b agrees) h) ∙ other.done servant (agrees_then servant a b agrees) (h ++ a)
       ∙ ap (run_at s') (append_assoc h a b);
+  begins = begins_both first then s m a b grows one.begins one.done other.begins;
 }
 
-pub does_began : {first then : Doer} {outcome : Servant} {s m : State} {a b : History} → Does first outcome s m a → Began then outcome m b
-    → Began (λ servant run. then servant (first servant run)) outcome s (a ++ b)
-does_began {then = then} {outcome = outcome} {a = a} {b = b} one other = record {
+pub does_began : {first then : Doer} {outcome : Servant} {s m : State} {a b : History} → Grows then → Does first outcome s m a
+    → Began then outcome m b → Began (λ servant run. then servant (first servant run)) outcome s (a ++ b)
+does_began {first = first} {then = then} {outcome = outcome} {s = s} {m = m} {a = a} {b = b} grows one other = record {
   legal = legal_then b one.leads other.legal;
   answers = answers_both outcome a b one.answers other.answers;
-  begun = λ servant agrees h. (
-      let g = other.begun servant (agrees_then servant a b agrees) (h ++ a) in (
-        g.0,
-        ap (λ (r : Run). (then servant r).history) (one.done servant (agrees_first servant a b agrees) h) ∙ g.1
-            ∙ ap (λ (k : History). k ++ g.0) (append_assoc h a b),
-      )
-      );
+  begins = begins_both first then s m a b grows one.begins one.done other.begins;
 }
 
-pub began_first : {first : Doer} (then : Doer) {outcome : Servant} {s : State} {a : History} → Grows then → Began first outcome s a → Began (λ servant run. then servant (first servant run)) outcome s a
-began_first {first = first} then {s = s} {a = a} grows one = record {
-  legal = one.legal;
-  answers = one.answers;
-  begun = λ servant agrees h. (
-      let g = one.begun servant agrees h in
-      let f = grows servant (first servant (run_at s h)) in
-      (g.0 ++ f.0, f.1 ∙ ap (λ (k : History). k ++ f.0) g.1 ∙ append_assoc (h ++ a) g.0 f.0)
-      );
-}
+pub began_first : {first : Doer} (then : Doer) {outcome : Servant} {s : State} {a : History} → Grows then → Began first outcome s a
+    → Began (λ servant run. then servant (first servant run)) outcome s a
+began_first {first = first} then {s = s} {a = a} grows one =
+    record { legal = one.legal; answers = one.answers; begins = begins_first first then s a grows one.begins }
 
 -- ---- one call
 
@@ -169,6 +157,30 @@ with_outcome job outcome = record { job = job; outcome = outcome }
 came_of : (outcome : Servant) (job : JobRecord) (answer : Answer) → IsAnswer outcome job answer → (answer.outcome ≡ outcome answer.job) ⊎ (answer.outcome ≡ no_memory)
 came_of outcome job answer is = elim is.came [ inl e ↦ inl (e ∙ ap outcome (sym is.same_job)) | inr e ↦ inr e ]
 
+pub grows_resting : Grows rested
+grows_resting servant run = grows_rested servant (in_hand run.state) run
+
+abbrev GoesAll : State → State → History → Type 0
+GoesAll s s' entries = (servant : Servant) → Agrees servant entries → (h : History)
+    → rested servant (run_at s h) ≡ rested servant (run_at s' (h ++ entries))
+
+goes_all : (s s' : State) (entries : History) → GoesAll s s' entries → BeginsAll rested s entries
+goes_all s s' entries goes servant agrees h =
+    let g = grows_resting servant (run_at s' (h ++ entries)) in (g.0, ap (λ (r : Run). r.history) (goes servant agrees h) ∙ g.1)
+
+-- a run to rest begins with the Take of its first turn, whatever the servant answers
+begins_take : (s m : State) (t : ℕ) (x : Turning s t) (job : JobRecord) → m ≡ (step s (Take t)).0 → Given job ≡ (step s (Take t)).1
+    → first_given s ≡ Some t → BeginsAll rested s (entry (Take t) (Given job) ∷ [])
+begins_take s m t x job state reply given servant agrees h =
+    let run = applied (run_at s h) (Take t) in
+    let call = Finish t (answer_by servant x.job) in
+    let behind = behind_both run (applied run call) (rested servant (applied run call)) (grows_applied run call)
+    (grows_resting servant (applied run call)) in (
+      behind.0,
+      ap (λ (r : Run). r.history) (rest_turns servant (run_at s h) t x given) ∙ behind.1
+          ∙ ap (λ (r : Run). r.history ++ behind.0) (applied_is s m (Take t) (Given job) h state reply),
+    )
+
 pub turns_once : (outcome : Servant) (s m s' : State) (log mid log' : Option History) (t : ℕ) (job : JobRecord) (answer : Answer) → IsBetween s → first_given s ≡ Some t
     → IsApplied s (Take t) m log mid (Given job) → IsAnswer outcome job answer → IsApplied m (Finish t answer) s' mid log' Finished → TurnsOnce outcome s s' log log'
 turns_once outcome s m s' log mid log' t job answer between given take is finish =
@@ -183,20 +195,23 @@ turns_once outcome s m s' log mid log' t job answer between given take is finish
     let mid_pool = (changes s (Take t)).0 in
     let mid_ended = (marks s (Take t)).0 in
     let entries : History = entry (Take t) (Given job) ∷ entry (Finish t answer) Finished ∷ [] in
+    let goes_so : GoesAll s s' entries = λ servant agrees h. (
+    let its_answer : answer_by servant x.job ≡ answer =
+    ap (answer_by servant) (sym its_job) ∙ ap (with_outcome answer.job) agrees.1.0 in
+    let first = applied_is s m (Take t) (Given job) h take.state take.reply in
+    let then = applied_is m s' (Finish t answer) Finished (h ++ entry (Take t) (Given job) ∷ []) finish.state finish.reply in
+    rest_turns servant (run_at s h) t x given
+    ∙ ap (λ (a : Answer). rested servant (applied (applied (run_at s h) (Take t)) (Finish t a))) its_answer
+    ∙ ap (λ (r : Run). rested servant (applied r (Finish t answer))) first
+    ∙ ap (rested servant) then
+    ∙ ap (λ (k : History). rested servant (run_at s' k)) (append_assoc h (entry (Take t) (Given job) ∷ []) (entry (Finish t answer) Finished ∷ []))
+    ) in
     let goes : Goes rested outcome s s' entries = record {
       leads = leads_both (leads_one take) (leads_one finish);
       answers = (tt, (came_of outcome job answer is, tt));
-      goes = λ servant agrees h. (
-          let its_answer : answer_by servant x.job ≡ answer =
-          ap (answer_by servant) (sym its_job) ∙ ap (with_outcome answer.job) agrees.1.0 in
-          let first = applied_is s m (Take t) (Given job) h take.state take.reply in
-          let then = applied_is m s' (Finish t answer) Finished (h ++ entry (Take t) (Given job) ∷ []) finish.state finish.reply in
-          rest_turns servant (run_at s h) t x given
-          ∙ ap (λ (a : Answer). rested servant (applied (applied (run_at s h) (Take t)) (Finish t a))) its_answer
-          ∙ ap (λ (r : Run). rested servant (applied r (Finish t answer))) first
-          ∙ ap (rested servant) then
-          ∙ ap (λ (k : History). rested servant (run_at s' k)) (append_assoc h (entry (Take t) (Given job) ∷ []) (entry (Finish t answer) Finished ∷ []))
-          );
+      goes = goes_so;
+      begins = begins_two rested s (entry (Take t) (Given job)) (entry (Finish t answer) Finished) grows_resting
+          (begins_take s m t x job take.state take.reply given) (goes_all s s' entries goes_so);
     } in
     record {
       turns = record {
@@ -225,7 +240,7 @@ pub stays_both : {s m s' : State} → Stays s m → Stays m s' → Stays s s'
 stays_both first then = record { between = then.between; pool = then.pool ∙ first.pool; ended = then.ended ∙ first.ended }
 
 pub turns_none : (outcome : Servant) (s : State) (log : Option History) → IsBetween s → Turns outcome s s log log
-turns_none outcome s log between = record { entries = []; goes_so = goes_none rested outcome s; silent = refl; logged = logged_none log; stays = stays_self s between }
+turns_none outcome s log between = record { entries = []; goes_so = goes_none rested outcome s grows_resting; silent = refl; logged = logged_none log; stays = stays_self s between }
 
 pub turns_more : (outcome : Servant) (s m s' : State) (log mid log' : Option History) → Turns outcome s m log mid → TurnsOnce outcome m s' mid log' → Turns outcome s s' log log'
 turns_more outcome s m s' log mid log' first then = record {

@@ -16,9 +16,10 @@ use Rattle.pipe_laws.specs.Said.{said}
 use Rattle.pipe_laws.specs.Piped.{Run, applied, before_call}
 use Rattle.pipe_laws.specs.Groups.{Group, called, with_room, folded}
 use Rattle.pipe_laws.specs.Legality.{IsHeardCall, AreHeardCalls}
-use Rattle.lane_driver.specs.Driving.{Servant, run_at, Began, BeganWriting, StoppedWriting, Drives, IsBetween, Stays, StaysWhole}
+use Rattle.lane_driver.specs.Driving.{Servant, run_at, Begins, Began, BeganWriting, StoppedWriting, Drives, IsBetween, Stays, StaysWhole}
 use Rattle.lane_driver.specs.Feeding.{taking, group_at, feeding, Fed}
-use Rattle.lane_driver.proofs.Driving.{leads_none, leads_both, legal_then, agrees_first, agrees_then, answers_both, logged_both, logged_none, stays_self, stays_both}
+use Rattle.lane_driver.proofs.Fronts.{agrees_first, agrees_then, begins_nothing, begins_none, begins_then}
+use Rattle.lane_driver.proofs.Driving.{leads_none, leads_both, legal_then, answers_both, logged_both, logged_none, stays_self, stays_both}
 use Rattle.lane_driver.proofs.Grow.{grows_folded}
 use Rattle.pipe_laws.proofs.Folds.{closing_stays}
 use Rattle.lane_driver.proofs.Items.{wrote_entries, front_entries, front_whole, rose_later}
@@ -40,12 +41,32 @@ fed_none batch outcome s room calls log out between some = record {
   leads = leads_none s;
   answers = tt;
   goes = λ servant agrees h. ap (λ (k : History). folded servant batch (group_at s k room) calls) (sym (append-nil h));
+  begins = begins_none (feeding batch room calls) s (begins_nothing (feeding batch room calls) s
+      (λ servant run. grows_folded servant batch (record { run = run; room = room }) calls));
   logged = logged_none log;
   wrote = wrote_nothing out;
   stays = stays_self s between;
   some = some;
   faults = refl;
 }
+
+begins_more : (batch : ℕ) (outcome : Servant) (s m : State) (room among_room left : ℕ) (calls calls_left : List LaneCall) (call : LaneCall) (rest : List LaneCall) (log mid : Option History) (out among : SinkState) (b : History)
+    → calls_left ≡ call ∷ rest → m.closing ≡ false → left ≡ (if is_ready m call then among_room else batch) - 1 → (so_far : Fed batch outcome s m room among_room calls calls_left log mid out among)
+    → Begins (taking left call) m b → Begins (feeding batch room calls) s (so_far.entries ++ b)
+begins_more batch outcome s m room among_room left calls calls_left call rest log mid out among b is open_still left_is so_far began =
+    begins_then (feeding batch room calls) s so_far.entries b so_far.begins (λ servant agrees front front_is later h. (
+    let k = h ++ so_far.entries in
+    let one = began servant front front_is later k in
+    let behind = grows_folded servant batch (next_group servant batch left call (run_at m k)) rest in (
+      one.0 ++ behind.0,
+      ap (λ (g : Group). g.run.history) (so_far.goes servant agrees h
+          ∙ ap (folded servant batch (group_at m k among_room)) is
+          ∙ step_is servant batch among_room left m k call rest open_still left_is)
+          ∙ behind.1
+          ∙ ap (λ (x : History). x ++ behind.0) one.1
+          ∙ append_assoc (k ++ front) one.0 behind.0,
+    )
+    ))
 
 pub fed_more : (batch : ℕ) (outcome : Servant) (course : Course) (s m s' : State) (room among_room room' left : ℕ) (calls calls_left : List LaneCall) (call : LaneCall) (rest : List LaneCall) (log mid log' : Option History) (out among out' : SinkState)
     → calls_left ≡ call ∷ rest → course ≡ Whole → m.closing ≡ false → left ≡ (if is_ready m call then among_room else batch) - 1 → room' ≡ (if left == 0 then batch else left) → 1 ≤ room'
@@ -65,6 +86,8 @@ fed_more batch outcome course s m s' room among_room room' left calls calls_left
           ∙ ap (λ (r : Run). folded servant batch (record { run = r; room = if left == 0 then batch else left }) rest) (one.0.does_so.done servant (agrees_then servant so_far.entries one.0.entries agrees) (h ++ so_far.entries))
           ∙ ap (λ (n : ℕ). folded servant batch (group_at s' ((h ++ so_far.entries) ++ one.0.entries) n) rest) (sym room_is)
           ∙ ap (λ (k : History). folded servant batch (group_at s' k room') rest) (append_assoc h so_far.entries one.0.entries);
+      begins = begins_more batch outcome s m room among_room left calls calls_left call rest log mid out among one.0.entries is open_still left_is so_far
+          one.0.does_so.begins;
       logged = logged_both so_far.entries one.0.entries log mid log' so_far.logged one.0.logged;
       wrote = wrote_entries so_far.entries one.0.entries out among out' so_far.wrote one.0.wrote;
       stays = stays_both so_far.stays stays_now;
@@ -79,19 +102,7 @@ began_more : (batch : ℕ) (outcome : Servant) (s m : State) (room among_room le
 began_more batch outcome s m room among_room left calls calls_left call rest log mid out among b is open_still left_is so_far began = record {
   legal = legal_then b so_far.leads began.legal;
   answers = answers_both outcome so_far.entries b so_far.answers began.answers;
-  begun = λ servant agrees h. (
-      let k = h ++ so_far.entries in
-      let one = began.begun servant (agrees_then servant so_far.entries b agrees) k in
-      let behind = grows_folded servant batch (next_group servant batch left call (run_at m k)) rest in (
-        one.0 ++ behind.0,
-        ap (λ (g : Group). g.run.history) (so_far.goes servant (agrees_first servant so_far.entries b agrees) h
-            ∙ ap (folded servant batch (group_at m k among_room)) is
-            ∙ step_is servant batch among_room left m k call rest open_still left_is)
-            ∙ behind.1
-            ∙ ap (λ (x : History). x ++ behind.0) (one.1 ∙ ap (λ (x : History). x ++ one.0) (append_assoc h so_far.entries b))
-            ∙ append_assoc (h ++ (so_far.entries ++ b)) one.0 behind.0,
-      )
-      );
+  begins = begins_more batch outcome s m room among_room left calls calls_left call rest log mid out among b is open_still left_is so_far began.begins;
 }
 
 pub fed_stopped : (batch : ℕ) (outcome : Servant) (course : Course) (s m s' : State) (room among_room left : ℕ) (calls calls_left : List LaneCall) (call : LaneCall) (rest : List LaneCall) (log mid log' : Option History) (out among out' : SinkState)
@@ -126,7 +137,7 @@ fed_want_here batch outcome s m room among_room calls calls_left log mid out amo
   begins = record {
     legal = so_far.leads.legal;
     answers = so_far.answers;
-    begun = λ servant agrees h. (let behind = grows_folded servant batch (group_at m (h ++ so_far.entries) among_room) calls_left in (behind.0, ap (λ (g : Group). g.run.history) (so_far.goes servant agrees h) ∙ behind.1));
+    begins = so_far.begins;
   };
   wrote = front_whole (said pipe_conn so_far.entries) out among so_far.wrote;
 }
@@ -138,6 +149,7 @@ fed_closing batch outcome s m room among_room calls calls_left log mid out among
   leads = so_far.leads;
   answers = so_far.answers;
   goes = λ servant agrees h. so_far.goes servant agrees h ∙ closing_stays servant batch (group_at m (h ++ so_far.entries) among_room) calls_left closing;
+  begins = so_far.begins;
   logged = so_far.logged;
   wrote = so_far.wrote;
   stays = so_far.stays;

@@ -51,7 +51,7 @@ grows_turned servant run (Some t) =
     behind_both run (applied run (Take t)) (turned servant run (Some t)) (grows_applied run (Take t)) (grows_finished servant (applied run (Take t)) t (step run.state (Take t)).1)
 grows_turned servant run None = behind_self run
 
-grows_rested : (servant : JobRecord → Outcome) (turns : ℕ) (run : Run) → Behind run (rested_after servant turns run)
+pub grows_rested : (servant : JobRecord → Outcome) (turns : ℕ) (run : Run) → Behind run (rested_after servant turns run)
 grows_rested servant zero run = behind_self run
 grows_rested servant (suc turns) run =
     behind_both run (turned servant run (first_given run.state)) (rested_after servant (suc turns) run) (grows_turned servant run (first_given run.state)) (grows_rested servant turns (turned servant run (first_given run.state)))

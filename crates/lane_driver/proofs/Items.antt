@@ -14,13 +14,15 @@ use Rattle.lane_driver.specs.declared.course.Course.{Course}
 use Rattle.lane_driver.specs.declared.course.Course.TheVariants.{Whole, Stopped}
 use Rattle.pipe_laws.specs.Setup.{pipe_conn}
 use Rattle.pipe_laws.specs.Said.{said, handed_bytes}
-use Rattle.pipe_laws.specs.Piped.{rested, emptied, settled, first_given}
+use Rattle.pipe_laws.specs.Piped.{Run, rested, emptied, settled, first_given}
+use Rattle.lane_machine.specs.Entries.{One}
 use Rattle.pipe_laws.specs.Calm.{NoneBusy}
 use Rattle.lane_driver.specs.Driving.{Servant, Doer, run_at, entry, Goes, Did, BeganWriting, StoppedWriting, Drives, IsApplied, IsBetween, Stays}
 use Rattle.lane_driver.specs.Turning.{RunsToRest}
 use Rattle.lane_driver.specs.Collecting.{emptying, Says, CollectsBy, Empties, EmptiesWhole, SettlesWhole}
 use Rattle.pipe_laws.proofs.Rests.{Handing, handing, collect_ready, hands_over, without, one_item_less, empty_collects, empty_stays}
-use Rattle.lane_driver.proofs.Driving.{leads_one, goes_none, goes_both, goes_done, goes_began, does_both, does_began, began_first, said_both, logged_both, logged_none, applied_is, reached_applied, stays_self, stays_both, Grows}
+use Rattle.lane_driver.proofs.Fronts.{Grows, begins_one}
+use Rattle.lane_driver.proofs.Driving.{leads_one, goes_none, goes_both, goes_done, goes_began, does_both, does_began, began_first, said_both, logged_both, logged_none, applied_is, reached_applied, stays_self, stays_both}
 use Rattle.lane_driver.proofs.Grow.{grows_emptied, grows_settled}
 use Rattle.pipe_laws.proofs.Standing.{owes_none}
 
@@ -49,28 +51,28 @@ rose_later before mid after same rose = subst (λ (n : ℕ). Rose n after) same 
 -- ---- one doer behind another
 
 pub drives_then : {E : Type 0} (first then : Doer) (outcome : Servant) (result : Result Course E) (s m s' : State) (log mid log' : Option History) (out among out' : SinkState)
-    → Did first outcome s m log mid out among → among.faults ≡ out.faults → Drives result then outcome m s' mid log' among out' → Drives result (λ servant run. then servant (first servant run)) outcome s s' log log' out out'
-drives_then first then outcome (Ok Whole) s m s' log mid log' out among out' one le other = (
+    → Grows then → Did first outcome s m log mid out among → among.faults ≡ out.faults → Drives result then outcome m s' mid log' among out' → Drives result (λ servant run. then servant (first servant run)) outcome s s' log log' out out'
+drives_then first then outcome (Ok Whole) s m s' log mid log' out among out' grows one le other = (
   record {
     entries = one.entries ++ other.0.entries;
-    does_so = does_both one.does_so other.0.does_so;
+    does_so = does_both grows one.does_so other.0.does_so;
     logged = logged_both one.entries other.0.entries log mid log' one.logged other.0.logged;
     wrote = wrote_entries one.entries other.0.entries out among out' one.wrote other.0.wrote;
   },
   other.1 ∙ le,
 )
-drives_then first then outcome (Ok Stopped) s m s' log mid log' out among out' one le other = (
+drives_then first then outcome (Ok Stopped) s m s' log mid log' out among out' grows one le other = (
   record {
     entries = one.entries ++ other.0.entries;
-    begins = does_began one.does_so other.0.begins;
+    begins = does_began grows one.does_so other.0.begins;
     logged = logged_both one.entries other.0.entries log mid log' one.logged other.0.logged;
     wrote = front_entries one.entries other.0.entries out among out' one.wrote other.0.wrote;
   },
   rose_later out.faults among.faults out'.faults le other.1,
 )
-drives_then first then outcome (Err e) s m s' log mid log' out among out' one le other = record {
+drives_then first then outcome (Err e) s m s' log mid log' out among out' grows one le other = record {
   entries = one.entries ++ other.entries;
-  begins = does_began one.does_so other.begins;
+  begins = does_began grows one.does_so other.begins;
   wrote = front_entries one.entries other.entries out among out' one.wrote other.wrote;
 }
 
@@ -85,7 +87,7 @@ want_first first then outcome s out out' grows one = record { entries = one.entr
 pub want_at_once : (does : Doer) (outcome : Servant) (s : State) (out out' : SinkState) → Grows does → out' ≡ out → BeganWriting does outcome s out out'
 want_at_once does outcome s out out' grows same = record {
   entries = [];
-  begins = goes_began grows (goes_none does outcome s);
+  begins = goes_began (goes_none does outcome s grows);
   wrote = subst (λ (x : SinkState). WroteFrontOf [] out x) (sym same) (front_nothing [] out);
 }
 
@@ -110,11 +112,17 @@ goes_once : (outcome : Servant) (s s' : State) (log log' : Option History) (r : 
     → Goes emptying outcome s s' (entry (Collect pipe_conn) r ∷ [])
 goes_once outcome s s' log log' r some applies =
     let x = some_there (item_place s pipe_conn) some in
+    let e : One = entry (Collect pipe_conn) r in
+    let goes : (servant : Servant) (h : History) → emptying servant (run_at s h) ≡ emptying servant (run_at s' (h ++ e ∷ [])) =
+    λ servant h. empty_collects pipe_conn (run_at s h) (handing s pipe_conn x.0 x.1)
+    ∙ ap (emptied pipe_conn) (applied_is s s' (Collect pipe_conn) r h applies.state applies.reply) in
     record {
       leads = leads_one applies;
       answers = (tt, tt);
-      goes = λ servant agrees h.
-          empty_collects pipe_conn (run_at s h) (handing s pipe_conn x.0 x.1) ∙ ap (emptied pipe_conn) (applied_is s s' (Collect pipe_conn) r h applies.state applies.reply);
+      goes = λ servant agrees h. goes servant h;
+      begins = begins_one emptying s e grows_emptying (λ servant agrees h. (
+          let g = grows_emptying servant (run_at s' (h ++ e ∷ [])) in (g.0, ap (λ (r : Run). r.history) (goes servant h) ∙ g.1)
+          ));
     }
 
 out_state : (s s' : State) (log log' : Option History) (r : LaneReply) (x : Handing s pipe_conn) → IsApplied s (Collect pipe_conn) s' log log' r → s' ≡ without s pipe_conn x
@@ -148,7 +156,7 @@ fewer_items s s' log log' r some applies =
 pub empties_none : (s : State) (log : Option History) (out : SinkState) → IsBetween s → Empties s s log log out out
 empties_none s log out between = record {
   entries = [];
-  goes_so = λ outcome. goes_none emptying outcome s;
+  goes_so = λ outcome. goes_none emptying outcome s grows_emptying;
   logged = logged_none log;
   wrote = wrote_nothing out;
   stays = stays_self s between;
@@ -179,7 +187,7 @@ empties_stopped {E = E} outcome course s m s' log mid log' out among out' stoppe
     let wrote : WroteFrontOf (said pipe_conn (entry (Collect pipe_conn) one.reply ∷ [])) among out' = subst (λ (x : List ℕ). WroteFrontOf x among out') (sym (said_one one.reply)) says.0 in (
       record {
         entries = so_far.entries ++ entry (Collect pipe_conn) one.reply ∷ [];
-        begins = goes_began grows_emptying (goes_both (so_far.goes_so outcome) (goes_once outcome m s' mid log' one.reply some one.applied));
+        begins = goes_began (goes_both (so_far.goes_so outcome) (goes_once outcome m s' mid log' one.reply some one.applied));
         logged = logged_both so_far.entries (entry (Collect pipe_conn) one.reply ∷ []) log mid log' so_far.logged one.applied.logged;
         wrote = front_entries so_far.entries (entry (Collect pipe_conn) one.reply ∷ []) out among out' so_far.wrote wrote;
       },
@@ -190,7 +198,7 @@ pub empties_want : (outcome : Servant) (s m : State) (log mid : Option History) 
     → Empties s m log mid out among → out' ≡ among → BeganWriting emptying outcome s out out'
 empties_want outcome s m log mid out among out' so_far same = record {
   entries = so_far.entries;
-  begins = goes_began grows_emptying (so_far.goes_so outcome);
+  begins = goes_began (so_far.goes_so outcome);
   wrote = subst (λ (x : SinkState). WroteFrontOf (said pipe_conn so_far.entries) out x) (sym same) (front_whole (said pipe_conn so_far.entries) out among so_far.wrote);
 }
 
@@ -219,7 +227,7 @@ rested_did outcome s s' log log' out rest = record {
 pub settle_drives : {E : Type 0} (outcome : Servant) (result : Result Course E) (s m s' : State) (log mid log' : Option History) (out out' : SinkState)
     → RunsToRest outcome s m log mid → Drives result emptying outcome m s' mid log' out out' → Drives result settled outcome s s' log log' out out'
 settle_drives outcome result s m s' log mid log' out out' rest drives =
-    drives_then rested emptying outcome result s m s' log mid log' out out out' (rested_did outcome s m log mid out rest) refl drives
+    drives_then rested emptying outcome result s m s' log mid log' out out out' grows_emptying (rested_did outcome s m log mid out rest) refl drives
 
 pub grows_settling : Grows settled
 grows_settling servant run = grows_settled servant run

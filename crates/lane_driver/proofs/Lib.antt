@@ -1,4 +1,5 @@
 pub mod ReplyLaws
+pub mod Fronts
 pub mod Driving
 pub mod Opened
 pub mod Short

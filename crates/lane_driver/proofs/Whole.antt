@@ -11,15 +11,17 @@ use Rattle.lane_machine.specs.Histories.{History}
 use Rattle.adapter_policies.specs.SetupData.{SetupData}
 use Rattle.pipe_laws.specs.Piped.{Run, settled, closed_by, answer_of, piped}
 use Rattle.pipe_laws.specs.Groups.{Group}
+use Rattle.pipe_laws.specs.Begun.{BeginsPiped}
 use Rattle.pipe_laws.proofs.Folds.{groups_are_folded}
+use Rattle.pipe_laws.proofs.Beginning.{begun_tells_lacks}
 use Rattle.lane_driver.specs.declared.course.Course.{Course}
 use Rattle.lane_driver.specs.declared.course.Course.TheVariants.{Whole, Stopped}
-use Rattle.lane_driver.specs.Driving.{Servant, Doer, run_at, BeganWriting, StoppedWriting, Drives}
+use Rattle.lane_driver.specs.Driving.{Servant, Doer, run_at, Begins, BeganWriting, StoppedWriting, Drives}
 use Rattle.lane_driver.specs.Feeding.{ending, feeding, Fed, Feeds}
-use Rattle.lane_driver.specs.Running.{running, RunsArePiped, BeginningsArePiped}
-use Rattle.lane_driver.proofs.Driving.{Grows}
+use Rattle.lane_driver.specs.Running.{running, RunsArePiped, BeginningsArePiped, DoneIsPiped, BegunIsPiped}
+use Rattle.lane_driver.proofs.Fronts.{Grows, front_same}
 use Rattle.lane_driver.proofs.Grow.{grows_settled, grows_closed, behind_both}
-use Rattle.lane_driver.proofs.Items.{drives_then, want_first}
+use Rattle.lane_driver.proofs.Items.{drives_then, want_first, grows_settling}
 use Rattle.lane_driver.proofs.Calls.{whole_of, stopped_of, grows_ending}
 
 -- the run of the pipe is this one
@@ -35,8 +37,29 @@ runs_are_piped setup outcome batch calls how s entries does lacking =
 
 pub beginnings_are_piped : BeginningsArePiped
 beginnings_are_piped setup outcome batch calls how entries began lacking =
-    let b = began.begun (answer_of setup outcome lacking.lacks) lacking.agrees [] in
+    let b = began.begins (answer_of setup outcome lacking.lacks) entries (front_same entries) lacking.agrees [] in
     (b.0, ap (λ (r : Run). r.history) (piped_is setup outcome batch calls how lacking.lacks) ∙ b.1)
+
+-- whatever front of what was done a servant gives, its run of the pipe begins so
+begins_piped : (setup : SetupData) (outcome : List ℕ → JobRecord → Outcome) (batch : ℕ) (calls : List LaneCall) (how : How)
+    (entries : History) → Begins (running batch calls how) (opening setup.pool setup.slots setup.per_slot) entries
+    → BeginsPiped setup outcome batch calls how entries
+begins_piped setup outcome batch calls how entries begins lacks front is agrees =
+    let b = begins (answer_of setup outcome lacks) front is agrees [] in
+    (b.0, ap (λ (r : Run). r.history) (piped_is setup outcome batch calls how lacks) ∙ b.1)
+
+pub done_is_piped : DoneIsPiped
+done_is_piped setup outcome batch calls how n s entries can heard rises does =
+    let lacking = begun_tells_lacks setup outcome batch calls how n entries can heard rises does.leads.legal does.answers
+    (begins_piped setup outcome batch calls how entries does.begins) in
+    (lacking, runs_are_piped setup outcome batch calls how s entries does lacking)
+
+pub begun_is_piped : BegunIsPiped
+begun_is_piped setup outcome batch calls how n entries can heard rises began =
+    let lacking = begun_tells_lacks setup outcome batch calls how n entries can heard rises began.legal began.answers
+    (begins_piped setup outcome batch calls how entries began.begins) in
+    let front = beginnings_are_piped setup outcome batch calls how entries began lacking in
+    (lacking, front.0, front.1)
 
 -- ---- for the goals of `run_calls`
 
@@ -57,7 +80,7 @@ pub feeds_drive : {E : Type 0} (batch : ℕ) (outcome : Servant) (result : Resul
 feeds_drive batch outcome (Ok Whole) s s' room' calls log log' out out' fed = (
   record {
     entries = fed.entries;
-    does_so = record { leads = fed.leads; answers = fed.answers; done = λ servant agrees h. ap (λ (g : Group). g.run) (fed.goes servant agrees h) };
+    does_so = record { leads = fed.leads; answers = fed.answers; done = λ servant agrees h. ap (λ (g : Group). g.run) (fed.goes servant agrees h); begins = fed.begins };
     logged = fed.logged;
     wrote = fed.wrote;
   },
@@ -88,7 +111,7 @@ pub fed_settles : {F : Type 0} (outcome : Servant) (batch : ℕ) (calls : List L
     → Drives result (fed_settled batch calls) outcome s s' log log' out out'
 fed_settles outcome batch calls course result s m s' room' log mid log' out among out' is feeds drives =
     let one = whole_of (feeding batch batch calls) outcome course s m log mid out among is (feeds_drive {E = ⊥} batch outcome (Ok course) s m room' calls log mid out among feeds) in
-    drives_then (feeding batch batch calls) settled outcome result s m s' log mid log' out among out' one.0 one.1 drives
+    drives_then (feeding batch batch calls) settled outcome result s m s' log mid log' out among out' grows_settling one.0 one.1 drives
 
 settled_want : (outcome : Servant) (batch : ℕ) (calls : List LaneCall) (how : How) (s : State) (out out' : SinkState)
     → BeganWriting (fed_settled batch calls) outcome s out out' → BeganWriting (running batch calls how) outcome s out out'
@@ -113,4 +136,4 @@ pub ended_whole : {F : Type 0} (outcome : Servant) (batch : ℕ) (calls : List L
     → Drives result (running batch calls how) outcome s s' log log' out out'
 ended_whole outcome batch calls how course result s m s' log mid log' out among out' is drives ends =
     let one = whole_of (fed_settled batch calls) outcome course s m log mid out among is drives in
-    drives_then (fed_settled batch calls) (ending how) outcome result s m s' log mid log' out among out' one.0 one.1 ends
+    drives_then (fed_settled batch calls) (ending how) outcome result s m s' log mid log' out among out' (grows_ending how) one.0 one.1 ends

@@ -18,6 +18,7 @@ use Rattle.pipe_laws.specs.Piped.{Run}
 use Rattle.pipe_laws.specs.Reached.{IsReached}
 use Rattle.pipe_laws.specs.Calm.{NoneBusy}
 use Rattle.pipe_laws.specs.Lacking.{Agrees, HasAnswers}
+use Rattle.pipe_laws.specs.Begun.{IsFront}
 use Rattle.lane_driver.specs.declared.course.Course.{Course}
 use Rattle.lane_driver.specs.declared.course.Course.TheVariants.{Whole, Stopped}
 
@@ -42,25 +43,31 @@ pub record Leads (s s' : State) (entries : History) : Type 0 where
   pub legal : IsLegal s entries
   pub leads : s' ≡ replay s entries
 
+-- whatever front of the entries a servant gives, its run begins so
+abbrev pub Begins : Doer → State → History → Type 0
+Begins does s entries = (servant : Servant) (front : History) → IsFront front entries → Agrees servant front → (h : History)
+    → (more : History) × ((does servant (run_at s h)).history ≡ (h ++ front) ++ more)
+
 -- behind these entries as much is left to be done as was before
 pub record Goes (does : Doer) (outcome : Servant) (s s' : State) (entries : History) : Type 0 where
   pub leads : Leads s s' entries
   pub answers : HasAnswers outcome entries
   pub goes : (servant : Servant) → Agrees servant entries → (h : History)
       → does servant (run_at s h) ≡ does servant (run_at s' (h ++ entries))
+  pub begins : Begins does s entries
 
 -- with these entries it is done
 pub record Does (does : Doer) (outcome : Servant) (s s' : State) (entries : History) : Type 0 where
   pub leads : Leads s s' entries
   pub answers : HasAnswers outcome entries
   pub done : (servant : Servant) → Agrees servant entries → (h : History) → does servant (run_at s h) ≡ run_at s' (h ++ entries)
+  pub begins : Begins does s entries
 
 -- with these entries it is begun
 pub record Began (does : Doer) (outcome : Servant) (s : State) (entries : History) : Type 0 where
   pub legal : IsLegal s entries
   pub answers : HasAnswers outcome entries
-  pub begun : (servant : Servant) → Agrees servant entries → (h : History)
-      → (more : History) × ((does servant (run_at s h)).history ≡ (h ++ entries) ++ more)
+  pub begins : Begins does s entries
 
 -- a history grew, where one is kept
 abbrev pub Logged : History → Option History → Option History → Type 0

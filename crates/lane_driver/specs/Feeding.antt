@@ -12,7 +12,7 @@ use Rattle.pipe_laws.specs.Said.{said}
 use Rattle.pipe_laws.specs.Piped.{applied, before_call, behind_call, closed_by}
 use Rattle.pipe_laws.specs.Groups.{Group, folded}
 use Rattle.pipe_laws.specs.Lacking.{Agrees, HasAnswers}
-use Rattle.lane_driver.specs.Driving.{Servant, Doer, run_at, Leads, Logged, Stays, BeganWriting, StoppedWriting}
+use Rattle.lane_driver.specs.Driving.{Servant, Doer, run_at, Begins, Leads, Logged, Stays, BeganWriting, StoppedWriting}
 use Rattle.lane_driver.specs.declared.course.Course.{Course}
 use Rattle.lane_driver.specs.declared.course.Course.TheVariants.{Whole, Stopped}
 
@@ -54,6 +54,7 @@ pub record Fed (batch : ℕ) (outcome : Servant) (s s' : State) (room room' : �
   pub answers : HasAnswers outcome entries
   pub goes : (servant : Servant) → Agrees servant entries → (h : History)
       → folded servant batch (group_at s h room) calls ≡ folded servant batch (group_at s' (h ++ entries) room') left
+  pub begins : Begins (feeding batch room calls) s entries
   pub logged : Logged entries log log'
   pub wrote : WroteText (said pipe_conn entries) out out'
   pub stays : Stays s s'

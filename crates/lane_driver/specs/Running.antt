@@ -4,11 +4,14 @@ use Rattle.orb_base.specs.JobRecord.{JobRecord}
 use Rattle.orb_base.specs.declared.outcome.Outcome.{Outcome}
 use Rattle.lane_machine.specs.declared.call.How.{How}
 use Rattle.lane_machine.specs.declared.call.LaneCall.{LaneCall}
-use Rattle.lane_machine.specs.State.{State, opening}
+use Rattle.lane_machine.specs.State.{State, CanOpen, opening}
 use Rattle.lane_machine.specs.Histories.{History}
 use Rattle.adapter_policies.specs.SetupData.{SetupData}
+use Rattle.pipe_laws.specs.Setup.{pipe_conn}
 use Rattle.pipe_laws.specs.Piped.{settled, closed_by, piped}
+use Rattle.pipe_laws.specs.Legality.{AreHeardCalls}
 use Rattle.pipe_laws.specs.Lacking.{served, Lacking}
+use Rattle.pipe_laws.specs.Serials.{RisesFrom}
 use Rattle.lane_driver.specs.Driving.{Doer, run_at, Does, Began}
 use Rattle.lane_driver.specs.Feeding.{feeding}
 
@@ -31,3 +34,20 @@ BeginningsArePiped = (setup : SetupData) (outcome : List ℕ → JobRecord → O
     → Began (running batch calls how) (served setup outcome) (opening setup.pool setup.slots setup.per_slot) entries
     → (lacking : Lacking setup outcome entries)
     → (more : History) × ((piped setup outcome batch calls how lacking.lacks).history ≡ entries ++ more)
+
+-- where the serials of the requests rise, such serials are there: what was done is the run of the pipe
+abbrev pub DoneIsPiped : Type 0
+DoneIsPiped = (setup : SetupData) (outcome : List ℕ → JobRecord → Outcome) (batch : ℕ) (calls : List LaneCall) (how : How)
+    (n : ℕ) (s : State) (entries : History)
+    → CanOpen setup.pool setup.slots setup.per_slot → AreHeardCalls setup.pool pipe_conn calls → RisesFrom n calls
+    → Does (running batch calls how) (served setup outcome) (opening setup.pool setup.slots setup.per_slot) s entries
+    → (lacking : Lacking setup outcome entries) × (piped setup outcome batch calls how lacking.lacks ≡ run_at s entries)
+
+-- and what was begun is a front of its history
+abbrev pub BegunIsPiped : Type 0
+BegunIsPiped = (setup : SetupData) (outcome : List ℕ → JobRecord → Outcome) (batch : ℕ) (calls : List LaneCall) (how : How)
+    (n : ℕ) (entries : History)
+    → CanOpen setup.pool setup.slots setup.per_slot → AreHeardCalls setup.pool pipe_conn calls → RisesFrom n calls
+    → Began (running batch calls how) (served setup outcome) (opening setup.pool setup.slots setup.per_slot) entries
+    → (lacking : Lacking setup outcome entries) × (more : History)
+    × ((piped setup outcome batch calls how lacking.lacks).history ≡ entries ++ more)

@@ -20,7 +20,7 @@ pub use collects::{PIPE_CONN, collect, collect_all, settle};
 pub use course::Course;
 pub use feeding::feed;
 pub use groups::{end_run, take_call};
-pub use laws::runs_are_piped;
+pub use laws::{runs_are_piped, what_is_done_is_piped};
 pub use log::{Log, Noted};
 pub use opening::open;
 pub use runs::run_calls;

@@ -4,3 +4,9 @@ pub mod OneTurn
 pub mod Rests
 pub mod Folds
 pub mod Standing
+pub mod Lacks
+pub mod Once
+pub mod Making
+pub mod Rising
+pub mod Taking
+pub mod Beginning

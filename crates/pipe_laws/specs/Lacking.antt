@@ -5,7 +5,7 @@ use Rattle.orb_base.specs.JobRecord.{JobRecord}
 use Rattle.orb_base.specs.Outcomes.{no_memory}
 use Rattle.orb_base.specs.declared.outcome.Outcome.{Outcome}
 use Rattle.lane_machine.specs.declared.call.LaneCall.{LaneCall}
-use Rattle.lane_machine.specs.declared.call.LaneCall.TheVariants.{Offer, Post, Cancel, Take, Finish, Collect, End, Leave}
+use Rattle.lane_machine.specs.declared.call.LaneCall.TheVariants.{Finish}
 use Rattle.lane_machine.specs.Histories.{History}
 use Rattle.adapter_policies.specs.SetupData.{SetupData}
 use Rattle.pipe_laws.specs.Setup.{interface_of}
@@ -14,13 +14,7 @@ use Rattle.pipe_laws.specs.Piped.{answer_of}
 -- the servant gives the answer of this call, if it is one that answers
 abbrev pub agrees_at : (JobRecord → Outcome) → LaneCall → Type 0
 agrees_at servant (Finish _ answer) = servant answer.job ≡ answer.outcome
-agrees_at servant (Offer _) = Unit {0}
-agrees_at servant (Post _) = Unit {0}
-agrees_at servant (Cancel _ _) = Unit {0}
-agrees_at servant (Take _) = Unit {0}
-agrees_at servant (Collect _) = Unit {0}
-agrees_at servant (End _ _) = Unit {0}
-agrees_at servant (Leave _) = Unit {0}
+agrees_at servant _ = Unit {0}
 
 -- the servant gives each answer of these entries
 abbrev pub Agrees : (JobRecord → Outcome) → History → Type 0
@@ -30,13 +24,7 @@ Agrees servant (e ∷ es) = agrees_at servant e.call × Agrees servant es
 -- an answer is the outcome, or tells of want of memory
 abbrev pub came_at : (JobRecord → Outcome) → LaneCall → Type 0
 came_at outcome (Finish _ answer) = (answer.outcome ≡ outcome answer.job) ⊎ (answer.outcome ≡ no_memory)
-came_at outcome (Offer _) = Unit {0}
-came_at outcome (Post _) = Unit {0}
-came_at outcome (Cancel _ _) = Unit {0}
-came_at outcome (Take _) = Unit {0}
-came_at outcome (Collect _) = Unit {0}
-came_at outcome (End _ _) = Unit {0}
-came_at outcome (Leave _) = Unit {0}
+came_at outcome _ = Unit {0}
 
 -- each answer of these entries is
 abbrev pub HasAnswers : (JobRecord → Outcome) → History → Type 0
@@ -50,13 +38,7 @@ served setup outcome job = outcome (interface_of setup job.target) job
 -- the call finishes no job of this serial
 abbrev pub apart_at : ℕ → LaneCall → Type 0
 apart_at n (Finish _ answer) = ¬ (answer.job.serial ≡ n)
-apart_at n (Offer _) = Unit {0}
-apart_at n (Post _) = Unit {0}
-apart_at n (Cancel _ _) = Unit {0}
-apart_at n (Take _) = Unit {0}
-apart_at n (Collect _) = Unit {0}
-apart_at n (End _ _) = Unit {0}
-apart_at n (Leave _) = Unit {0}
+apart_at n _ = Unit {0}
 
 -- no call of these entries does
 abbrev pub Apart : ℕ → History → Type 0
@@ -66,13 +48,7 @@ Apart n (e ∷ es) = apart_at n e.call × Apart n es
 -- what the call finishes is not finished again
 abbrev pub once_at : LaneCall → History → Type 0
 once_at (Finish _ answer) es = Apart answer.job.serial es
-once_at (Offer _) es = Unit {0}
-once_at (Post _) es = Unit {0}
-once_at (Cancel _ _) es = Unit {0}
-once_at (Take _) es = Unit {0}
-once_at (Collect _) es = Unit {0}
-once_at (End _ _) es = Unit {0}
-once_at (Leave _) es = Unit {0}
+once_at _ es = Unit {0}
 
 -- no serial is finished twice
 abbrev pub FinishesOnce : History → Type 0

@@ -6,3 +6,5 @@ pub mod Legality
 pub mod Reached
 pub mod Calm
 pub mod Lacking
+pub mod Serials
+pub mod Begun

@@ -9,6 +9,9 @@ ghost use Rattle.adapter_policies.specs.SetupData.{SetupData};
 ghost use Rattle.pipe_laws.specs.Piped.{IsReplayed, piped};
 ghost use Rattle.pipe_laws.specs.Groups.{GroupsAreFolded, FoldsGoOn};
 ghost use Rattle.pipe_laws.specs.Legality.{PipedIsLegal, PipedOwesNothing, PipedIsDone};
+ghost use Rattle.pipe_laws.specs.Begun.{BegunTellsLacks};
+ghost use Rattle.pipe_laws.specs.Lacking.{LacksAreThere};
+ghost use Rattle.pipe_laws.specs.Serials.{OfferedFinishesOnce, PipedMakesCalls, CountingRises, RisingOffersOnce, PipedTakesOnce};
 
 /// A run of the pipe, over any setup, servants, calls and groups, stands where its history leads.
 pub fn piped_is_replayed()
@@ -36,4 +39,44 @@ pub fn piped_is_done()
 pub fn groups_are_folded()
     ensures same { GroupsAreFolded }
     ensures more { FoldsGoOn }
+{}
+
+/// In a legal history from an opening, whose requests are one connection's and have serial numbers that differ, no request
+/// is finished twice.
+pub fn offered_finishes_once()
+    ensures { OfferedFinishesOnce }
+{}
+
+/// Where each answer is the outcome of its request, or tells of want of memory, and no request is finished twice, there are
+/// serial numbers with which the servants of `piped` give these answers.
+pub fn lacks_are_there()
+    ensures { LacksAreThere }
+{}
+
+/// A run of the pipe makes its calls in order: all of them, unless one was answered Closing.
+pub fn piped_makes_calls()
+    ensures { PipedMakesCalls }
+{}
+
+/// Serial numbers that count the calls rise.
+pub fn counting_rises()
+    ensures { CountingRises }
+{}
+
+/// A history that made a front of calls whose serial numbers rise offered no request twice.
+pub fn rising_offers_once()
+    ensures { RisingOffersOnce }
+{}
+
+/// With serial numbers that rise, each request that a run of the pipe admitted and did not remove was taken once and
+/// finished once.
+pub fn piped_takes_once()
+    ensures { PipedTakesOnce }
+{}
+
+/// What was done from the opening of a setup on tells the serial numbers of the requests to which memory was wanting, if it
+/// is legal, each answer is the outcome or tells of that want, and whatever front of it the servants of a run of the pipe
+/// give, that run begins so. The serial numbers of the calls rise.
+pub fn begun_tells_lacks()
+    ensures { BegunTellsLacks }
 {}
