@@ -1,3 +1,4 @@
 pub mod Values
 pub mod Declared
 pub mod Whole
+pub mod Accepted

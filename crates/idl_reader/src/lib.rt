@@ -8,9 +8,15 @@
 mod copies;
 mod declaring;
 mod interfaces;
+mod laws;
 mod reader;
 
+pub use laws::{texts_give_earlier_bases, texts_give_new_ids, texts_leave_room};
 pub use reader::read_idl;
 
+#[cfg(test)]
+mod accepted_tests;
+#[cfg(test)]
+mod fault_tests;
 #[cfg(test)]
 mod tests;
