@@ -11,7 +11,7 @@ use Rattle.lane_machine.specs.declared.call.LaneCall.TheVariants.{Offer, Post, C
 use Rattle.lane_machine.specs.declared.call.LaneReply.{LaneReply}
 use Rattle.lane_machine.specs.State.{State}
 use Rattle.orb_base.specs.Conn.{same_conn}
-use Rattle.lane_machine.specs.Machine.{item_place}
+use Rattle.lane_machine.specs.Machine.{step, item_place}
 use Rattle.lane_machine.specs.Readiness.{is_ready, IsSound, owed}
 use Rattle.lane_machine.specs.Histories.{History}
 use Rattle.text_streams.specs.Streams.{WroteText, WroteFrontOf}
