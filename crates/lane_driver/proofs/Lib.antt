@@ -7,4 +7,5 @@ pub mod Grow
 pub mod Items
 pub mod Calls
 pub mod FedCalls
+pub mod TwoReads
 pub mod Whole

@@ -2,8 +2,7 @@
 use Rattle.std.proofs.Common.{◌≡◌, ℕ, [], refl, sym, subst}
 use Rattle.orb_base.specs.Pool.{Pool, IsWellFormed}
 use Rattle.lane_machine.specs.State.{State, HasSlots, CanOpen, Opens, opening}
-use Rattle.pipe_laws.specs.Reached.{IsReached}
-use Rattle.pipe_laws.proofs.Standing.{Stands, stands_first, reached}
+use Rattle.pipe_laws.proofs.Standing.{stands_first, reached}
 use Rattle.lane_driver.specs.Driving.{IsBetween}
 
 pub can_open : (pool : Pool) (slots per_slot : ℕ) → IsWellFormed pool → HasSlots slots per_slot → CanOpen pool slots per_slot

@@ -1,5 +1,5 @@
 //! The calls of a read, behind those of earlier reads.
-ghost use Rattle.std.specs.Prelude.{◌≡◌, ◌≤◌, ◌==◌, ◌++◌, if◌then◌else◌, IfOk};
+ghost use Rattle.std.specs.Prelude.{◌≡◌, ◌≤◌, ◌==◌, if◌then◌else◌, IfOk};
 ghost use Rattle.pipe_laws.specs.Setup.{pipe_conn};
 ghost use Rattle.pipe_laws.specs.Legality.{AreHeardCalls};
 ghost use Rattle.lane_driver.specs.Driving.{IsBetween};

@@ -1,5 +1,5 @@
 //! The history of a run, where it is wanted.
-ghost use Rattle.std.specs.Prelude.{◌≡◌, ◌∷◌, ◌++◌, [], option_map, OnOk, None, Some};
+ghost use Rattle.std.specs.Prelude.{◌≡◌, ◌∷◌, [], option_map, OnOk, None, Some};
 ghost use Rattle.lane_machine.specs.Histories.{History};
 ghost use Rattle.lane_driver.specs.Driving.{entry, Logged};
 

@@ -1,7 +1,6 @@
 //! Runs over setups in memory: who ran what, and what was written.
 ghost use Rattle.std.specs.Prelude.{[], IfOk};
 ghost use Rattle.orb_base.specs.declared.outcome.Outcome.TheVariants.{Returned};
-ghost use Rattle.lane_machine.specs.declared.call.LaneCall.TheVariants.{Offer};
 ghost use Rattle.pipe_laws.specs.Setup.{pipe_conn};
 ghost use Rattle.pipe_laws.specs.Legality.{IsHeardCall, AreHeardCalls};
 
@@ -115,8 +114,8 @@ fn offer(
 }
 
 /// An answer of the reading side to the id 9.
-fn post(what: What) -> LaneCall
-    ensures { IsHeardCall pool pipe_conn result }
+fn post(setup: &Setup, what: What) -> LaneCall
+    ensures { IsHeardCall setup.now.pool pipe_conn result }
 {
     LaneCall::Post(Notice {
         conn: PIPE_CONN,
@@ -215,7 +214,7 @@ fn a_run_closes_at_its_limit(rt: HostRuntime) -> Result<(), Fail> {
     let calls = [
         offer(&rt, alloc, &setup, 0, 0, 0)?,
         offer(&rt, alloc, &setup, 1, 0, 0)?,
-        post(What::Bound),
+        post(&setup, What::Bound),
     ];
     let (course, ran, written) = run(&rt, alloc, &setup, 1, &[], &calls, How::Quiet)?;
     assert_eq!(rt; course, Course::Whole);
@@ -236,8 +235,8 @@ fn a_cancelled_request_never_runs(rt: HostRuntime) -> Result<(), Fail> {
         offer(&rt, alloc, &setup, 0, 0, 1)?,
         offer(&rt, alloc, &setup, 1, 0, 1)?,
         LaneCall::Cancel { conn, id: 1 },
-        post(What::Located(true)),
-        post(What::Addressing),
+        post(&setup, What::Located(true)),
+        post(&setup, What::Addressing),
     ];
     let (_, ran, written) = run(&rt, alloc, &setup, 8, &[], &calls, How::Quiet)?;
     assert!(rt; ran.as_slice() == [(0, 0)].as_slice());
