@@ -1,5 +1,6 @@
 //! The opening of a run.
 ghost use Rattle.std.specs.Prelude.{◌≡◌, IfOk};
+ghost use Rattle.orb_base.specs.Pool.{IsWellFormed};
 ghost use Rattle.lane_machine.specs.State.{HasSlots, opening};
 ghost use Rattle.lane_driver.specs.Driving.{IsBetween};
 
@@ -14,6 +15,7 @@ pub fn open(alloc: Global, setup: &Setup) -> Result<Lanes, NoMemory>
     requires { HasSlots setup.now.slots setup.now.per_slot }
     ensures value { IfOk result (λ lanes. lanes ≡ opening setup.now.pool setup.now.slots setup.now.per_slot) }
     ensures between { IfOk result IsBetween }
+    ensures well_formed { IsWellFormed setup.now.pool }
 {
     Lanes::new(alloc, setup.pool(), setup.slots(), setup.per_slot())
 }

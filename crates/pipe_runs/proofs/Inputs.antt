@@ -2,7 +2,7 @@
 use Rattle.std.proofs.Common.{◌≡◌, ◌⊎◌, inl, inr, ℕ, Bool, true, false, List, ◌++◌, Option, Result, Ok, Err, refl, sym, ap, ◌∙◌, subst}
 use Rattle.std.specs.Prelude.{option_map}
 use Rattle.orb_base.specs.JobRecord.{JobRecord}
-use Rattle.orb_base.specs.Outside.{SinkState}
+use Rattle.orb_base.specs.Outside.{SinkState, Rose}
 use Rattle.orb_base.specs.Pool.{IsWellFormed}
 use Rattle.orb_base.specs.declared.outcome.Outcome.{Outcome}
 use Rattle.lane_machine.specs.declared.call.How.{How}
@@ -24,7 +24,7 @@ use Rattle.lane_driver.proofs.Opened.{can_open}
 use Rattle.lane_driver.proofs.Whole.{done_is_piped, begun_is_piped}
 use Rattle.heard_calls.specs.Input.{HearsInput}
 use Rattle.heard_calls.specs.declared.ending.Ending.{Ending}
-use Rattle.pipe_runs.specs.Runs.{RanWhole, RanFront, how_of}
+use Rattle.pipe_runs.specs.Runs.{RanWhole, RanFront, Runs, end_of, how_of}
 use Rattle.pipe_runs.proofs.HeardCalls.{heard_ones}
 
 -- the calls of an input are those of the reading side
@@ -82,3 +82,44 @@ ran_front setup outcome batch input calls ending out out' well slots heard began
       begins = is.2;
       wrote = began.wrote;
     }
+
+-- what the driver's answer says of the input
+abbrev pub Driven : {E : Type 0} → Result Course E → SetupData → (List ℕ → JobRecord → Outcome) → ℕ → List ℕ → Ending → State
+    → Option History → Option History → SinkState → SinkState → Type 0
+Driven (Ok Whole) setup outcome batch input ending s' log log' out out' =
+    RanWhole setup outcome batch input ending s'.closing log log' out out' × (out'.faults ≡ out.faults)
+Driven (Ok Stopped) setup outcome batch input ending s' log log' out out' = RanFront setup outcome batch input out out' × Rose out.faults out'.faults
+Driven (Err _) setup outcome batch input ending s' log log' out out' = RanFront setup outcome batch input out out'
+
+driven_by : {E : Type 0} (result : Result Course E) (setup : SetupData) (outcome : List ℕ → JobRecord → Outcome) (batch : ℕ) (input : List ℕ) (calls : List LaneCall) (ending : Ending) (s' : State)
+    (log log' : Option History) (out out' : SinkState) → IsWellFormed setup.pool → HasSlots setup.slots setup.per_slot → HearsInput setup pipe_conn input calls ending
+    → Drives result (running batch calls (how_of ending)) (served setup outcome) (first setup) s' log log' out out'
+    → Driven result setup outcome batch input ending s' log log' out out'
+driven_by (Ok Whole) setup outcome batch input calls ending s' log log' out out' well slots heard d =
+    (ran_whole setup outcome batch input calls ending s' log log' out out' well slots heard d.0, d.1)
+driven_by (Ok Stopped) setup outcome batch input calls ending s' log log' out out' well slots heard d =
+    (ran_front setup outcome batch input calls ending out out' well slots heard (record { entries = d.0.entries; begins = d.0.begins; wrote = d.0.wrote }), d.1)
+driven_by (Err e) setup outcome batch input calls ending s' log log' out out' well slots heard d =
+    ran_front setup outcome batch input calls ending out out' well slots heard d
+
+-- the same where calls, how the connection ends, and the state are known to be those
+pub driven : {E : Type 0} (result : Result Course E) (setup : SetupData) (outcome : List ℕ → JobRecord → Outcome) (batch : ℕ) (input : List ℕ) (calls made : List LaneCall) (ending : Ending) (how : How)
+    (s s' : State) (log log' : Option History) (out out' : SinkState) → IsWellFormed setup.pool → HasSlots setup.slots setup.per_slot → HearsInput setup pipe_conn input calls ending
+    → made ≡ calls → how ≡ how_of ending → s ≡ first setup
+    → Drives result (running batch made how) (served setup outcome) s s' log log' out out'
+    → Driven result setup outcome batch input ending s' log log' out out'
+driven result setup outcome batch input calls made ending how s s' log log' out out' well slots heard same ends opens d =
+    driven_by result setup outcome batch input calls ending s' log log' out out' well slots heard
+    (subst (λ (x : State). Drives result (running batch calls (how_of ending)) (served setup outcome) x s' log log' out out') opens
+    (subst (λ (h : How). Drives result (running batch calls h) (served setup outcome) s s' log log' out out') ends
+    (subst (λ (cs : List LaneCall). Drives result (running batch cs how) (served setup outcome) s s' log log' out out') same d)))
+
+-- the end of a run whose calls were all made, or dropped
+pub whole_comes : (setup : SetupData) (outcome : List ℕ → JobRecord → Outcome) (batch : ℕ) (input : List ℕ) (ending : Ending) (s' : State) (b : Bool)
+    (log log' : Option History) (out out' : SinkState) → s'.closing ≡ b
+    → RanWhole setup outcome batch input ending s'.closing log log' out out' × (out'.faults ≡ out.faults)
+    → Runs {E = ⊥} (Ok (end_of b ending)) setup outcome batch input log log' out out'
+whole_comes setup outcome batch input ending s' true log log' out out' is h =
+    ((ending, subst (λ (x : Bool). RanWhole setup outcome batch input ending x log log' out out') is h.0), h.1)
+whole_comes setup outcome batch input ending s' false log log' out out' is h =
+    (subst (λ (x : Bool). RanWhole setup outcome batch input ending x log log' out out') is h.0, h.1)
