@@ -43,7 +43,17 @@ pub fn run_input<O: Sink, S: Serving>(
     let heard = hear_input(alloc, setup, PIPE_CONN, input)?;
     let mut lanes = open(alloc, setup)?;
     let calls = heard.calls.as_slice();
-    match run_calls(alloc, &mut lanes, log, sink, setup, servants, batch, calls, how_of(heard.ending))? {
+    match run_calls(
+        alloc,
+        &mut lanes,
+        log,
+        sink,
+        setup,
+        servants,
+        batch,
+        calls,
+        how_of(heard.ending),
+    )? {
         Course::Whole => Ok(end_of(&lanes, heard.ending)),
         Course::Stopped => Ok(InputEnd::WriteFault),
     }
