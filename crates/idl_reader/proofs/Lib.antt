@@ -24,3 +24,4 @@ pub mod Measured
 pub mod FileLeaves
 pub mod CountedThings
 pub mod RoomLeft
+pub mod SmallThings

@@ -1,8 +1,10 @@
 -- What a repository asks of one more thing, of the things that texts declare.
-use Rattle.std.specs.Prelude.{◌≡◌, ℕ, ◌+◌, nat_le, true, false, List, [], ◌∷◌, ◌++◌}
-use Rattle.idl_types.specs.Things.{Thing, id_of}
+use Rattle.std.specs.Prelude.{◌≡◌, ℕ, ◌+◌, ◌&&◌, nat_le, Bool, true, false, List, [], ◌∷◌, ◌++◌}
+use Rattle.cdr_values.specs.Trees.{members_of}
+use Rattle.idl_types.specs.Things.{Thing, constant, named, exception, interface, id_of}
+use Rattle.idl_types.specs.Counting.{leaves_of, levels_of, leaves_of_members, levels_of_members}
 use Rattle.idl_types.specs.Declaring.{is_new}
-use Rattle.idl_types.specs.Sound.{is_reserved, has_bases_in, counted_leaves, file_leaves, most_file_leaves}
+use Rattle.idl_types.specs.Sound.{is_reserved, has_bases_in, counted_leaves, file_leaves, most_leaves, most_levels, most_file_leaves}
 use Rattle.idl_reader.specs.Whole.{Declares}
 
 -- so of each thing with those before it, behind these things
@@ -21,6 +23,17 @@ IsNew before t = (is_new before t ≡ true) × (is_reserved (id_of t) ≡ false)
 -- its bases are interfaces among those before it
 abbrev pub HasEarlierBases : List Thing → Thing → Type 0
 HasEarlierBases before t = has_bases_in before t ≡ true
+
+-- no more leaves and levels than a type may have
+abbrev pub is_small : ℕ → ℕ → Bool
+is_small leaves levels = nat_le leaves most_leaves && nat_le levels most_levels
+
+-- the type of a constant and a named type have no more than they may, and so do the members of an exception
+abbrev pub HasSmallTypes : List Thing → Thing → Type 0
+HasSmallTypes before (constant c) = is_small (leaves_of c.kind) (levels_of c.kind) ≡ true
+HasSmallTypes before (named t) = is_small (leaves_of t.kind) (levels_of t.kind) ≡ true
+HasSmallTypes before (exception e) = is_small (leaves_of_members (members_of e.members)) (levels_of_members (members_of e.members)) ≡ true
+HasSmallTypes before (interface i) = Unit {0}
 
 -- with it the file has no more leaves than it may
 abbrev pub HasLeavesLeft : List Thing → Thing → Type 0
