@@ -24,4 +24,5 @@ pub mod Measured
 pub mod FileLeaves
 pub mod CountedThings
 pub mod RoomLeft
+pub mod SmallOperations
 pub mod SmallThings

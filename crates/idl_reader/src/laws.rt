@@ -11,7 +11,7 @@ pub fn texts_give_earlier_bases()
     ensures { TextsGive HasEarlierBases }
 {}
 
-/// Each type, constant and exception that a text declares has at most 65,536 leaves and 64 levels.
+/// Each type, constant, exception, result and parameter that a text declares has at most 65,536 leaves and 64 levels.
 pub fn texts_give_small_types()
     ensures { TextsGive HasSmallTypes }
 {}
