@@ -26,3 +26,5 @@ pub mod CountedThings
 pub mod RoomLeft
 pub mod SmallOperations
 pub mod SmallThings
+pub mod ParamsApart
+pub mod ApartThings

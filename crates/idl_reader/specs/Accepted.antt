@@ -1,8 +1,9 @@
 -- What a repository asks of one more thing, of the things that texts declare.
-use Rattle.std.specs.Prelude.{◌≡◌, ℕ, ◌+◌, ◌&&◌, nat_le, Bool, true, false, List, [], ◌∷◌, ◌++◌, Option, Some, None}
+use Rattle.std.specs.Prelude.{◌≡◌, ℕ, ◌+◌, ◌&&◌, nat_le, Bool, true, false, List, [], ◌∷◌, ◌++◌, map, Option, Some, None}
 use Rattle.std.specs.List.{list_all}
 use Rattle.cdr_values.specs.Trees.{Kind, members_of}
-use Rattle.idl_types.specs.Things.{OperationView, Thing, constant, named, exception, interface, id_of}
+use Rattle.idl_types.specs.Things.{OperationView, Thing, constant, named, exception, interface, id_of, operations_of}
+use Rattle.idl_types.specs.Apart.{are_apart}
 use Rattle.idl_types.specs.Counting.{leaves_of, levels_of, leaves_of_members, levels_of_members}
 use Rattle.idl_types.specs.Declaring.{is_new}
 use Rattle.idl_types.specs.Sound.{is_reserved, has_bases_in, counted_leaves, file_leaves, most_leaves, most_levels, most_file_leaves}
@@ -45,6 +46,14 @@ HasSmallTypes before (constant c) = is_small (leaves_of c.kind) (levels_of c.kin
 HasSmallTypes before (named t) = is_small (leaves_of t.kind) (levels_of t.kind) ≡ true
 HasSmallTypes before (exception e) = is_small (leaves_of_members (members_of e.members)) (levels_of_members (members_of e.members)) ≡ true
 HasSmallTypes before (interface i) = list_all has_small_types i.operations ≡ true
+
+-- the parameters of an operation are told apart, case aside
+abbrev pub has_params_apart : OperationView → Bool
+has_params_apart o = are_apart (map (λ p. p.name) o.params)
+
+-- so of each of its operations
+abbrev pub HasParamsApart : List Thing → Thing → Type 0
+HasParamsApart before t = list_all has_params_apart (operations_of t) ≡ true
 
 -- with it the file has no more leaves than it may
 abbrev pub HasLeavesLeft : List Thing → Thing → Type 0
