@@ -16,7 +16,7 @@ use Rattle.idl_types.specs.Counting.{leaves_of, leaves_of_members}
 use Rattle.idl_scopes.specs.Finding.{module_in}
 use Rattle.idl_names.specs.Each.{and_new, and_each}
 use Rattle.idl_names.specs.Sizes.{Sized, most, plus, leaf}
-use Rattle.idl_names.specs.State.{Thing, nothing, interface, type, exception, constant, enumerator, operations, Built, nothing_built}
+use Rattle.idl_names.specs.State.{Thing, nothing, interface, type, exception, constant, enumerator, operations, Parts, Built, nothing_built}
 use Rattle.idl_names.specs.Changes.{Done, leave, newest, opened, thing_in, place_at}
 use Rattle.idl_names.specs.Bodies as bodies
 use Rattle.idl_names.specs.Interfaces.{operations_in, operations_from, inherited, leaves_from, operation_leaves, attribute_of, operation_read}
@@ -382,7 +382,7 @@ counted_alone l.EndConst m n e s c w h a k = absurd (none-some n e)
 counted_alone l.EndOperation inside n e s c w h a k =
     let d = operation_ends s c a in
     subst (λ (z : Spot). CountedAt z c) (same_Some outside n e)
-    (ended_counted (plus d.read.parts.leaves 1) d.around (opened s) (plus s.parts.leaves 1) _ s c d.things d.counts (ap (λ (i : ℕ). plus i 1) d.read_leaves) w.1.there k h)
+    (ended_counted (plus d.read.parts.leaves 1) d.around (opened s) (plus s.parts.leaves 1) _ s c d.things d.counts (ap (λ (p : Parts). plus p.leaves 1) d.read_parts) w.1.there k h)
 counted_alone l.EndOperation m n e s c w h a k = absurd (none-some n e)
 counted_alone label m n e s c w h a k = subst (λ (z : Spot). CountedAt z c) (same_Some m n e) (counted_quiet m s c (quiet_judge label s refl c a) k h)
 

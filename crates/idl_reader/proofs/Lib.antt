@@ -24,3 +24,7 @@ pub mod Measured
 pub mod FileLeaves
 pub mod CountedThings
 pub mod RoomLeft
+pub mod SmallOperations
+pub mod SmallThings
+pub mod ParamsApart
+pub mod ApartThings

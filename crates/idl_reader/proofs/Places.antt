@@ -120,7 +120,7 @@ goes_within r m = Some m
 
 -- the modes of IDL
 abbrev pub spots : Modes idl
-spots = record { Mode = Spot; same = same_spot; same_is = spot_is; at = goes_at; alone = goes_alone; within = goes_within }
+spots = record { Mode = Spot; below = same_spot; at = goes_at; alone = goes_alone; within = goes_within }
 
 -- what stands in brackets leads there
 inside_after : (r : Inner) (m n : Spot) → goes_within r m ≡ Some n → after idl spots (idl.inside r) m ≡ Some n
@@ -175,8 +175,11 @@ module _ (I : Spot → Built → Type 0)
       let q = only_at_names (declares label) (is_name k) (goes label m) n e in
       h_at label m n q.0 t (λ d. p (ap is_name ((idl_plain act judge).rules.same_is t.kind k same) ∙ q.1 d)) s c i a
 
+  only_same : (m n : Spot) → same_spot m n ≡ true → (s : Built) → I m s → I n s
+  only_same m n e s i = subst (λ (k : Spot). I k s) (spot_is m n e) i
+
   -- what each label keeps so is so behind a text
   pub text_keeps : I outside nothing_built → (text : List ℕ) (new : Built) → Declares text new → I outside new
   text_keeps i text new w =
-      rule_leads idl spots IsPlainName I at_kind h_alone (SpelledInner idl 64) (inner_leads idl spots IsPlainName I at_kind h_alone inside_after 64) file outside outside refl
+      rule_leads idl spots IsPlainName I only_same at_kind h_alone (SpelledInner idl 64) (inner_leads idl spots IsPlainName I only_same at_kind h_alone inside_after 64) file outside outside refl
       w.marks w.is (subst (EachToken IsPlainName) w.tokens_are (plain_names text)) nothing_built new i w.acts_are

@@ -215,7 +215,7 @@ pub record EndsOperation (s c : Built) : Type 0 where
   pub read : Built
   pub things : c.things ≡ set (gained around (opened s) s.things) (opened s) (interfaces.operation_read read)
   pub bases : c.parts.bases ≡ []
-  pub read_leaves : read.parts.leaves ≡ s.parts.leaves
+  pub read_parts : read.parts ≡ s.parts
   pub counts : Counts (plus s.parts.leaves 1) s c
 
 counted_parts : (n : ℕ) (p : Place) (s : Built) → Gives (λ x. x.parts ≡ s.parts) (counted n p s)
@@ -237,7 +237,7 @@ operation_ends s c e =
       things = ap (λ (ts : List Thing). set (gained (outer x.scopes x.here - 1) (opened x) ts) (opened x) (interfaces.operation_read x)) (sym q.0.things)
           ∙ ap (λ (i : ℕ). set (gained (outer x.scopes x.here - 1) i s.things) i (interfaces.operation_read x)) (opened_same s x q.0);
       bases = refl;
-      read_leaves = ap (λ (z : Parts). z.leaves) same;
+      read_parts = same;
       counts = counts_as n s x _ q.1 refl;
     }) c m.2
 

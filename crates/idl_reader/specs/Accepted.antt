@@ -1,8 +1,12 @@
 -- What a repository asks of one more thing, of the things that texts declare.
-use Rattle.std.specs.Prelude.{◌≡◌, ℕ, ◌+◌, nat_le, true, false, List, [], ◌∷◌, ◌++◌}
-use Rattle.idl_types.specs.Things.{Thing, id_of}
+use Rattle.std.specs.Prelude.{◌≡◌, ℕ, ◌+◌, ◌&&◌, nat_le, Bool, true, false, List, [], ◌∷◌, ◌++◌, map, Option, Some, None}
+use Rattle.std.specs.List.{list_all}
+use Rattle.cdr_values.specs.Trees.{Kind, members_of}
+use Rattle.idl_types.specs.Things.{OperationView, Thing, constant, named, exception, interface, id_of, operations_of}
+use Rattle.idl_types.specs.Apart.{are_apart}
+use Rattle.idl_types.specs.Counting.{leaves_of, levels_of, leaves_of_members, levels_of_members}
 use Rattle.idl_types.specs.Declaring.{is_new}
-use Rattle.idl_types.specs.Sound.{is_reserved, has_bases_in, counted_leaves, file_leaves, most_file_leaves}
+use Rattle.idl_types.specs.Sound.{is_reserved, has_bases_in, counted_leaves, file_leaves, most_leaves, most_levels, most_file_leaves}
 use Rattle.idl_reader.specs.Whole.{Declares}
 
 -- so of each thing with those before it, behind these things
@@ -21,6 +25,35 @@ IsNew before t = (is_new before t ≡ true) × (is_reserved (id_of t) ≡ false)
 -- its bases are interfaces among those before it
 abbrev pub HasEarlierBases : List Thing → Thing → Type 0
 HasEarlierBases before t = has_bases_in before t ≡ true
+
+-- no more leaves and levels than a type may have
+abbrev pub is_small : ℕ → ℕ → Bool
+is_small leaves levels = nat_le leaves most_leaves && nat_le levels most_levels
+
+-- a result, where there is one
+abbrev pub is_small_result : Option Kind → Bool
+is_small_result None = true
+is_small_result (Some k) = is_small (leaves_of k) (levels_of k)
+
+-- the result and the parameters of an operation
+abbrev pub has_small_types : OperationView → Bool
+has_small_types o = is_small_result o.result && list_all (λ p. is_small (leaves_of p.kind) (levels_of p.kind)) o.params
+
+-- the type of a constant, a named type and the types of operations have no more than they may, and so do the members of an
+-- exception
+abbrev pub HasSmallTypes : List Thing → Thing → Type 0
+HasSmallTypes before (constant c) = is_small (leaves_of c.kind) (levels_of c.kind) ≡ true
+HasSmallTypes before (named t) = is_small (leaves_of t.kind) (levels_of t.kind) ≡ true
+HasSmallTypes before (exception e) = is_small (leaves_of_members (members_of e.members)) (levels_of_members (members_of e.members)) ≡ true
+HasSmallTypes before (interface i) = list_all has_small_types i.operations ≡ true
+
+-- the parameters of an operation are told apart, case aside
+abbrev pub has_params_apart : OperationView → Bool
+has_params_apart o = are_apart (map (λ p. p.name) o.params)
+
+-- so of each of its operations
+abbrev pub HasParamsApart : List Thing → Thing → Type 0
+HasParamsApart before t = list_all has_params_apart (operations_of t) ≡ true
 
 -- with it the file has no more leaves than it may
 abbrev pub HasLeavesLeft : List Thing → Thing → Type 0

@@ -132,9 +132,9 @@ fn each_cause_stands_at_its_token(rt: HostRuntime) -> Result<(), Fail> {
             8,
         ),
         (
-            "typedef octet A[65536],B[65536],C[65536],D[65536],E[65536],F[65536],G[65536],H[65536],I[65536],J[65536],K[65536],L[65536],M[65536],N[65536],O[65536],P[65536];\nconst long x = 1;",
+            "typedef octet A[65536];\ntypedef A B, C, D, E, F, G, H, I, J, K, L, M, N, O, P;\nconst long x = 1;",
             IdlCause::TooLarge,
-            2,
+            3,
             12,
         ),
     ];

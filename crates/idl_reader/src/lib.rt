@@ -11,7 +11,10 @@ mod interfaces;
 mod laws;
 mod reader;
 
-pub use laws::{texts_give_earlier_bases, texts_give_new_ids, texts_leave_room};
+pub use laws::{
+    texts_give_apart_params, texts_give_earlier_bases, texts_give_new_ids, texts_give_small_types,
+    texts_leave_room,
+};
 pub use reader::read_idl;
 
 #[cfg(test)]
