@@ -3,7 +3,7 @@ use Rattle.std.proofs.Common.{◌≡◌, ◌∙◌, List, [], ◌∷◌, Ok, Err
 use Rattle.std.specs.Prelude.{Option, None}
 use Rattle.idl_types.specs.declared.type_ref.TypeRef.{TypeRef}
 use Rattle.servant_scripts.specs.declared.phrase.At.{At}
-use Rattle.servant_scripts.specs.Trees.{Said, said, Shape, place_of}
+use Rattle.servant_scripts.specs.Trees.{Said, place_of}
 use Rattle.servant_scripts.specs.Views.{Joint, operator, member, joint, spine}
 use Rattle.script_checks.specs.Scene.{Scene, Var, Typed, Checks, ◌>>=◌}
 use Rattle.script_checks.specs.Checking.{typed}
@@ -24,7 +24,8 @@ module _ (s : Scene) (vs : List Var) where
   nothing_behind at (Ok x) = refl
   nothing_behind at (Err e) = refl
 
-  one_joint : (want : Option TypeRef) (t : Said) (j : Joint) → typed s vs want (joint t j) ≡ (typed s vs None t >>= linked s vs (place_of t) j)
+  one_joint : (want : Option TypeRef) (t : Said) (j : Joint)
+      → typed s vs want (joint t j) ≡ (typed s vs None t >>= linked s vs (place_of t) j)
   unfolding typed
   one_joint want t (operator o b) = refl
   one_joint want t (member p) = refl
@@ -35,7 +36,8 @@ module _ (s : Scene) (vs : List Var) where
       ap (λ (x : Checks Typed). x >>= chained s vs (place_of t) js) (one_joint None t j)
       ∙ at_once (typed s vs None t) (linked s vs (place_of t) j) (chained s vs (place_of t) js)
 
-  behind : (want : Option TypeRef) (t : Said) (j : Joint) (js : List Joint) → typed s vs want (spine t (j ∷ js)) ≡ (typed s vs None t >>= chained s vs (place_of t) (j ∷ js))
+  behind : (want : Option TypeRef) (t : Said) (j : Joint) (js : List Joint)
+      → typed s vs want (spine t (j ∷ js)) ≡ (typed s vs None t >>= chained s vs (place_of t) (j ∷ js))
   behind want t j [] =
       one_joint want t j ∙ sym (one_joint None t j) ∙ nothing_behind (place_of t) (typed s vs None (joint t j)) ∙ two_joints t j []
   behind want t j (k ∷ ks) =

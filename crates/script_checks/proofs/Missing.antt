@@ -8,7 +8,8 @@ use Rattle.script_checks.specs.Scene.{refused}
 use Rattle.script_checks.specs.Servants.{same_names}
 
 -- where no name is left for a parameter, the `)` is at fault
-pub missing : (ks : List Param) (n : ℕ) (close : At) → n < length ks → same_names (map param_of (drop n ks)) [] close ≡ refused cause.ParameterNames close
+pub missing : (ks : List Param) (n : ℕ) (close : At) → n < length ks
+    → same_names (map param_of (drop n ks)) [] close ≡ refused cause.ParameterNames close
 missing [] n close h = grind arith
 missing (k ∷ ks) zero close h = refl
 missing (k ∷ ks) (suc n) close h = missing ks n close (omega arith)

@@ -1,5 +1,5 @@
 -- The parts of trees, written and run.
-use Rattle.std.proofs.Common.{◌≡◌, ◌∙◌, ap, suc, refl, length, ℕ, List, [], ◌∷◌, ◌++◌, map}
+use Rattle.std.proofs.Common.{◌≡◌, ap, suc, refl, length, List, [], ◌∷◌, ◌++◌, map}
 use Rattle.std.proofs.lemmas.List.{length-map}
 use Rattle.cdr_values.specs.declared.kind.Member.{Member}
 use Rattle.cdr_values.specs.Trees.{members_of}
@@ -12,7 +12,7 @@ use Rattle.script_values.specs.declared.tree.Element.{Element}
 use Rattle.script_values.specs.declared.tree.Form.TheFolds.{fold_out-Expr, fold_out-Element}
 use Rattle.script_values.specs.Trees.{Term, Joint, Part, joint, spine}
 use Rattle.script_values.specs.Views.{form_step, link_step, element_step, expr_step, first_of, term_of, joint_of, part_of, joints_view, parts_view}
-use Rattle.script_checks.specs.Checking.{members_len}
+use Rattle.script_checks.specs.Built.{members_len}
 
 -- an expression is its first part with its links
 pub term_is : (ts : List Thing) (e : Expr) → term_of ts e ≡ spine (first_of ts e.form) (joints_view ts e.links.items)
@@ -22,7 +22,8 @@ pub part_is : (ts : List Thing) (e : Element) → part_of ts e ≡ (e.place, kin
 part_is ts e = fold_out-Element Term Joint Part Term form_step link_step (element_step ts) expr_step e
 
 -- one more link behind those that are there
-pub one_link : (ts : List Thing) (t : Term) (ls : List Link) (l : Link) → spine t (joints_view ts (ls ++ l ∷ [])) ≡ joint (spine t (joints_view ts ls)) (joint_of ts l)
+pub one_link : (ts : List Thing) (t : Term) (ls : List Link) (l : Link)
+    → spine t (joints_view ts (ls ++ l ∷ [])) ≡ joint (spine t (joints_view ts ls)) (joint_of ts l)
 one_link ts t [] l = refl
 one_link ts t (k ∷ ls) l = one_link ts (joint t (joint_of ts k)) ls l
 

@@ -1,6 +1,6 @@
 -- The check of statements (own profile). A variable lives from behind its `let` to the end of its block, in the slot that has its place
 -- among those that are alive; the parameters come first. A method has 64 `let` at most.
-use Rattle.std.specs.Prelude.{◌≡◌, ℕ, ◌+◌, ◌&&◌, ◌||◌, nat_lt, Bool, true, false, List, [], ◌∷◌, ◌++◌, length, position, option_to_list, Result, Ok, Err, Option, Some, None, if◌then◌else◌}
+use Rattle.std.specs.Prelude.{ℕ, ◌+◌, ◌&&◌, ◌||◌, nat_lt, Bool, true, false, List, [], ◌∷◌, ◌++◌, length, position, option_to_list, Ok, Option, Some, None, if◌then◌else◌}
 use Rattle.std.specs.Option.{option_map, is_some}
 use Rattle.std.specs.Str.{bytes_eq}
 use Rattle.cdr_values.specs.Trees.{Name, Names, Kind, members_of}
@@ -9,14 +9,15 @@ use Rattle.idl_types.specs.Things.{ExceptionView}
 use Rattle.idl_types.specs.declared.type_ref.TypeRef.{TypeRef}
 use Rattle.servant_scripts.specs.declared.phrase.At.{At}
 use Rattle.servant_scripts.specs.declared.phrase.Part.{Part}
-use Rattle.servant_scripts.specs.Trees.{Scoped, Said, place_of, Say, say_let, say_set, say_if, say_leave, say_return, say_raise, Says, no_says, one_say}
-use Rattle.script_values.specs.Trees.{Term, terms_of, Step, let_be, set, branch, leave, give, raise, steps_of}
+use Rattle.servant_scripts.specs.Trees.{Scoped, place_of, Say, say_let, say_set, say_if, say_leave, say_return, say_raise, Says, no_says, one_say}
+use Rattle.script_values.specs.Trees.{terms_of, Step, let_be, set, branch, leave, give, raise, steps_of}
 use Rattle.script_checks.specs.declared.fault.CheckCause.TheVariants as cause
 use Rattle.script_checks.specs.Kinds.{truth_kind}
 use Rattle.script_checks.specs.Scene.{Scene, Var, Typed, Checks, ◌>>=◌, refused, or_refused, if_holds, find_var}
 use Rattle.script_checks.specs.Dues.{short}
 use Rattle.script_checks.specs.Naming.{exception_named, last_part}
-use Rattle.script_checks.specs.Checking.{typed, given, of_kind, fields, complete}
+use Rattle.script_checks.specs.Built.{complete}
+use Rattle.script_checks.specs.Checking.{typed, given, of_kind, fields}
 
 -- what a method gives: the type of its result, and the ids of the exceptions that it may raise
 pub record Due : Type 0 where
@@ -59,16 +60,20 @@ unfoldable mutual
   -- a statement
   pub line : Scene → Due → List Var → ℕ → Say → Checks Done
   line s d vs lets (say_let at p e) =
-      one_let at lets >>= λ n. new_name vs p >>= λ name. typed s vs None e >>= λ x. Ok (let_be (length vs) x.0, Some (local name x), n)
+      one_let at lets >>= λ n. new_name vs p >>= λ name. typed s vs None e
+      >>= λ x. Ok (let_be (length vs) x.0, Some (local name x), n)
   line s d vs lets (say_set p e) = set_place vs p >>= λ v. given s vs v.1 e >>= λ t. Ok (set v.0 (kind_at s.things v.1) t, None, lets)
   line s d vs lets (say_if c a b) =
       of_kind s vs truth_kind c >>= λ t. lines s d vs lets a [] >>= λ x. lines s d vs x.1 b []
       >>= λ y. Ok (branch t (steps_of x.0) (steps_of y.0), None, y.1)
   line s d vs lets (say_leave at) = leaves_at at d.result >>= λ t. Ok (t, None, lets)
-  line s d vs lets (say_return at e) = or_refused cause.Kind (place_of e) d.result >>= λ due. given s vs due e >>= λ t. Ok (give (kind_at s.things due) t, None, lets)
+  line s d vs lets (say_return at e) =
+      or_refused cause.Kind (place_of e) d.result >>= λ due. given s vs due e
+      >>= λ t. Ok (give (kind_at s.things due) t, None, lets)
   line s d vs lets (say_raise n fs close) =
       exception_named s n >>= λ e. raised_at d.raises n e.1
-      >>= λ i. fields s vs e.0 (members_of e.1.members) fs [] >>= complete (members_of e.1.members) close >>= λ ps. Ok (raise (short i) (terms_of ps), None, lets)
+      >>= λ i. fields s vs e.0 (members_of e.1.members) fs [] >>= complete (members_of e.1.members) close
+      >>= λ ps. Ok (raise (short i) (terms_of ps), None, lets)
 
   -- statements behind those so far, and the number of `let` behind them
   pub lines : Scene → Due → List Var → ℕ → Says → List Step → Checks (List Step × ℕ)

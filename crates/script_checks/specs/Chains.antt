@@ -1,12 +1,13 @@
 -- Chains: what stands behind an expression is checked with what was checked so far.
-use Rattle.std.specs.Prelude.{List, [], ◌∷◌, map, Ok, Option, Some, None}
+use Rattle.std.specs.Prelude.{List, [], ◌∷◌, map, Ok, Option, None}
 use Rattle.idl_types.specs.declared.type_ref.TypeRef.{TypeRef}
 use Rattle.servant_scripts.specs.declared.phrase.At.{At}
 use Rattle.servant_scripts.specs.declared.phrase.Link.{Link}
 use Rattle.servant_scripts.specs.Views.{Joint, operator, member, joint_of}
 use Rattle.script_values.specs.Trees.{binary}
 use Rattle.script_checks.specs.Scene.{Scene, Var, Typed, Checks, ◌>>=◌}
-use Rattle.script_checks.specs.Checking.{asks, of_kind, with_member}
+use Rattle.script_checks.specs.Operators.{asks, with_member}
+use Rattle.script_checks.specs.Checking.{of_kind}
 
 -- one more done to an expression that begins there
 abbrev pub linked : Scene → List Var → At → Joint → Typed → Checks Typed

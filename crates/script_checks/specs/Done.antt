@@ -3,7 +3,6 @@ use Rattle.std.specs.Prelude.{ℕ, List, map, Option}
 use Rattle.std.specs.Option.{option_map}
 use Rattle.idl_types.specs.Things.{Thing, OperationView, InterfaceView}
 use Rattle.idl_types.specs.Views.{operation_of, interface_of}
-use Rattle.idl_types.specs.declared.type_ref.TypeRef.{TypeRef}
 use Rattle.script_values.specs.Trees.{Step, steps_of}
 use Rattle.script_values.specs.Views.{step_of, steps_view}
 use Rattle.script_checks.specs.declared.done.Done.{Done}

@@ -1,8 +1,8 @@
 -- What names in expressions stand for. A single name is a variable first, else an enumerator or a constant as the interface's scope
 -- has it (own profile).
-use Rattle.std.specs.Prelude.{◌≡◌, ℕ, Bool, true, false, List, [], ◌∷◌, slice_get, Result, Ok, Err, Option, Some, None}
+use Rattle.std.specs.Prelude.{ℕ, Bool, false, List, [], ◌∷◌, slice_get, Result, Ok, Err, Option, Some, None}
 use Rattle.std.specs.Option.{option_map}
-use Rattle.cdr_values.specs.Trees.{Name, Scalar, boolean, char, unsigned, signed, enumeration, Kind, scalar, words, sequence, array, structure, union, Members, label}
+use Rattle.cdr_values.specs.Trees.{Kind, scalar, words, sequence, array, structure, union, label}
 use Rattle.idl_types.specs.declared.type_ref.TypeRef.{TypeRef}
 use Rattle.idl_types.specs.Things.{ExceptionView, Thing, constant, named, exception, interface}
 use Rattle.servant_scripts.specs.declared.phrase.At.{At}

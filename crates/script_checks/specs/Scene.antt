@@ -38,7 +38,7 @@ abbrev pub ◌>>=◌ : {A B : Type 0} → Checks A → (A → Checks B) → Chec
 
 -- a fault with its place
 abbrev pub refused : {A : Type 0} → CheckCause → At → Checks A
-refused cause at = Err (record { cause = cause; at = at })
+refused cause at = Err (record { cause = cause; line = at.line; column = at.column })
 
 -- what is there, or the fault that it isn't
 abbrev pub or_refused : {A : Type 0} → CheckCause → At → Option A → Checks A

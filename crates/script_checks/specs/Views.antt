@@ -1,6 +1,5 @@
 -- What the check's values stand for.
 use Rattle.std.specs.Prelude.{ℕ, List, map, Option}
-use Rattle.std.specs.Option.{option_map}
 use Rattle.cdr_values.specs.Trees.{Name, Kind}
 use Rattle.cdr_values.specs.Kinds.{kind_of}
 use Rattle.idl_types.specs.Things.{Thing}

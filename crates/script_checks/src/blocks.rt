@@ -256,7 +256,8 @@ fn check_line<'r>(
     alloc: Global,
 ) -> Result<Done<'r>, CheckError>
     ensures done { Gives (done_of (things_of repository.now)) result
-        (Spec.line (scene_of repository.now names.now interface.now) (goal_of goal.entry) (vars_view vars.old.items) lets (say_of line.now)) }
+        (Spec.line (scene_of repository.now names.now interface.now) (goal_of goal.entry) (vars_view vars.old.items) lets
+        (say_of line.now)) }
     ensures kept { OnOk result (vars.new.items ≡ vars.old.items) }
 {
     match line {

@@ -8,7 +8,7 @@ ghost use Rattle.idl_types.specs.References.{kind_at};
 ghost use Rattle.idl_types.specs.Things.{Thing};
 ghost use Rattle.script_values.specs.Views.{term_of, parts_view};
 ghost use Rattle.script_values.specs.Trees.{build, terms_of};
-ghost use Rattle.script_checks.specs.Checking as Spec;
+ghost use Rattle.script_checks.specs.Built as Spec;
 ghost use Rattle.script_checks.specs.Gives.{Gives};
 ghost use Rattle.script_checks.specs.Views.{sort_of, checked_of, list_due_of};
 

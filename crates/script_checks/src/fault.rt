@@ -2,7 +2,6 @@
 ghost use Rattle.std.specs.Prelude.{◌≡◌};
 
 use orb_base::NoMemory;
-use servant_scripts::At;
 use std::alloc::{AllocError, AllocFailed};
 use thiserror::Error;
 
@@ -36,11 +35,12 @@ pub enum CheckCause {
     TooManyLets,
 }
 
-/// A cause, and the token at which it is told.
+/// A cause, and where the token begins at which it is told. Lines and columns count from 1, and a column counts bytes.
 #[derive(Clone, Copy, Debug, PartialEq, Eq)]
 pub struct CheckFault {
     pub cause: CheckCause,
-    pub at: At,
+    pub line: u32,
+    pub column: u32,
 }
 
 /// Why no script was checked.

@@ -164,7 +164,8 @@ pub(crate) fn check_methods<'r>(
     alloc: Global,
 ) -> Result<Vec<CheckedMethod>, CheckError>
     ensures { Gives (λ v. map (method_view (things_of repository.now)) v.items) result
-        (Spec.methods (scene_of repository.now names.now interface.now.id) place (interface_of interface.now) [] (map method_of methods.now)) }
+        (Spec.methods (scene_of repository.now names.now interface.now.id) place (interface_of interface.now) []
+        (map method_of methods.now)) }
 {
     let mut done = Vec::new(alloc);
     for method in methods {

@@ -1,8 +1,7 @@
 //! What names in expressions stand for.
-ghost use Rattle.std.specs.Prelude.{◌≡◌, List, slice_get, IfOk};
+ghost use Rattle.std.specs.Prelude.{◌≡◌, slice_get, IfOk};
 ghost use Rattle.script_names.specs.declared.meaning.Meaning.TheVariants as means;
-ghost use Rattle.std.specs.Option.{option_copied, option_map};
-ghost use Rattle.cdr_values.specs.Kinds.{kind_of};
+ghost use Rattle.std.specs.Option.{option_map};
 ghost use Rattle.cdr_values.specs.Trees.{Kind};
 ghost use Rattle.idl_types.specs.Things.{Thing};
 ghost use Rattle.idl_types.specs.Contents.{things_of};
@@ -18,7 +17,7 @@ use crate::fault::{CheckCause, CheckError, CheckFault};
 use crate::kinds::struct_type;
 use crate::scene::{Checked, Named, Place, Sort, Thrown, Variable};
 use crate::typing::single;
-use cdr_values::{IdlType, IdlValue, copy_value};
+use cdr_values::{IdlValue, copy_value};
 use idl_types::{Declaration, Repository};
 use orb_base::NoMemory;
 use script_names::{FindError, Meaning, Names};
@@ -28,9 +27,13 @@ use std::alloc::Global;
 
 /// A cause at a place.
 pub(crate) fn refuse(cause: CheckCause, at: At) -> CheckError
-    ensures { result ≡ error.Refused (record { cause = cause; at = at }) }
+    ensures { result ≡ error.Refused (record { cause = cause; line = at.line; column = at.column }) }
 {
-    CheckError::Refused(CheckFault { cause, at })
+    CheckError::Refused(CheckFault {
+        cause,
+        line: at.line,
+        column: at.column,
+    })
 }
 
 /// Where the last part of a name stands.
@@ -157,7 +160,8 @@ fn constant_at(
     place: usize,
     alloc: Global,
 ) -> Result<Option<Checked<'_>>, NoMemory>
-    ensures { IfOk result (λ c. option_map (checked_of (things_of repository.now)) c ≡ Spec.constant_in (slice_get (things_of repository.now) place)) }
+    ensures { IfOk result (λ c. option_map (checked_of (things_of repository.now)) c
+        ≡ Spec.constant_in (slice_get (things_of repository.now) place)) }
 {
     match repository.nth(place) {
         Some(Declaration::Constant(constant)) => {
@@ -178,7 +182,8 @@ fn enumerator_at(
     number: usize,
     alloc: Global,
 ) -> Option<Checked<'_>>
-    ensures { option_map (checked_of (things_of repository.now)) result ≡ Spec.value_of (things_of repository.now) (means.Enumerator place number) }
+    ensures { option_map (checked_of (things_of repository.now)) result
+        ≡ Spec.value_of (things_of repository.now) (means.Enumerator place number) }
 {
     match repository.nth(place) {
         Some(Declaration::Named(named)) => Some(Checked {

@@ -120,7 +120,8 @@ fn check_servant<'r>(
     alloc: Global,
 ) -> Result<CheckedServant, CheckError>
     ensures { Gives (servant_view (things_of repository.now)) result
-        (Spec.servant (things_of repository.now) (known_of names.now) (map (servant_view (things_of repository.now)) done.now) (servant_of servant.now)) }
+        (Spec.servant (things_of repository.now) (known_of names.now) (map (servant_view (things_of repository.now)) done.now)
+        (servant_of servant.now)) }
 {
     let served = interface_named(&servant.name, repository, names)?;
     let served = new_servant(served, done, &servant.name)?;
@@ -170,7 +171,8 @@ pub fn check(
     repository: &Repository,
     script: &Script,
 ) -> Result<CheckedScript, CheckError>
-    ensures { Gives (servants_in (things_of repository.now)) result (Spec.checked (things_of repository.now) (script_of script.now)) }
+    ensures checked { Gives (servants_in (things_of repository.now)) result
+        (Spec.checked (things_of repository.now) (script_of script.now)) }
 {
     let names = Names::new(alloc, repository)?;
     let servants = check_servants(script.servants.as_slice(), repository, &names, alloc)?;

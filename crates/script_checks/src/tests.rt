@@ -166,7 +166,7 @@ fn fault(
 ) -> Result<Option<(CheckCause, u32, u32)>, Fail> {
     match check(alloc, things, script) {
         Ok(_) => Ok(None),
-        Err(CheckError::Refused(fault)) => Ok(Some((fault.cause, fault.at.line, fault.at.column))),
+        Err(CheckError::Refused(fault)) => Ok(Some((fault.cause, fault.line, fault.column))),
         Err(CheckError::NoMemory) => Err(Fail::from("memory")),
     }
 }

@@ -7,7 +7,7 @@ ghost use Rattle.idl_types.specs.References.{members_in};
 ghost use Rattle.idl_types.specs.Things.{Thing};
 ghost use Rattle.script_values.specs.Trees.{joint, unary as unary_term};
 ghost use Rattle.script_values.specs.Views.{term_of, first_of, joint_of};
-ghost use Rattle.script_checks.specs.Checking as Spec;
+ghost use Rattle.script_checks.specs.Operators as Spec;
 ghost use Rattle.script_checks.specs.Gives.{Gives};
 ghost use Rattle.script_checks.specs.Views.{sort_of, checked_of, slot_of, asked_of};
 

@@ -10,6 +10,8 @@ use Rattle.script_checks.proofs.blocks.+block.Given as goal
 
 abbrev pub invariant-check_lines-loop-line : goal.invariant-check_lines-loop-line
 invariant-check_lines-loop-line l =
-    (lines (scene_of l.repository l.names l.interface) (goal_of l.goal) (vars_view l.vars.items) l.lets (says_of (map say_of (drop l.line-index l.lines))) (steps_view (things_of l.repository) l.stmts.items)
-    ≡ lines (scene_of l.repository l.names l.interface) (goal_of l.goal) (vars_view l.initial.vars.items) l.fn.lets (says_of (map say_of l.lines)) [])
+    (lines (scene_of l.repository l.names l.interface) (goal_of l.goal) (vars_view l.vars.items) l.lets
+    (says_of (map say_of (drop l.line-index l.lines))) (steps_view (things_of l.repository) l.stmts.items)
+    ≡ lines (scene_of l.repository l.names l.interface) (goal_of l.goal) (vars_view l.initial.vars.items) l.fn.lets
+    (says_of (map say_of l.lines)) [])
     × (take l.before l.vars.items ≡ l.initial.vars.items)

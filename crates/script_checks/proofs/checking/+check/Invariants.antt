@@ -12,14 +12,17 @@ use Rattle.script_checks.proofs.checking.+check.Given as goal
 
 abbrev pub invariant-check_links-loop-link : goal.invariant-check_links-loop-link
 invariant-check_links-loop-link l =
-    chained (scene_of l.repository l.names l.interface) (vars_view l.vars) l.at (joints_view (drop l.link-index l.links)) (checked_of (things_of l.repository) l.checked)
-    ≡ chained (scene_of l.repository l.names l.interface) (vars_view l.vars) l.at (joints_view l.links) (checked_of (things_of l.repository) l.fn.first)
+    chained (scene_of l.repository l.names l.interface) (vars_view l.vars) l.at (joints_view (drop l.link-index l.links))
+    (checked_of (things_of l.repository) l.checked)
+    ≡ chained (scene_of l.repository l.names l.interface) (vars_view l.vars) l.at (joints_view l.links)
+    (checked_of (things_of l.repository) l.fn.first)
 
 abbrev pub invariant-check_fields-loop-field : goal.invariant-check_fields-loop-field
 invariant-check_fields-loop-field l =
     fields (scene_of l.repository l.names l.interface) (vars_view l.vars) l.place (members_of (members_view l.members))
     (fields_of (map entry_of (drop l.field-index l.fields))) (parts_view (things_of l.repository) l.elements.items)
-    ≡ fields (scene_of l.repository l.names l.interface) (vars_view l.vars) l.place (members_of (members_view l.members)) (fields_of (map entry_of l.fields)) []
+    ≡ fields (scene_of l.repository l.names l.interface) (vars_view l.vars) l.place (members_of (members_view l.members))
+    (fields_of (map entry_of l.fields)) []
 
 abbrev pub invariant-check_elements-loop-phrase : goal.invariant-check_elements-loop-phrase
 invariant-check_elements-loop-phrase l =

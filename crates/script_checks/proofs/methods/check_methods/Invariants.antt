@@ -9,5 +9,6 @@ use Rattle.script_checks.proofs.methods.check_methods.Given as goal
 
 abbrev pub invariant-loop-method : goal.invariant-loop-method
 invariant-loop-method l =
-    methods (scene_of l.repository l.names l.interface.id) l.place (interface_of l.interface) (map (method_view (things_of l.repository)) l.done.items) (map method_of (drop l.method-index l.methods))
+    methods (scene_of l.repository l.names l.interface.id) l.place (interface_of l.interface)
+    (map (method_view (things_of l.repository)) l.done.items) (map method_of (drop l.method-index l.methods))
     ≡ methods (scene_of l.repository l.names l.interface.id) l.place (interface_of l.interface) [] (map method_of l.methods)

@@ -6,4 +6,5 @@ use Rattle.script_checks.proofs.methods.has_method.Given as goal
 
 abbrev pub invariant-loop-method : goal.invariant-loop-method
 invariant-loop-method l =
-    (ts : List Thing) → has_method (map (method_view ts) (drop l.method-index l.methods)) l.operation ≡ has_method (map (method_view ts) l.methods) l.operation
+    (ts : List Thing) → has_method (map (method_view ts) (drop l.method-index l.methods)) l.operation
+    ≡ has_method (map (method_view ts) l.methods) l.operation

@@ -12,4 +12,5 @@ returns-then-names-params c =
     let ks = c.args.params.now in
     let none : drop l.at c.args.names.now ≡ [] = drop_all l.at c.args.names.now (omega arith) in
     rw c.refuse-then-names-params.ensures
-    (sym l.invariant ∙ ap (λ (ns : List Part). same_names (map param_of (drop l.at ks)) ns c.args.close) none ∙ missing ks l.at c.args.close (omega arith))
+    (sym l.invariant ∙ ap (λ (ns : List Part). same_names (map param_of (drop l.at ks)) ns c.args.close) none
+    ∙ missing ks l.at c.args.close (omega arith))

@@ -7,4 +7,5 @@ use Rattle.script_checks.proofs.servants.are_there.Given as goal
 
 abbrev pub invariant-loop-at : goal.invariant-loop-at
 invariant-loop-at l =
-    (ts : List Thing) → all_there l.at (map operation_of (drop l.at l.operations)) (map (method_view ts) l.methods) ≡ all_there 0 (map operation_of l.operations) (map (method_view ts) l.methods)
+    (ts : List Thing) → all_there l.at (map operation_of (drop l.at l.operations)) (map (method_view ts) l.methods)
+    ≡ all_there 0 (map operation_of l.operations) (map (method_view ts) l.methods)

@@ -8,5 +8,6 @@ use Rattle.script_checks.proofs.servants.check_servants.Given as goal
 
 abbrev pub invariant-loop-servant : goal.invariant-loop-servant
 invariant-loop-servant l =
-    servants (things_of l.repository) (known_of l.names) (map (servant_view (things_of l.repository)) l.done.items) (map servant_of (drop l.servant-index l.servants))
+    servants (things_of l.repository) (known_of l.names) (map (servant_view (things_of l.repository)) l.done.items)
+    (map servant_of (drop l.servant-index l.servants))
     ≡ servants (things_of l.repository) (known_of l.names) [] (map servant_of l.servants)

@@ -6,4 +6,5 @@ use Rattle.script_checks.proofs.servants.is_served.Given as goal
 
 abbrev pub invariant-loop-servant : goal.invariant-loop-servant
 invariant-loop-servant l =
-    (ts : List Thing) → is_served (map (servant_view ts) (drop l.servant-index l.servants)) l.place ≡ is_served (map (servant_view ts) l.servants) l.place
+    (ts : List Thing) → is_served (map (servant_view ts) (drop l.servant-index l.servants)) l.place
+    ≡ is_served (map (servant_view ts) l.servants) l.place
