@@ -5,7 +5,7 @@ use Rattle.idl_types.specs.Views.{param_of}
 use Rattle.servant_scripts.specs.declared.phrase.At.{At}
 use Rattle.script_checks.specs.declared.fault.CheckCause.TheVariants as cause
 use Rattle.script_checks.specs.Scene.{refused}
-use Rattle.script_checks.specs.Servants.{same_names}
+use Rattle.script_checks.specs.Methods.{same_names}
 
 -- where no name is left for a parameter, the `)` is at fault
 pub missing : (ks : List Param) (n : ℕ) (close : At) → n < length ks

@@ -28,9 +28,13 @@ pub record Due : Type 0 where
 abbrev pub Done : Type 0
 Done = Step × Option Var × ℕ
 
--- one more `let` is refused at its word
+-- how many `let` a method may have
+abbrev pub most_lets : ℕ
+most_lets = 64
+
+-- one more `let`, or a fault at its word
 abbrev pub one_let : At → ℕ → Checks ℕ
-one_let at lets = if_holds (nat_lt lets 64) cause.TooManyLets at (lets + 1)
+one_let at lets = if_holds (nat_lt lets most_lets) cause.TooManyLets at (lets + 1)
 
 -- a name that no living variable has, or a fault at the name
 abbrev pub new_name : List Var → Part → Checks Name
@@ -40,10 +44,11 @@ new_name vs p = if_holds (if is_some (find_var 0 vs p.name) then false else true
 abbrev pub local : Name → Typed → Var
 local name x = record { name = name; kind = x.1; due = None }
 
--- the slot and the type of a variable that may be set
+-- the slot and the type of a variable, where it may be set
 abbrev pub settable : At → ℕ × Kind × Option TypeRef → Checks (ℕ × TypeRef)
 settable at v = or_refused cause.NotSettable at (option_map (λ due. (v.0, due)) v.2)
 
+-- the slot and the type of the variable of a name, which may be set
 abbrev pub set_place : List Var → Part → Checks (ℕ × TypeRef)
 set_place vs p = or_refused cause.UnknownName p.at (find_var 0 vs p.name) >>= settable p.at
 

@@ -16,7 +16,8 @@ use Rattle.script_checks.specs.declared.checked.CheckedScript.{CheckedScript}
 use Rattle.script_checks.specs.Scene.{Var}
 use Rattle.script_checks.specs.Views.{var_of}
 use Rattle.script_checks.specs.Blocks.{Due}
-use Rattle.script_checks.specs.Servants.{MethodView, ServantView}
+use Rattle.script_checks.specs.Methods.{MethodView}
+use Rattle.script_checks.specs.Servants.{ServantView}
 
 -- what a method gives
 abbrev pub goal_of : Goal → Due

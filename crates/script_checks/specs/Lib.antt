@@ -7,6 +7,7 @@ pub mod Built
 pub mod Checking
 pub mod Chains
 pub mod Blocks
+pub mod Methods
 pub mod Servants
 pub mod Views
 pub mod Done

@@ -5,7 +5,7 @@ ghost use Rattle.idl_types.specs.Contents.{things_of};
 ghost use Rattle.idl_types.specs.Things.{Thing};
 ghost use Rattle.idl_types.specs.Views.{operation_of, interface_of};
 ghost use Rattle.servant_scripts.specs.Views.{method_of};
-ghost use Rattle.script_checks.specs.Servants as Spec;
+ghost use Rattle.script_checks.specs.Methods as Spec;
 ghost use Rattle.script_checks.specs.Gives.{Gives};
 ghost use Rattle.script_checks.specs.Views.{scene_of};
 ghost use Rattle.script_checks.specs.Done.{goal_of, method_view, found_of};

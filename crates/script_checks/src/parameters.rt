@@ -2,7 +2,7 @@
 ghost use Rattle.std.specs.Prelude.{◌≡◌, [], map, IfOk};
 ghost use Rattle.std.specs.Option.{option_copied, option_map};
 ghost use Rattle.idl_types.specs.Views.{param_of};
-ghost use Rattle.script_checks.specs.Servants as Spec;
+ghost use Rattle.script_checks.specs.Methods as Spec;
 ghost use Rattle.script_checks.specs.Gives.{Gives};
 ghost use Rattle.script_checks.specs.Views.{var_of, vars_view};
 

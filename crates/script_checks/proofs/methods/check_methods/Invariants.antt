@@ -2,7 +2,7 @@ use Rattle.std.proofs.Common.{◌≡◌, drop, map, []}
 use Rattle.idl_types.specs.Contents.{things_of}
 use Rattle.idl_types.specs.Views.{interface_of}
 use Rattle.servant_scripts.specs.Views.{method_of}
-use Rattle.script_checks.specs.Servants.{methods}
+use Rattle.script_checks.specs.Methods.{methods}
 use Rattle.script_checks.specs.Views.{scene_of}
 use Rattle.script_checks.specs.Done.{method_view}
 use Rattle.script_checks.proofs.methods.check_methods.Given as goal

@@ -1,6 +1,6 @@
 use Rattle.std.proofs.Common.{◌≡◌, drop, map}
 use Rattle.idl_types.specs.Views.{operation_of}
-use Rattle.script_checks.specs.Servants.{find_operation}
+use Rattle.script_checks.specs.Methods.{find_operation}
 use Rattle.script_checks.proofs.methods.find_operation.Given as goal
 
 abbrev pub invariant-loop-at : goal.invariant-loop-at

@@ -1,6 +1,6 @@
 use Rattle.std.proofs.Common.{◌≡◌, List, drop, map}
 use Rattle.idl_types.specs.Things.{Thing}
-use Rattle.script_checks.specs.Servants.{has_method}
+use Rattle.script_checks.specs.Methods.{has_method}
 use Rattle.script_checks.specs.Done.{method_view}
 use Rattle.script_checks.proofs.methods.has_method.Given as goal
 

@@ -1,6 +1,6 @@
 use Rattle.std.proofs.Common.{◌≡◌, drop, map, []}
 use Rattle.idl_types.specs.Views.{param_of}
-use Rattle.script_checks.specs.Servants.{params_behind}
+use Rattle.script_checks.specs.Methods.{params_behind}
 use Rattle.script_checks.specs.Views.{vars_view}
 use Rattle.script_checks.proofs.parameters.param_vars.Given as goal
 

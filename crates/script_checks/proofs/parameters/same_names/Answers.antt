@@ -2,7 +2,7 @@ use Rattle.std.proofs.Common.{◌≡◌, ◌∙◌, drop, map, List, [], ap, sym
 use Rattle.std.proofs.lemmas.List.{drop_all}
 use Rattle.idl_types.specs.Views.{param_of}
 use Rattle.servant_scripts.specs.declared.phrase.Part.{Part}
-use Rattle.script_checks.specs.Servants.{same_names}
+use Rattle.script_checks.specs.Methods.{same_names}
 use Rattle.script_checks.proofs.Missing.{missing}
 use Rattle.script_checks.proofs.parameters.same_names.Goals as goal
 

@@ -1,6 +1,6 @@
 use Rattle.std.proofs.Common.{◌≡◌, drop, map}
 use Rattle.idl_types.specs.Views.{param_of}
-use Rattle.script_checks.specs.Servants.{same_names}
+use Rattle.script_checks.specs.Methods.{same_names}
 use Rattle.script_checks.proofs.parameters.same_names.Given as goal
 
 abbrev pub invariant-loop-at : goal.invariant-loop-at
