@@ -8,6 +8,7 @@ use Rattle.idl_types.specs.declared.repository.Repository.{Repository}
 use Rattle.script_names.specs.declared.names.Names.{Names}
 use Rattle.script_names.specs.Contents.{known_of}
 use Rattle.script_values.specs.Views.{term_of}
+use Rattle.script_checks.specs.declared.ground.Ground.{Ground}
 use Rattle.script_checks.specs.declared.scene.Sort.{Sort}
 use Rattle.script_checks.specs.declared.scene.Sort.TheVariants as sort
 use Rattle.script_checks.specs.declared.scene.Variable.{Variable}
@@ -28,6 +29,13 @@ use Rattle.script_checks.specs.Scene.{Scene, Var, Typed}
 -- what may be spoken of in an interface
 abbrev pub scene_of : Repository → Names → Name → Scene
 scene_of r names interface = record { things = things_of r; known = known_of names; interface = interface }
+
+-- the same by what a method is checked over, and the things of its repository
+abbrev pub ground_of : Ground → Scene
+ground_of g = scene_of g.repository.now g.names.now g.interface.now
+
+abbrev pub things_in : Ground → List Thing
+things_in g = things_of g.repository.now
 
 -- the kind of an expression
 abbrev pub sort_of : Sort → Kind

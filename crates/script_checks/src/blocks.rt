@@ -2,13 +2,12 @@
 ghost use Rattle.std.specs.Prelude.{◌≡◌, ◌++◌, [], map, position, option_to_list, OnOk};
 ghost use Rattle.std.specs.Str.{bytes_eq};
 ghost use Rattle.std.specs.Option.{option_map};
-ghost use Rattle.idl_types.specs.Contents.{things_of};
 ghost use Rattle.idl_types.specs.Views.{exception_of};
 ghost use Rattle.servant_scripts.specs.Trees.{say_let, say_set, say_leave, say_return, say_raise, says_of, fields_of};
 ghost use Rattle.servant_scripts.specs.Views.{said_of, scoped_of, entry_of, say_of};
 ghost use Rattle.script_checks.specs.Blocks as Spec;
 ghost use Rattle.script_checks.specs.Gives.{Gives};
-ghost use Rattle.script_checks.specs.Views.{scene_of, var_of, vars_view, set_of};
+ghost use Rattle.script_checks.specs.Views.{ground_of, things_in, var_of, vars_view, set_of};
 ghost use Rattle.script_checks.specs.Done.{goal_of, done_of, block_of};
 
 use crate::built::complete;
@@ -16,14 +15,13 @@ use crate::checking::{check_any, check_fields, check_given, check_kind};
 use crate::done::{Block, Done, Goal};
 use crate::dues::short;
 use crate::fault::{CheckCause, CheckError};
+use crate::ground::Ground;
 use crate::naming::{exception_named, last_part, place, refuse};
 use crate::scene::{Settable, Sort, Variable};
-use idl_types::{Exception, Repository};
+use idl_types::Exception;
 use orb_base::{NoMemory, Text};
-use script_names::Names;
 use script_values::Stmt;
 use servant_scripts::{At, Field, Line, Part, Phrase, ScopedName};
-use std::alloc::Global;
 
 /// How many `let` a method may have.
 const MOST_LETS: usize = 64;
@@ -90,19 +88,16 @@ fn check_let<'r>(
     name: &'r Part,
     goal: Goal<'r>,
     lets: usize,
-    repository: &'r Repository,
-    names: &Names,
-    interface: &[u8],
+    ground: &Ground<'r>,
     vars: &[Variable<'r>],
-    alloc: Global,
 ) -> Result<Done<'r>, CheckError>
-    ensures { Gives (done_of (things_of repository.now)) result
-        (Spec.line (scene_of repository.now names.now interface.now) (goal_of goal.entry) (vars_view vars.now) lets
+    ensures { Gives (done_of (things_in ground.now)) result
+        (Spec.line (ground_of ground.now) (goal_of goal.entry) (vars_view vars.now) lets
         (say_let at name.now (said_of phrase.now))) }
 {
     let lets = one_let(at, lets)?;
     let name = new_name(vars, name)?;
-    let checked = check_any(phrase, None, repository, names, interface, vars, alloc)?;
+    let checked = check_any(phrase, None, ground, vars)?;
     Ok(Done {
         stmt: Stmt::Let(vars.len(), checked.expr),
         new: Some(Variable {
@@ -120,18 +115,15 @@ fn check_set<'r>(
     name: &Part,
     goal: Goal<'r>,
     lets: usize,
-    repository: &'r Repository,
-    names: &Names,
-    interface: &[u8],
+    ground: &Ground<'r>,
     vars: &[Variable<'r>],
-    alloc: Global,
 ) -> Result<Done<'r>, CheckError>
-    ensures { Gives (done_of (things_of repository.now)) result
-        (Spec.line (scene_of repository.now names.now interface.now) (goal_of goal.entry) (vars_view vars.now) lets
+    ensures { Gives (done_of (things_in ground.now)) result
+        (Spec.line (ground_of ground.now) (goal_of goal.entry) (vars_view vars.now) lets
         (say_set name.now (said_of phrase.now))) }
 {
     let place = set_place(vars, name)?;
-    let expr = check_given(phrase, place.due, repository, names, interface, vars, alloc)?;
+    let expr = check_given(phrase, place.due, ground, vars)?;
     Ok(Done {
         stmt: Stmt::Set(place.slot, place.due, expr),
         new: None,
@@ -145,20 +137,17 @@ fn check_return<'r>(
     at: At,
     goal: Goal<'r>,
     lets: usize,
-    repository: &'r Repository,
-    names: &Names,
-    interface: &[u8],
+    ground: &Ground<'r>,
     vars: &[Variable<'r>],
-    alloc: Global,
 ) -> Result<Done<'r>, CheckError>
-    ensures { Gives (done_of (things_of repository.now)) result
-        (Spec.line (scene_of repository.now names.now interface.now) (goal_of goal.entry) (vars_view vars.now) lets
+    ensures { Gives (done_of (things_in ground.now)) result
+        (Spec.line (ground_of ground.now) (goal_of goal.entry) (vars_view vars.now) lets
         (say_return at (said_of phrase.now))) }
 {
     match goal.result {
         None => Err(refuse(CheckCause::Kind, phrase.at)),
         Some(due) => {
-            let expr = check_given(phrase, due, repository, names, interface, vars, alloc)?;
+            let expr = check_given(phrase, due, ground, vars)?;
             Ok(Done {
                 stmt: Stmt::Return(due, expr),
                 new: None,
@@ -173,13 +162,11 @@ fn check_leave<'r>(
     at: At,
     goal: Goal<'r>,
     lets: usize,
-    repository: &'r Repository,
-    names: &Names,
-    interface: &[u8],
+    ground: &Ground<'r>,
     vars: &[Variable<'r>],
 ) -> Result<Done<'r>, CheckError>
-    ensures { Gives (done_of (things_of repository.now)) result
-        (Spec.line (scene_of repository.now names.now interface.now) (goal_of goal.entry) (vars_view vars.now) lets (say_leave at)) }
+    ensures { Gives (done_of (things_in ground.now)) result
+        (Spec.line (ground_of ground.now) (goal_of goal.entry) (vars_view vars.now) lets (say_leave at)) }
 {
     match goal.result {
         None => Ok(Done {
@@ -198,29 +185,17 @@ fn check_raise<'r>(
     close: At,
     goal: Goal<'r>,
     lets: usize,
-    repository: &'r Repository,
-    names: &Names,
-    interface: &[u8],
+    ground: &Ground<'r>,
     vars: &[Variable<'r>],
-    alloc: Global,
 ) -> Result<Done<'r>, CheckError>
-    ensures { Gives (done_of (things_of repository.now)) result
-        (Spec.line (scene_of repository.now names.now interface.now) (goal_of goal.entry) (vars_view vars.now) lets
+    ensures { Gives (done_of (things_in ground.now)) result
+        (Spec.line (ground_of ground.now) (goal_of goal.entry) (vars_view vars.now) lets
         (say_raise (scoped_of name.now) (fields_of (map entry_of fields.now)) close)) }
 {
-    let thrown = exception_named(name, repository, names, interface)?;
+    let thrown = exception_named(name, ground)?;
     let at = raised_at(goal.raises, name, thrown.exception)?;
     let members = thrown.exception.members.as_slice();
-    let elements = check_fields(
-        fields,
-        thrown.place,
-        members,
-        repository,
-        names,
-        interface,
-        vars,
-        alloc,
-    )?;
+    let elements = check_fields(fields, thrown.place, members, ground, vars)?;
     let elements = complete(members, close, elements)?;
     Ok(Done {
         stmt: Stmt::Raise(short(at), elements),
@@ -249,14 +224,11 @@ fn check_line<'r>(
     line: &'r Line,
     goal: Goal<'r>,
     lets: usize,
-    repository: &'r Repository,
-    names: &Names,
-    interface: &[u8],
+    ground: &Ground<'r>,
     vars: &mut Vec<Variable<'r>>,
-    alloc: Global,
 ) -> Result<Done<'r>, CheckError>
-    ensures done { Gives (done_of (things_of repository.now)) result
-        (Spec.line (scene_of repository.now names.now interface.now) (goal_of goal.entry) (vars_view vars.old.items) lets
+    ensures done { Gives (done_of (things_in ground.now)) result
+        (Spec.line (ground_of ground.now) (goal_of goal.entry) (vars_view vars.old.items) lets
         (say_of line.now)) }
     ensures kept { OnOk result (vars.new.items ≡ vars.old.items) }
 {
@@ -267,74 +239,30 @@ fn check_line<'r>(
             name,
             goal,
             lets,
-            repository,
-            names,
-            interface,
+            ground,
             vars.as_slice(),
-            alloc,
         ),
-        Line::Set(name, phrase) => check_set(
-            phrase,
-            name,
-            goal,
-            lets,
-            repository,
-            names,
-            interface,
-            vars.as_slice(),
-            alloc,
-        ),
+        Line::Set(name, phrase) => check_set(phrase, name, goal, lets, ground, vars.as_slice()),
         Line::If(phrase, taken, other) => {
-            let expr = check_kind(
-                phrase,
-                Sort::Truth,
-                repository,
-                names,
-                interface,
-                vars.as_slice(),
-                alloc,
-            )?;
-            let taken = check_lines(taken, goal, lets, repository, names, interface, vars, alloc)?;
-            let other = check_lines(
-                other, goal, taken.lets, repository, names, interface, vars, alloc,
-            )?;
+            let expr = check_kind(phrase, Sort::Truth, ground, vars.as_slice())?;
+            let taken = check_lines(taken, goal, lets, ground, vars)?;
+            let other = check_lines(other, goal, taken.lets, ground, vars)?;
             Ok(Done {
                 stmt: Stmt::If(expr, taken.stmts, other.stmts),
                 new: None,
                 lets: other.lets,
             })
         }
-        Line::Leave(at) => check_leave(
-            *at,
-            goal,
-            lets,
-            repository,
-            names,
-            interface,
-            vars.as_slice(),
-        ),
-        Line::Return(at, phrase) => check_return(
-            phrase,
-            *at,
-            goal,
-            lets,
-            repository,
-            names,
-            interface,
-            vars.as_slice(),
-            alloc,
-        ),
+        Line::Leave(at) => check_leave(*at, goal, lets, ground, vars.as_slice()),
+        Line::Return(at, phrase) => check_return(phrase, *at, goal, lets, ground, vars.as_slice()),
         Line::Raise(name, fields, close) => check_raise(
             fields,
             name,
             *close,
             goal,
             lets,
-            repository,
-            names,
-            interface,
+            ground,
             vars.as_slice(),
-            alloc,
         ),
     }
 }
@@ -346,22 +274,19 @@ pub(crate) fn check_lines<'r>(
     lines: &'r [Line],
     goal: Goal<'r>,
     lets: usize,
-    repository: &'r Repository,
-    names: &Names,
-    interface: &[u8],
+    ground: &Ground<'r>,
     vars: &mut Vec<Variable<'r>>,
-    alloc: Global,
 ) -> Result<Block, CheckError>
-    ensures block { Gives (block_of (things_of repository.now)) result
-        (Spec.lines (scene_of repository.now names.now interface.now) (goal_of goal.entry) (vars_view vars.old.items) lets
+    ensures block { Gives (block_of (things_in ground.now)) result
+        (Spec.lines (ground_of ground.now) (goal_of goal.entry) (vars_view vars.old.items) lets
         (says_of (map say_of lines.now)) []) }
     ensures kept { OnOk result (vars.new.items ≡ vars.old.items) }
 {
     let before = vars.len();
-    let mut stmts = Vec::new(alloc);
+    let mut stmts = Vec::new(ground.alloc);
     let mut lets = lets;
     for line in lines {
-        let done = check_line(line, goal, lets, repository, names, interface, vars, alloc)?;
+        let done = check_line(line, goal, lets, ground, vars)?;
         stmts.push(done.stmt)?;
         declare(vars, done.new)?;
         lets = done.lets;

@@ -12,6 +12,7 @@ mod done;
 mod dues;
 mod ending;
 mod fault;
+mod ground;
 mod kinds;
 mod methods;
 mod naming;

@@ -1,13 +1,12 @@
 //! The check of methods.
 ghost use Rattle.std.specs.Prelude.{◌≡◌, [], List, map};
 ghost use Rattle.std.specs.Option.{option_map};
-ghost use Rattle.idl_types.specs.Contents.{things_of};
 ghost use Rattle.idl_types.specs.Things.{Thing};
 ghost use Rattle.idl_types.specs.Views.{operation_of, interface_of};
 ghost use Rattle.servant_scripts.specs.Views.{method_of};
 ghost use Rattle.script_checks.specs.Methods as Spec;
 ghost use Rattle.script_checks.specs.Gives.{Gives};
-ghost use Rattle.script_checks.specs.Views.{scene_of};
+ghost use Rattle.script_checks.specs.Views.{ground_of, things_in};
 ghost use Rattle.script_checks.specs.Done.{goal_of, method_view, found_of};
 
 use crate::blocks::check_lines;
@@ -16,12 +15,11 @@ use crate::done::{Found, Goal};
 use crate::dues::result_due;
 use crate::ending::ends;
 use crate::fault::{CheckCause, CheckError};
+use crate::ground::Ground;
 use crate::naming::refuse;
 use crate::parameters::{param_vars, same_names};
-use idl_types::{Interface, Operation, Repository, TypeRef};
-use script_names::Names;
+use idl_types::{Interface, Operation, TypeRef};
 use servant_scripts::{At, Method, Part};
-use std::alloc::Global;
 
 /// The operation of a name, with its index.
 fn find_operation<'r>(operations: &'r [Operation], name: &[u8]) -> Option<Found<'r>>
@@ -76,28 +74,16 @@ fn method_for<'r>(
     operation: &'r Operation,
     place: usize,
     at: usize,
-    repository: &'r Repository,
-    names: &Names,
-    interface: &[u8],
-    alloc: Global,
+    ground: &Ground<'r>,
 ) -> Result<CheckedMethod, CheckError>
-    ensures { Gives (method_view (things_of repository.now)) result
-        (Spec.method_for (scene_of repository.now names.now interface.now) place at (operation_of operation.now) (method_of method.now)) }
+    ensures { Gives (method_view (things_in ground.now)) result
+        (Spec.method_for (ground_of ground.now) place at (operation_of operation.now) (method_of method.now)) }
 {
     let params = operation.params.as_slice();
     same_names(params, method.parameters.as_slice(), method.close)?;
     let goal = goal_for(operation, place, at);
-    let mut vars = param_vars(params, place, at, alloc)?;
-    let block = check_lines(
-        method.body.as_slice(),
-        goal,
-        0,
-        repository,
-        names,
-        interface,
-        &mut vars,
-        alloc,
-    )?;
+    let mut vars = param_vars(params, place, at, ground.alloc)?;
+    let block = check_lines(method.body.as_slice(), goal, 0, ground, &mut vars)?;
     ends_well(goal.result, ends(method.body.as_slice()), method.end)?;
     Ok(CheckedMethod {
         operation: at,
@@ -133,25 +119,14 @@ fn check_method<'r>(
     done: &[CheckedMethod],
     interface: &'r Interface,
     place: usize,
-    repository: &'r Repository,
-    names: &Names,
-    alloc: Global,
+    ground: &Ground<'r>,
 ) -> Result<CheckedMethod, CheckError>
-    ensures { Gives (method_view (things_of repository.now)) result
-        (Spec.method (scene_of repository.now names.now interface.now.id) place (interface_of interface.now)
-        (map (method_view (things_of repository.now)) done.now) (method_of method.now)) }
+    ensures { Gives (method_view (things_in ground.now)) result
+        (Spec.method (ground_of ground.now) place (interface_of interface.now)
+        (map (method_view (things_in ground.now)) done.now) (method_of method.now)) }
 {
     let found = new_method(interface, done, &method.name)?;
-    method_for(
-        method,
-        found.operation,
-        place,
-        found.at,
-        repository,
-        names,
-        interface.id.as_slice(),
-        alloc,
-    )
+    method_for(method, found.operation, place, found.at, ground)
 }
 
 /// The check of all methods of a servant of the interface at a place.
@@ -159,25 +134,15 @@ pub(crate) fn check_methods<'r>(
     methods: &'r [Method],
     interface: &'r Interface,
     place: usize,
-    repository: &'r Repository,
-    names: &Names,
-    alloc: Global,
+    ground: &Ground<'r>,
 ) -> Result<Vec<CheckedMethod>, CheckError>
-    ensures { Gives (λ v. map (method_view (things_of repository.now)) v.items) result
-        (Spec.methods (scene_of repository.now names.now interface.now.id) place (interface_of interface.now) []
+    ensures { Gives (λ v. map (method_view (things_in ground.now)) v.items) result
+        (Spec.methods (ground_of ground.now) place (interface_of interface.now) []
         (map method_of methods.now)) }
 {
-    let mut done = Vec::new(alloc);
+    let mut done = Vec::new(ground.alloc);
     for method in methods {
-        let checked = check_method(
-            method,
-            done.as_slice(),
-            interface,
-            place,
-            repository,
-            names,
-            alloc,
-        )?;
+        let checked = check_method(method, done.as_slice(), interface, place, ground)?;
         done.push(checked)?;
     }
     Ok(done)

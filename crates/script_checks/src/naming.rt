@@ -10,17 +10,18 @@ ghost use Rattle.script_checks.specs.declared.fault.CheckError.TheVariants as er
 ghost use Rattle.script_checks.specs.Scene.{find_var};
 ghost use Rattle.script_checks.specs.Naming as Spec;
 ghost use Rattle.script_checks.specs.Gives.{Gives};
-ghost use Rattle.script_checks.specs.Views.{scene_of, vars_view, checked_of, named_of, place_of, thrown_of};
+ghost use Rattle.script_checks.specs.Views.{ground_of, things_in, vars_view, checked_of, named_of, place_of, thrown_of};
 
 use crate::dues::short;
 use crate::fault::{CheckCause, CheckError, CheckFault};
+use crate::ground::Ground;
 use crate::kinds::struct_type;
 use crate::scene::{Checked, Named, Place, Sort, Thrown, Variable};
 use crate::typing::single;
 use cdr_values::{IdlValue, copy_value};
 use idl_types::{Declaration, Repository};
 use orb_base::NoMemory;
-use script_names::{FindError, Meaning, Names};
+use script_names::{FindError, Meaning};
 use script_values::Form;
 use servant_scripts::{At, Part, ScopedName};
 use std::alloc::Global;
@@ -64,15 +65,10 @@ pub(crate) fn place<'r>(variables: &[Variable<'r>], name: &[u8]) -> Option<Place
 }
 
 /// What a name means where it stands.
-pub(crate) fn meaning(
-    name: &ScopedName,
-    repository: &Repository,
-    names: &Names,
-    interface: &[u8],
-) -> Result<Meaning, CheckError>
-    ensures { Gives (λ m. m) result (Spec.meaning_at (scene_of repository.now names.now interface.now) (scoped_of name.now)) }
+pub(crate) fn meaning(name: &ScopedName, ground: &Ground<'_>) -> Result<Meaning, CheckError>
+    ensures { Gives (λ m. m) result (Spec.meaning_at (ground_of ground.now) (scoped_of name.now)) }
 {
-    match names.find(interface, name) {
+    match ground.names.find(ground.interface, name) {
         Ok(meaning) => Ok(meaning),
         Err(FindError::Unknown(at)) => Err(refuse(CheckCause::UnknownName, at)),
         Err(FindError::NoMemory) => Err(CheckError::NoMemory),
@@ -105,14 +101,12 @@ fn struct_of(repository: &Repository, meaning: Meaning) -> Option<Named<'_>>
 /// The struct of a name, with its place.
 pub(crate) fn struct_named<'r>(
     name: &ScopedName,
-    repository: &'r Repository,
-    names: &Names,
-    interface: &[u8],
+    ground: &Ground<'r>,
 ) -> Result<Named<'r>, CheckError>
-    ensures { Gives named_of result (Spec.struct_named (scene_of repository.now names.now interface.now) (scoped_of name.now)) }
+    ensures { Gives named_of result (Spec.struct_named (ground_of ground.now) (scoped_of name.now)) }
 {
-    let meaning = meaning(name, repository, names, interface)?;
-    match struct_of(repository, meaning) {
+    let meaning = meaning(name, ground)?;
+    match struct_of(ground.repository, meaning) {
         Some(named) => Ok(named),
         None => Err(refuse(CheckCause::Kind, last_part(name))),
     }
@@ -141,14 +135,12 @@ fn exception_of(repository: &Repository, meaning: Meaning) -> Option<Thrown<'_>>
 /// The exception of a name, with its place.
 pub(crate) fn exception_named<'r>(
     name: &ScopedName,
-    repository: &'r Repository,
-    names: &Names,
-    interface: &[u8],
+    ground: &Ground<'r>,
 ) -> Result<Thrown<'r>, CheckError>
-    ensures { Gives thrown_of result (Spec.exception_named (scene_of repository.now names.now interface.now) (scoped_of name.now)) }
+    ensures { Gives thrown_of result (Spec.exception_named (ground_of ground.now) (scoped_of name.now)) }
 {
-    let meaning = meaning(name, repository, names, interface)?;
-    match exception_of(repository, meaning) {
+    let meaning = meaning(name, ground)?;
+    match exception_of(ground.repository, meaning) {
         Some(thrown) => Ok(thrown),
         None => Err(refuse(CheckCause::Kind, last_part(name))),
     }
@@ -210,18 +202,12 @@ fn value_of(
 }
 
 /// The value of a name.
-fn value_named<'r>(
-    name: &ScopedName,
-    repository: &'r Repository,
-    names: &Names,
-    interface: &[u8],
-    alloc: Global,
-) -> Result<Checked<'r>, CheckError>
-    ensures { Gives (checked_of (things_of repository.now)) result
-        (Spec.value_named (scene_of repository.now names.now interface.now) (scoped_of name.now)) }
+fn value_named<'r>(name: &ScopedName, ground: &Ground<'r>) -> Result<Checked<'r>, CheckError>
+    ensures { Gives (checked_of (things_in ground.now)) result
+        (Spec.value_named (ground_of ground.now) (scoped_of name.now)) }
 {
-    let meaning = meaning(name, repository, names, interface)?;
-    match value_of(repository, meaning, alloc)? {
+    let meaning = meaning(name, ground)?;
+    match value_of(ground.repository, meaning, ground.alloc)? {
         Some(checked) => Ok(checked),
         None => Err(refuse(CheckCause::Kind, last_part(name))),
     }
@@ -243,20 +229,17 @@ fn variable<'r>(variables: &[Variable<'r>], rooted: bool, parts: &[Part]) -> Opt
 /// What a name stands for: a variable, else a value. Costs a comparison for each variable that is alive, and a look-up.
 pub(crate) fn named<'r>(
     name: &ScopedName,
-    repository: &'r Repository,
-    names: &Names,
-    interface: &[u8],
+    ground: &Ground<'r>,
     variables: &[Variable<'r>],
-    alloc: Global,
 ) -> Result<Checked<'r>, CheckError>
-    ensures { Gives (checked_of (things_of repository.now)) result
-        (Spec.name_typed (scene_of repository.now names.now interface.now) (vars_view variables.now) (scoped_of name.now)) }
+    ensures { Gives (checked_of (things_in ground.now)) result
+        (Spec.name_typed (ground_of ground.now) (vars_view variables.now) (scoped_of name.now)) }
 {
     match variable(variables, name.rooted, name.parts.as_slice()) {
         Some(place) => Ok(Checked {
-            expr: single(Form::Slot(place.slot), alloc),
+            expr: single(Form::Slot(place.slot), ground.alloc),
             sort: place.sort,
         }),
-        None => value_named(name, repository, names, interface, alloc),
+        None => value_named(name, ground),
     }
 }

@@ -16,6 +16,7 @@ ghost use Rattle.script_checks.specs.Done.{method_view, servant_view, servants_i
 use crate::checked::{CheckedMethod, CheckedScript, CheckedServant};
 use crate::done::Served;
 use crate::fault::{CheckCause, CheckError};
+use crate::ground::Ground;
 use crate::methods::{check_methods, has_method};
 use crate::naming::{last_part, refuse};
 use idl_types::{Declaration, Operation, Repository};
@@ -116,7 +117,7 @@ fn check_servant<'r>(
     servant: &'r Servant,
     done: &[CheckedServant],
     repository: &'r Repository,
-    names: &Names,
+    names: &'r Names,
     alloc: Global,
 ) -> Result<CheckedServant, CheckError>
     ensures { Gives (servant_view (things_of repository.now)) result
@@ -125,13 +126,17 @@ fn check_servant<'r>(
 {
     let served = interface_named(&servant.name, repository, names)?;
     let served = new_servant(served, done, &servant.name)?;
+    let ground = Ground {
+        repository,
+        names,
+        interface: served.interface.id.as_slice(),
+        alloc,
+    };
     let methods = check_methods(
         servant.methods.as_slice(),
         served.interface,
         served.place,
-        repository,
-        names,
-        alloc,
+        &ground,
     )?;
     if !are_there(served.interface.operations.as_slice(), methods.as_slice()) {
         return Err(refuse(CheckCause::Missing, servant.at));
@@ -146,7 +151,7 @@ fn check_servant<'r>(
 fn check_servants<'r>(
     servants: &'r [Servant],
     repository: &'r Repository,
-    names: &Names,
+    names: &'r Names,
     alloc: Global,
 ) -> Result<Vec<CheckedServant>, CheckError>
     ensures { Gives (λ v. map (servant_view (things_of repository.now)) v.items) result
