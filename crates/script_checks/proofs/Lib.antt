@@ -1,0 +1,4 @@
+pub mod Chains
+pub mod Parts
+pub mod Written
+pub mod Missing

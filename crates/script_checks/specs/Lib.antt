@@ -1,0 +1,14 @@
+pub mod Kinds
+pub mod Scene
+pub mod Naming
+pub mod Dues
+pub mod Operators
+pub mod Built
+pub mod Checking
+pub mod Chains
+pub mod Blocks
+pub mod Methods
+pub mod Servants
+pub mod Views
+pub mod Done
+pub mod Gives
