@@ -1,11 +1,14 @@
 -- How what drivers did is put together.
 use Rattle.std.proofs.Common.{◌≡◌, ℕ, true, List, [], ◌∷◌, ◌++◌, Option, Some, None, refl, sym, ap, ◌∙◌, subst, arith, append-nil, append_assoc, inl, inr}
 use Rattle.std.specs.Prelude.{option_map, slice_get, ◌⊎◌}
-use Rattle.orb_base.specs.Outcomes.{no_memory}
+use Rattle.orb_base.specs.Outcomes.{no_memory, bad_operation}
 use Rattle.std.proofs.lemmas.Grind.{flat_map-append}
 use Rattle.orb_base.specs.JobRecord.{JobRecord}
 use Rattle.orb_base.specs.declared.conn_id.ConnId.{ConnId}
 use Rattle.orb_base.specs.declared.outcome.Outcome.{Outcome}
+use Rattle.orb_base.specs.declared.outcome.Outcome.TheVariants.{System}
+use Rattle.orb_base.specs.declared.system.SysName.{SysName}
+use Rattle.orb_base.specs.declared.system.SysName.TheVariants.{NoMemory, BadOperation}
 use Rattle.orb_base.specs.declared.answer.Answer.{Answer}
 use Rattle.lane_machine.specs.declared.call.LaneCall.{LaneCall}
 use Rattle.lane_machine.specs.declared.call.LaneCall.TheVariants.{Take, Finish}
@@ -20,7 +23,7 @@ use Rattle.pipe_laws.specs.Said.{said, call_bytes}
 use Rattle.pipe_laws.specs.Piped.{Run, applied, rested, first_given, in_hand}
 use Rattle.pipe_laws.specs.Reached.{IsReached}
 use Rattle.lane_driver.specs.Driving.{Leads, Servant, Doer, run_at, entry, Goes, Does, Began, Logged, IsApplied, IsBetween, Stays}
-use Rattle.pipe_laws.specs.Lacking.{Agrees, HasAnswers}
+use Rattle.pipe_laws.specs.Lacking.{Agrees, CameOf, HasAnswers}
 use Rattle.lane_driver.proofs.Fronts.{agrees_first, agrees_then, Grows, BeginsAll, begins_nothing, begins_none, begins_two, begins_then, begins_first, begins_both}
 use Rattle.lane_driver.proofs.Grow.{grows_applied, grows_rested, behind_both}
 use Rattle.pipe_laws.specs.Calm.{NoneBusy}
@@ -29,6 +32,19 @@ use Rattle.lane_machine.specs.Changes.{changes, marks}
 use Rattle.pipe_laws.proofs.Reached.{legal_push, replay_push}
 use Rattle.pipe_laws.proofs.OneTurn.{Turning, turning, takes, take_ready, take_sound, busy_at, done_at, finishes, finish_sound, busy_sound, turn_hands, turn_calm}
 use Rattle.pipe_laws.proofs.Rests.{answer_by, rest_turns, rest_stays}
+
+-- ---- what came of a job
+
+abbrev name_of : Outcome → SysName
+name_of (System sys) = sys.name
+name_of _ = BadOperation
+
+-- a servant that tells of want of memory has the operation
+pub came_or_wanting : (due came : Outcome) → (came ≡ due) ⊎ (came ≡ no_memory) → (due ≡ bad_operation → came ≡ bad_operation)
+    → (came ≡ due) ⊎ ((came ≡ no_memory) × ¬ (due ≡ bad_operation))
+came_or_wanting due came (inl is) only = inl is
+came_or_wanting due came (inr wanting) only =
+    inr (wanting, λ bad. let never : NoMemory ≡ BadOperation = ap name_of (sym wanting ∙ only bad) in absurd cc)
 
 -- ---- entries behind entries
 
@@ -154,8 +170,8 @@ reached_applied s s' call reached ready sound is =
 abbrev with_outcome : JobRecord → Outcome → Answer
 with_outcome job outcome = record { job = job; outcome = outcome }
 
-came_of : (outcome : Servant) (job : JobRecord) (answer : Answer) → IsAnswer outcome job answer → (answer.outcome ≡ outcome answer.job) ⊎ (answer.outcome ≡ no_memory)
-came_of outcome job answer is = elim is.came [ inl e ↦ inl (e ∙ ap outcome (sym is.same_job)) | inr e ↦ inr e ]
+came_of : (outcome : Servant) (job : JobRecord) (answer : Answer) → IsAnswer outcome job answer → CameOf outcome answer.job answer.outcome
+came_of outcome job answer is = elim is.came [ inl e ↦ inl (e ∙ ap outcome (sym is.same_job)) | inr e ↦ inr (e.0, λ bad. e.1 (ap outcome (sym is.same_job) ∙ bad)) ]
 
 pub grows_resting : Grows rested
 grows_resting servant run = grows_rested servant (in_hand run.state) run

@@ -1,20 +1,16 @@
 -- Turns of the threads: each takes its task, and finishes it. Own profile.
-use Rattle.std.specs.Prelude.{◌≡◌, ◌≤◌, ◌<◌, ◌⊎◌, [], Option, None}
-use Rattle.orb_base.specs.Outcomes.{no_memory, body_len}
+use Rattle.std.specs.Prelude.{◌≡◌, ◌≤◌, ◌<◌, [], Option, None}
+use Rattle.orb_base.specs.Outcomes.{body_len}
 use Rattle.orb_base.specs.JobRecord.{JobRecord}
 use Rattle.orb_base.specs.declared.answer.Answer.{Answer}
-use Rattle.orb_base.specs.declared.outcome.Outcome.{Outcome}
 use Rattle.orb_base.specs.declared.limits.TheConstants.{MAX_BODY}
 use Rattle.lane_machine.specs.State.{State}
 use Rattle.lane_machine.specs.Histories.{History}
+use Rattle.pipe_laws.specs.Lacking.{CameOf}
 use Rattle.pipe_laws.specs.Setup.{pipe_conn}
 use Rattle.pipe_laws.specs.Said.{said}
 use Rattle.pipe_laws.specs.Piped.{rested, first_given, in_hand}
 use Rattle.lane_driver.specs.Driving.{Servant, Goes, Does, Logged, Stays}
-
--- the outcome of the servant for this job, or of want of memory
-abbrev pub CameOf : Servant → JobRecord → Outcome → Type 0
-CameOf outcome job came = (came ≡ outcome job) ⊎ (came ≡ no_memory)
 
 -- the answer to this job, by the servant's outcome or by want of memory
 pub record IsAnswer (outcome : Servant) (job : JobRecord) (answer : Answer) : Type 0 where

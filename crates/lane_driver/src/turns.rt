@@ -6,8 +6,8 @@ ghost use Rattle.lane_machine.specs.declared.call.LaneReply.TheVariants.{Given, 
 ghost use Rattle.lane_machine.specs.Readiness.{is_ready, IsSound, IsBusyWith};
 ghost use Rattle.pipe_laws.specs.Piped.{first_given};
 ghost use Rattle.lane_driver.specs.Driving.{IsApplied, IsBetween};
-ghost use Rattle.pipe_laws.specs.Lacking.{served};
-ghost use Rattle.lane_driver.specs.Turning.{CameOf, IsAnswer, TurnsOnce, RunsToRest};
+ghost use Rattle.pipe_laws.specs.Lacking.{CameOf, served};
+ghost use Rattle.lane_driver.specs.Turning.{IsAnswer, TurnsOnce, RunsToRest};
 
 use crate::log::Log;
 use adapter_policies::Setup;
@@ -49,6 +49,7 @@ fn no_interface(alloc: Global) -> Text
 }
 
 /// Has the servant of the job's object carry it out.
+#[tactic(auto, using(crate::proofs::Driving::came_or_wanting))]
 fn invoke<S: Serving>(alloc: Global, setup: &Setup, servants: &S, job: &Job) -> Outcome
     ensures came { CameOf (served setup.now (S.outcome servants.now)) job.now result }
     ensures few { body_len result ≤ MAX_BODY }

@@ -12,10 +12,10 @@ use Rattle.object_lines.specs.declared.at_end.AtEnd.TheVariants as end
 use Rattle.text_streams.proofs.CallerLemmas.{gave_none}
 use Rattle.text_streams.specs.Streams.{GaveFew}
 use Rattle.orb_command.specs.declared.answered.Answered.{Answered}
-use Rattle.orb_command.specs.declared.meaning.Meaning.TheVariants.{RefsAt}
+use Rattle.command_words.specs.declared.meaning.Meaning.TheVariants.{RefsAt}
 use Rattle.orb_command.specs.declared.note.Note.TheVariants.{Memory}
 use Rattle.orb_command.specs.Moment.{Moment}
-use Rattle.orb_command.specs.Words.{NamesThings, at_place}
+use Rattle.command_words.specs.Words.{NamesThings, at_place}
 use Rattle.orb_command.specs.AtAnswer.{at_note}
 use Rattle.orb_command.specs.Command.{status_of, Answers}
 use Rattle.orb_command.specs.Faults.{FiledFaults}
@@ -82,10 +82,3 @@ at_once place None moment = inr (refl, refl)
 pub at_wanting : (place : Place) (config : Option (List ℕ)) (answered : Answered) (before : Moment) → answered.note ≡ Memory → answered.status ≡ 12
     → Answers (RefsAt place config) answered before before
 at_wanting place config answered before note status = at_answers end.NoMemory place config answered before before refl (at_once place config before) note status
-
--- ---- words
-
--- where there is a place, the words mean references at it
-pub refs_there : (place : Option Place) (config : Option (List ℕ)) → IsSome place → NamesThings (at_place place config)
-refs_there (Some place) config there = tt
-refs_there None config there = absurd (cc)

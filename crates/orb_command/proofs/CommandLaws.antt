@@ -11,7 +11,7 @@ use Rattle.reference_lines.specs.declared.refs_end.RefsEnd.TheVariants as refs
 use Rattle.reference_lines.specs.Refs.{Refs, RefsBytes}
 use Rattle.text_streams.proofs.CallerLemmas.{gave_none}
 use Rattle.orb_command.specs.declared.answered.Answered.{Answered}
-use Rattle.orb_command.specs.declared.meaning.Meaning.TheVariants.{Dump, Refs as RefsMeaning, Unbuilt, Unread}
+use Rattle.command_words.specs.declared.meaning.Meaning.TheVariants.{Dump, Refs as RefsMeaning, Unbuilt, Unread}
 use Rattle.orb_command.specs.declared.note.Note.TheVariants.{Usage, NotBuilt}
 use Rattle.orb_command.specs.Moment.{Moment}
 use Rattle.orb_command.specs.DumpAnswer.{dump_note}

@@ -10,7 +10,7 @@ use Rattle.idl_lines.specs.declared.idl_end.IdlEnd.TheVariants as end
 use Rattle.text_streams.proofs.CallerLemmas.{gave_none}
 use Rattle.text_streams.specs.Streams.{GaveFew}
 use Rattle.orb_command.specs.declared.answered.Answered.{Answered}
-use Rattle.orb_command.specs.declared.meaning.Meaning.TheVariants.{Idl}
+use Rattle.command_words.specs.declared.meaning.Meaning.TheVariants.{Idl}
 use Rattle.orb_command.specs.declared.note.Note.TheVariants.{Memory}
 use Rattle.orb_command.specs.Moment.{Moment}
 use Rattle.orb_command.specs.IdlAnswer.{idl_note}

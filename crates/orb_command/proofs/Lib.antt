@@ -1,15 +1,4 @@
-pub mod StandardFacts
-pub mod CanOpen
-pub mod Places
-pub mod HearingLaws
-pub mod ReplyLaws
-pub mod PipeRuns
-pub mod PingSizes
-pub mod Turns
-pub mod PipedLaws
 pub mod CommandLaws
 pub mod AtLaws
 pub mod IdlLaws
 pub mod PipeNotes
-pub mod HeardLaws
-pub mod RepliedLaws

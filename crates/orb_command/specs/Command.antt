@@ -1,11 +1,11 @@
 -- The answers of the top call: for each note its cause, and what was written.
 use Rattle.std.specs.Prelude.{◌≡◌, ◌+◌, ℕ}
-use Rattle.orb_command.specs.declared.meaning.Meaning.{Meaning}
-use Rattle.orb_command.specs.declared.meaning.Meaning.TheVariants.{Pipe, Dump, Refs, RefsAt, Idl, Unbuilt, Unread}
+use Rattle.command_words.specs.declared.meaning.Meaning.{Meaning}
+use Rattle.command_words.specs.declared.meaning.Meaning.TheVariants.{Pipe, Dump, Refs, RefsAt, Idl, Unbuilt, Unread}
 use Rattle.orb_command.specs.declared.answered.Answered.{Answered}
 use Rattle.orb_command.specs.declared.note.Note.{Note}
 use Rattle.orb_command.specs.declared.note.Note.TheVariants.{Nothing, Usage, Config, Idl as IdlNote, TooLong, ReadFault, WriteFault, Input, Absent, Reference, Memory, Limit, NotBuilt}
-use Rattle.orb_command.specs.declared.request.TheConstants.{MAX_PIPED}
+use Rattle.pipe_runs.specs.declared.pipe_end.TheConstants.{MAX_PIPED}
 use Rattle.giop_dump.specs.declared.dump_end.TheConstants.{MAX_DUMPED}
 use Rattle.reference_lines.specs.declared.refs_end.TheConstants.{MAX_REFERENCE}
 use Rattle.text_streams.specs.Streams.{GaveFew}
@@ -35,7 +35,7 @@ status_of NotBuilt = 14
 
 -- how many bytes are taken at most: of an input of `pipe` or `refs` one more than it may have, so that a longer one is seen
 abbrev pub most_taken : Meaning → ℕ
-most_taken (Pipe config) = MAX_PIPED + 1
+most_taken (Pipe words) = MAX_PIPED + 1
 most_taken Dump = MAX_DUMPED
 most_taken Refs = MAX_REFERENCE + 2
 most_taken (RefsAt place config) = 0
@@ -45,7 +45,7 @@ most_taken Unread = 0
 
 -- what each note means, by what the words mean; a command that isn't there does nothing
 abbrev pub NoteMeans : Meaning → Note → Moment → Moment → Type 0
-NoteMeans (Pipe config) note before after = PipeAnswers config note before after
+NoteMeans (Pipe words) note before after = PipeAnswers words note before after
 NoteMeans Dump note before after = DumpAnswers note before after
 NoteMeans Refs note before after = RefsAnswers note before after
 NoteMeans (RefsAt place config) note before after = AtAnswers place config note before after

@@ -3,8 +3,8 @@ use Rattle.std.specs.Prelude.{◌≡◌, ◌⊎◌, ℕ, List, Option, Some, Non
 use Rattle.orb_base.specs.Outside.{Rose}
 use Rattle.text_streams.specs.Faults.{NoneFailed, ReadFailed, WriteFailed}
 use Rattle.orb_command.specs.Moment.{Moment}
-use Rattle.orb_command.specs.declared.meaning.Meaning.{Meaning}
-use Rattle.orb_command.specs.declared.meaning.Meaning.TheVariants.{Pipe, Dump, Refs, RefsAt, Idl, Unbuilt, Unread}
+use Rattle.command_words.specs.declared.meaning.Meaning.{Meaning}
+use Rattle.command_words.specs.declared.meaning.Meaning.TheVariants.{Pipe, Dump, Refs, RefsAt, Idl, Unbuilt, Unread}
 use Rattle.orb_command.specs.declared.note.Note.{Note}
 use Rattle.orb_command.specs.declared.note.Note.TheVariants.{Nothing, Usage, Config, Idl as IdlNote, TooLong, ReadFault, WriteFault, Input, Absent, Reference, Memory, Limit, NotBuilt}
 
@@ -65,9 +65,9 @@ ConfiguredFaults WriteFault before after =
 ConfiguredFaults Memory before after = after.files.faults ≡ before.files.faults
 ConfiguredFaults Limit before after = NothingFailed before after
 ConfiguredFaults NotBuilt before after = NothingFailed before after
+ConfiguredFaults (Input _ _) before after = (after.files.faults ≡ before.files.faults) × (after.out.faults ≡ before.out.faults)
 ConfiguredFaults (IdlNote _) before after = ⊥
 ConfiguredFaults Usage before after = ⊥
-ConfiguredFaults (Input _ _) before after = ⊥
 ConfiguredFaults (Reference _) before after = ⊥
 
 -- of the pipe: without a configuration it leaves the store of files as it was
@@ -77,7 +77,7 @@ PipeFaults (Some name) note before after = ConfiguredFaults note before after
 
 -- by the command: one over files leaves the input as it was, and one over the input the store of files
 abbrev pub FaultsAt : Meaning → Note → Moment → Moment → Type 0
-FaultsAt (Pipe config) note before after = PipeFaults config note before after
+FaultsAt (Pipe words) note before after = PipeFaults words.config note before after
 FaultsAt Dump note before after = (after.files ≡ before.files) × StreamFaults note before after
 FaultsAt Refs note before after = (after.files ≡ before.files) × StreamFaults note before after
 FaultsAt (RefsAt place config) note before after = (after.input ≡ before.input) × FiledFaults note before after

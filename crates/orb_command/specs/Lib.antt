@@ -1,14 +1,4 @@
-pub mod Setup
-pub mod Ping
-pub mod Heard
-pub mod Stops
-pub mod Built
-pub mod PingRun
-pub mod Hearing
-pub mod Replied
-pub mod Words
 pub mod Moment
-pub mod Pipe
 pub mod AtAnswer
 pub mod IdlAnswer
 pub mod PipeAnswer

@@ -1,6 +1,6 @@
 //! The top call.
 ghost use Rattle.std.specs.Prelude.{◌≡◌, string_bytes};
-ghost use Rattle.orb_command.specs.Words.{command_of};
+ghost use Rattle.command_words.specs.Words.{command_of};
 ghost use Rattle.orb_command.specs.Moment.{moment};
 ghost use Rattle.orb_command.specs.Command.{Answers, status_of};
 
@@ -8,11 +8,10 @@ use crate::answered::Answered;
 use crate::at_note::note_at;
 use crate::dump_note::dump_note;
 use crate::idl_note::idl_note;
-use crate::meaning::Meaning;
 use crate::note::Note;
 use crate::pipe_note::pipe_note;
 use crate::refs_note::refs_note;
-use crate::words::read_words;
+use command_words::{Meaning, read_words};
 use giop_dump::dump_run;
 use idl_lines::idl_run;
 use object_lines::at_run;
@@ -41,8 +40,9 @@ fn answered(note: Note) -> Answered
 }
 
 /// Does all that the program does: reads the words, runs the command over the files, the input and the output, and answers the
-/// status with its note. `pipe` answers each request of its input, by the built-in setup, and with `--config FILE` by the
-/// configuration of this name; `dump` writes a line for each message of it, and `refs` writes
+/// status with its note. `pipe` carries out the requests of its input, by the built-in setup, and with `--config FILE` by the
+/// configuration of this name, in groups of one, or with `--batch N` of up to N calls, and writes what is answered, or with
+/// `--history` the text of the run's history; `dump` writes a line for each message of it, and `refs` writes
 /// the parts of the reference that it is. `refs --at HOST:PORT` writes the reference of each object of the built-in setup at that
 /// address, and with `--config FILE` of each object of the configuration of this name. `idl --file FILE` lists what the
 /// IDL of the file declares. The other commands aren't built yet. It
@@ -56,15 +56,16 @@ pub fn orb_main<F: Files, I: Source, O: Sink>(
     out: &mut O,
 ) -> Answered
     // The status is that of the note, and each note has its cause, by what the words mean: 1 exactly where they mean no
-    // command, 14 exactly where they mean one that isn't built, an input of `pipe` isn't of the built form, or a configuration names
-    // files of interfaces, or for `pipe` has another pool than the one that is built; 3 and 4 only where the count of faults of the input, of the files, or of the output rose, and no other;
-    // 8 and 13 of `dump`, and 8 of `refs`, exactly where the bytes that it took say so; 2 and 10 exactly where the file says so.
+    // command, 14 exactly where they mean one that isn't built, an input of `pipe` is longer than 1,048,576 bytes, or a configuration
+    // names files of interfaces; 3 and 4 only where the count of faults of the input, of the files, or of the output rose, and no
+    // other; 8 and 13 of `dump`, and 8 of `refs`, exactly where the bytes that it took say so, and of `pipe` what its history and its
+    // bytes say; 2 and 10 exactly where the file says so.
     ensures { Answers (command_of string_bytes words.now) result
         (moment (F.state files.old) (I.state input.old) (O.state out.old))
         (moment (F.state files.new) (I.state input.new) (O.state out.new)) }
 {
     match read_words(alloc, words) {
-        Ok(Meaning::Pipe(config)) => answered(pipe_note(alloc, files, config.as_ref(), input, out)),
+        Ok(Meaning::Pipe(words)) => answered(pipe_note(alloc, files, &words, input, out)),
         Ok(Meaning::Dump) => answered(dump_note(dump_run(alloc, input, out))),
         Ok(Meaning::Refs) => answered(refs_note(refs_run(alloc, input, out))),
         Ok(Meaning::RefsAt(at, config)) => {

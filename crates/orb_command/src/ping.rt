@@ -3,7 +3,7 @@ ghost use Rattle.std.specs.Prelude.{◌≡◌, IfOk, length};
 ghost use Rattle.std.specs.Int.{w16};
 ghost use Rattle.cdr_core.specs.Field.{number_bytes};
 ghost use Rattle.orb_base.specs.declared.outcome.Outcome.TheVariants.{System};
-ghost use Rattle.orb_command.specs.Ping.{ping_outcome};
+ghost use Rattle.ping_laws.specs.Ping.{ping_outcome};
 
 use cdr_core::bytes_of_u16;
 use orb_base::{

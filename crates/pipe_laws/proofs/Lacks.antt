@@ -11,7 +11,7 @@ use Rattle.lane_machine.specs.declared.call.LaneCall.TheVariants.{Finish}
 use Rattle.lane_machine.specs.Histories.{History}
 use Rattle.adapter_policies.specs.SetupData.{SetupData}
 use Rattle.pipe_laws.specs.Piped.{answer_of}
-use Rattle.pipe_laws.specs.Lacking.{agrees_at, Agrees, came_at, served, apart_at, Apart, once_at, Lacking, LacksAreThere}
+use Rattle.pipe_laws.specs.Lacking.{agrees_at, Agrees, CameOf, came_at, served, apart_at, Apart, once_at, Lacking, LacksAreThere}
 
 -- one serial more changes no answer to a job of another serial
 more_at : (setup : SetupData) (outcome : List ℕ → JobRecord → Outcome) (n : ℕ) (lacks : List ℕ) (call : LaneCall) → apart_at n call
@@ -35,7 +35,7 @@ record InFront (setup : SetupData) (outcome : List ℕ → JobRecord → Outcome
   agrees : Agrees (answer_of setup outcome lacks) es
 
 finish_front : (setup : SetupData) (outcome : List ℕ → JobRecord → Outcome) (t : ℕ) (answer : Answer) (es : History)
-    → (answer.outcome ≡ served setup outcome answer.job) ⊎ (answer.outcome ≡ no_memory)
+    → CameOf (served setup outcome) answer.job answer.outcome
     → Apart answer.job.serial es → Lacking setup outcome es → InFront setup outcome (Finish t answer) es
 finish_front setup outcome t answer es (inl is) once others = record {
   lacks = others.lacks;
@@ -43,7 +43,7 @@ finish_front setup outcome t answer es (inl is) once others = record {
   first = ap (λ (b : Bool). if b then no_memory else served setup outcome answer.job) (others.only answer.job.serial once) ∙ sym is;
   agrees = others.agrees;
 }
-finish_front setup outcome t answer es (inr is) once others = record {
+finish_front setup outcome t answer es (inr (is, _)) once others = record {
   lacks = answer.job.serial ∷ others.lacks;
   only = λ n here apart. ap (λ (b : Bool). b || list_any (λ serial. serial == n) others.lacks) (ne_eqb answer.job.serial n here)
       ∙ others.only n apart;
@@ -63,7 +63,7 @@ in_front setup outcome (Finish t answer) es came once others = finish_front setu
 in_front setup outcome call es came once others = other_front setup outcome call es (λ lacks. tt) others
 
 pub lacks_are_there : LacksAreThere
-lacks_are_there setup outcome [] answers once = record { lacks = []; only = λ n apart. refl; agrees = tt }
+lacks_are_there setup outcome [] answers once = record { lacks = []; only = λ n apart. refl; agrees = tt; came = tt }
 lacks_are_there setup outcome (e ∷ es) (came, answers) (first, once) =
     let x = in_front setup outcome e.call es came first (lacks_are_there setup outcome es answers once) in
-    record { lacks = x.lacks; only = λ n apart. x.only n apart.0 apart.1; agrees = (x.first, x.agrees) }
+    record { lacks = x.lacks; only = λ n apart. x.only n apart.0 apart.1; agrees = (x.first, x.agrees); came = (came, answers) }

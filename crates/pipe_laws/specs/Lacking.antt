@@ -2,7 +2,7 @@
 use Rattle.std.specs.Prelude.{◌≡◌, ◌==◌, ◌⊎◌, ℕ, false, List, [], ◌∷◌}
 use Rattle.std.specs.List.{list_any}
 use Rattle.orb_base.specs.JobRecord.{JobRecord}
-use Rattle.orb_base.specs.Outcomes.{no_memory}
+use Rattle.orb_base.specs.Outcomes.{no_memory, bad_operation}
 use Rattle.orb_base.specs.declared.outcome.Outcome.{Outcome}
 use Rattle.lane_machine.specs.declared.call.LaneCall.{LaneCall}
 use Rattle.lane_machine.specs.declared.call.LaneCall.TheVariants.{Finish}
@@ -21,12 +21,16 @@ abbrev pub Agrees : (JobRecord → Outcome) → History → Type 0
 Agrees servant [] = Unit {0}
 Agrees servant (e ∷ es) = agrees_at servant e.call × Agrees servant es
 
--- an answer is the outcome, or tells of want of memory
+-- what came of a job is its outcome, or tells of want of memory; never so where the outcome is that there is no such operation
+abbrev pub CameOf : (JobRecord → Outcome) → JobRecord → Outcome → Type 0
+CameOf outcome job came = (came ≡ outcome job) ⊎ ((came ≡ no_memory) × ¬ (outcome job ≡ bad_operation))
+
+-- what is answered came of the job
 abbrev pub came_at : (JobRecord → Outcome) → LaneCall → Type 0
-came_at outcome (Finish _ answer) = (answer.outcome ≡ outcome answer.job) ⊎ (answer.outcome ≡ no_memory)
+came_at outcome (Finish _ answer) = CameOf outcome answer.job answer.outcome
 came_at outcome _ = Unit {0}
 
--- each answer of these entries is
+-- each answer of these entries came of its job
 abbrev pub HasAnswers : (JobRecord → Outcome) → History → Type 0
 HasAnswers outcome [] = Unit {0}
 HasAnswers outcome (e ∷ es) = came_at outcome e.call × HasAnswers outcome es
@@ -55,11 +59,13 @@ abbrev pub FinishesOnce : History → Type 0
 FinishesOnce [] = Unit {0}
 FinishesOnce (e ∷ es) = once_at e.call es × FinishesOnce es
 
--- the serials for which memory was wanting: only finished ones, and with them the servants of `piped` gave each answer
+-- the serials for which memory was wanting: only finished ones, and with them the servants of `piped` gave each answer. Each answer
+-- came of its job, so that none whose outcome is that there is no such operation tells of want of memory
 pub record Lacking (setup : SetupData) (outcome : List ℕ → JobRecord → Outcome) (h : History) : Type 0 where
   pub lacks : List ℕ
   pub only : (n : ℕ) → Apart n h → list_any (λ serial. serial == n) lacks ≡ false
   pub agrees : Agrees (answer_of setup outcome lacks) h
+  pub came : HasAnswers (served setup outcome) h
 
 -- they are there wherever each answer is the outcome or tells of want of memory, and no serial is finished twice
 abbrev pub LacksAreThere : Type 0

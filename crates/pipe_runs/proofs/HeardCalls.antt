@@ -1,5 +1,5 @@
 -- The calls of heard messages are those of a reading side, and their requests are numbered one after another.
-use Rattle.std.proofs.Common.{◌≡◌, ◌+◌, ◌<◌, ℕ, Bool, true, List, [], ◌∷◌, ◌++◌, length, Option, Some, None, Result, Ok, Err, slice_get, refl, sym, ap, ◌∙◌, subst, arith}
+use Rattle.std.proofs.Common.{◌≡◌, ◌+◌, ◌<◌, ℕ, Bool, true, List, [], ◌∷◌, ◌++◌, length, Option, Some, None, Result, Ok, Err, slice_get, refl, sym, subst, arith}
 use Rattle.std.specs.Prelude.{option_to_list}
 use Rattle.std.specs.List.{HoldsAt}
 use Rattle.std.proofs.lemmas.Option.{get_or_from_slice_get, slice_get-get_or}
@@ -26,14 +26,14 @@ use Rattle.adapter_policies.specs.SetupData.{SetupData}
 use Rattle.pipe_laws.specs.Legality.{IsHeardCall, AreHeardCalls}
 use Rattle.pipe_laws.specs.Serials.{IsNumbered, CountsFrom}
 use Rattle.request_judge.specs.Answers.{answer_of}
-use Rattle.request_judge.specs.Calls.{call_of, job_of, posted, told_when}
+use Rattle.request_judge.specs.Calls.{call_of, job_of, told_when}
 use Rattle.request_judge.specs.Judging.{Judges, Running}
 use Rattle.request_judge.specs.declared.refusal.Refusal.{Refusal}
 use Rattle.request_judge.specs.declared.verdict.Place.{Place}
 use Rattle.request_judge.specs.declared.verdict.Verdict.{Verdict}
 use Rattle.request_judge.specs.declared.verdict.Verdict.TheVariants.{Runs, Binds}
 use Rattle.heard_calls.specs.Hearing.{Told, Hears, HearsOn}
-use Rattle.heard_calls.specs.Meaning.{IsMeant, MeansRead}
+use Rattle.heard_calls.specs.Meaning.{MeansRead}
 use Rattle.heard_calls.specs.declared.means.Means.{Means}
 use Rattle.heard_calls.specs.declared.means.Means.TheVariants.{Goes, Ends, Breaks}
 

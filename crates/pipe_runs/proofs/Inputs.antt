@@ -1,6 +1,5 @@
 -- What the driver did over the calls of an input is the run of the input.
-use Rattle.std.proofs.Common.{◌≡◌, ◌⊎◌, inl, inr, ℕ, Bool, true, false, List, ◌++◌, Option, Result, Ok, Err, refl, sym, ap, ◌∙◌, subst}
-use Rattle.std.specs.Prelude.{option_map}
+use Rattle.std.proofs.Common.{◌≡◌, ℕ, Bool, true, false, List, Option, Result, Ok, Err, sym, ap, subst}
 use Rattle.orb_base.specs.JobRecord.{JobRecord}
 use Rattle.orb_base.specs.Outside.{SinkState, Rose}
 use Rattle.orb_base.specs.Pool.{IsWellFormed}
@@ -8,15 +7,15 @@ use Rattle.orb_base.specs.declared.outcome.Outcome.{Outcome}
 use Rattle.lane_machine.specs.declared.call.How.{How}
 use Rattle.lane_machine.specs.declared.call.LaneCall.{LaneCall}
 use Rattle.lane_machine.specs.Histories.{History}
-use Rattle.lane_machine.specs.State.{State, HasSlots, CanOpen, opening}
+use Rattle.lane_machine.specs.State.{State, HasSlots, opening}
 use Rattle.adapter_policies.specs.SetupData.{SetupData}
 use Rattle.pipe_laws.specs.Lacking.{served}
 use Rattle.pipe_laws.specs.Legality.{AreHeardCalls}
-use Rattle.pipe_laws.specs.Piped.{Run, piped}
+use Rattle.pipe_laws.specs.Piped.{Run}
 use Rattle.pipe_laws.specs.Serials.{CountsFrom, RisesFrom}
 use Rattle.pipe_laws.specs.Setup.{pipe_conn}
 use Rattle.pipe_laws.proofs.Rising.{counting_rises}
-use Rattle.lane_driver.specs.Driving.{Drives, Did, Doer, StoppedWriting, BeganWriting, run_at}
+use Rattle.lane_driver.specs.Driving.{Drives, Did, BeganWriting}
 use Rattle.lane_driver.specs.Running.{running}
 use Rattle.lane_driver.specs.declared.course.Course.{Course}
 use Rattle.lane_driver.specs.declared.course.Course.TheVariants.{Whole, Stopped}
@@ -52,13 +51,15 @@ ran_whole setup outcome batch input calls ending s' log log' out out' well slots
     (calls_rise setup input calls ending well heard) did.does_so
     in
     record {
-      calls = calls;
-      heard = heard;
       entries = did.entries;
-      lacking = is.0;
-      runs = ap (λ (r : Run). r.history) is.1;
-      legal = did.does_so.leads.legal;
-      closes = ap (λ (r : Run). r.state.closing) is.1;
+      run = record {
+        calls = calls;
+        heard = heard;
+        lacking = is.0;
+        runs = ap (λ (r : Run). r.history) is.1;
+        legal = did.does_so.leads.legal;
+        closes = ap (λ (r : Run). r.state.closing) is.1;
+      };
       logged = did.logged;
       wrote = did.wrote;
     }
@@ -73,13 +74,8 @@ ran_front setup outcome batch input calls ending out out' well slots heard began
     (calls_rise setup input calls ending well heard) began.begins
     in
     record {
-      calls = calls;
-      ending = ending;
-      heard = heard;
       entries = began.entries;
-      lacking = is.0;
-      later = is.1;
-      begins = is.2;
+      run = record { calls = calls; ending = ending; heard = heard; lacking = is.0; later = is.1; begins = is.2 };
       wrote = began.wrote;
     }
 

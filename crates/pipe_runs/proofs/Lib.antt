@@ -1,2 +1,3 @@
 pub mod HeardCalls
 pub mod Inputs
+pub mod Showing

@@ -30,29 +30,38 @@ how_of (Broken offset fault) = Bad
 abbrev pub run_of : SetupData → (List ℕ → JobRecord → Outcome) → ℕ → List LaneCall → Ending → List ℕ → Run
 run_of setup outcome batch calls ending lacks = piped setup outcome batch calls (how_of ending) lacks
 
--- the whole input was run: its bytes mean these calls, the history is that of their run, which is legal, and all that it says was
--- written, where memory was wanting to the jobs of some serials; the history was appended to the one that is kept, if one is
-pub record RanWhole (setup : SetupData) (outcome : List ℕ → JobRecord → Outcome) (batch : ℕ) (input : List ℕ) (ending : Ending) (closing : Bool)
-    (log log' : Option History) (out out' : SinkState) : Type 0 where
+-- these entries are the history of the run of an input that ended so: its bytes mean these calls, and memory was wanting to the jobs
+-- of some serials; the history is legal, and a limit of the run was met, or none was
+pub record IsRunOf (setup : SetupData) (outcome : List ℕ → JobRecord → Outcome) (batch : ℕ) (input : List ℕ) (ending : Ending) (closing : Bool)
+    (entries : History) : Type 0 where
   pub calls : List LaneCall
   pub heard : HearsInput setup pipe_conn input calls ending
-  pub entries : History
   pub lacking : Lacking setup outcome entries
   pub runs : (run_of setup outcome batch calls ending lacking.lacks).history ≡ entries
   pub legal : IsLegal (opening setup.pool setup.slots setup.per_slot) entries
   pub closes : (run_of setup outcome batch calls ending lacking.lacks).state.closing ≡ closing
-  pub logged : log' ≡ option_map (λ h. h ++ entries) log
-  pub wrote : WroteText (said pipe_conn entries) out out'
 
--- the run of the input was begun: these entries stand at the front of its history, and what was written is a front of what they say
-pub record RanFront (setup : SetupData) (outcome : List ℕ → JobRecord → Outcome) (batch : ℕ) (input : List ℕ) (out out' : SinkState) : Type 0 where
+-- these entries stand at the front of the history of the run of an input
+pub record BeginsRunOf (setup : SetupData) (outcome : List ℕ → JobRecord → Outcome) (batch : ℕ) (input : List ℕ) (entries : History) : Type 0 where
   pub calls : List LaneCall
   pub ending : Ending
   pub heard : HearsInput setup pipe_conn input calls ending
-  pub entries : History
   pub lacking : Lacking setup outcome entries
   pub later : History
   pub begins : (run_of setup outcome batch calls ending lacking.lacks).history ≡ entries ++ later
+
+-- the whole input was run: all that the history of its run says was written, and it stands behind the one that is kept, if one is
+pub record RanWhole (setup : SetupData) (outcome : List ℕ → JobRecord → Outcome) (batch : ℕ) (input : List ℕ) (ending : Ending) (closing : Bool)
+    (log log' : Option History) (out out' : SinkState) : Type 0 where
+  pub entries : History
+  pub run : IsRunOf setup outcome batch input ending closing entries
+  pub logged : log' ≡ option_map (λ h. h ++ entries) log
+  pub wrote : WroteText (said pipe_conn entries) out out'
+
+-- the run of the input was begun, and what was written is a front of what these entries say
+pub record RanFront (setup : SetupData) (outcome : List ℕ → JobRecord → Outcome) (batch : ℕ) (input : List ℕ) (out out' : SinkState) : Type 0 where
+  pub entries : History
+  pub run : BeginsRunOf setup outcome batch input entries
   pub wrote : WroteFrontOf (said pipe_conn entries) out out'
 
 -- what comes of a whole input. At want of memory nothing was written, or the run was begun

@@ -5,11 +5,19 @@
 //! connection's calls.
 #![tactic(auto)]
 
+mod batch;
 mod input_end;
+mod pipe;
+mod pipe_end;
 mod running;
+mod shown;
 
+pub use batch::Batch;
 pub use input_end::InputEnd;
+pub use pipe::pipe_run;
+pub use pipe_end::{MAX_PIPED, PipeEnd};
 pub use running::run_input;
+pub use shown::Shown;
 
 #[cfg(test)]
 mod tests;

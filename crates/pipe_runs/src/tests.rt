@@ -9,7 +9,8 @@ use giop_messages::Fault;
 use heard_calls::Ending;
 use lane_driver::Log;
 use orb_base::{
-    Completed, Job, List, MemSink, NoMemory, Outcome, Serving, SharedOctets, Sys, SysName, Text,
+    Completed, Job, List, MemSink, MemSource, NoMemory, Outcome, Serving, SharedOctets, Sys,
+    SysName, Text,
 };
 use std::alloc::Global;
 use std::process::Abort;
@@ -125,6 +126,50 @@ fn an_urgent_request_is_lent_a_thread_and_overtakes(rt: HostRuntime) -> Result<(
     assert_eq!(rt; calls, 14);
     let (_, written, _) = ran(&rt, alloc, LANES, 1, &[], &[ASKS_1, ASKS_2])?;
     assert!(rt; written == joined(alloc, &[REPLY_1, REPLY_2])?);
+    Ok(())
+}
+
+/// What the pipe shows of an input over the lanes, in groups of three, and how it comes out.
+fn shown_of(
+    rt: &impl Abort,
+    alloc: Global,
+    shown: Shown,
+    input: &[&[u8]],
+    failing: &[u64],
+) -> Result<(PipeEnd, Vec<u8>), Fail> {
+    let setup = setup_of(alloc, LANES)?;
+    assert!(rt; setup.slots() == 4 && setup.per_slot() == 32);
+    let bytes = List::from_vec(joined(alloc, input)?);
+    let failing = List::from_vec(Vec::from_slice(alloc, failing)?);
+    let mut source = MemSource::new(bytes, List::new(alloc), failing);
+    let mut sink = MemSink::new(alloc, List::new(alloc), List::new(alloc));
+    let quick = Quick { alloc };
+    let batch = Batch::new(3).ok_or("a batch")?;
+    let end = pipe_run(alloc, &setup, &quick, batch, shown, &mut source, &mut sink)?;
+    Ok((end, Vec::from_slice(alloc, sink.held())?))
+}
+
+/// The history of the three requests: the second is lent the thread of the lower lane, the third waits, and overtakes the first.
+const HISTORY: &[u8] =
+    b"offer c0.0 #1 p20 l1 run t1\noffer c0.0 #2 p20 l1 lent t0\noffer c0.0 #3 p20 l1 kept\ntake t0 #2\nfinish t0 #2 returned\ntake t0 #3\nfinish t0 #3 returned\ntake t1 #1\nfinish t1 #1 returned\ncollect c0.0 #2\ncollect c0.0 #3\ncollect c0.0 #1\nend c0.0 quiet\ncollect c0.0 done\n";
+
+#[test]
+fn the_pipe_shows_bytes_or_the_text_of_its_history(rt: HostRuntime) -> Result<(), Fail> {
+    let alloc = rt.alloc();
+    assert!(rt; Batch::new(0).is_none() && Batch::new(65).is_none());
+    assert_eq!(rt; Batch::new(64).map(|batch| batch.calls()), Some(64));
+    assert_eq!(rt; Batch::new(1), Some(Batch::one()));
+    let ended = PipeEnd::Ran(InputEnd::Ended(Ending::Ended));
+    let asks: [&[u8]; 3] = [ASKS_1, ASKS_2, ASKS_3];
+    let (end, written) = shown_of(&rt, alloc, Shown::Bytes, &asks, &[])?;
+    assert_eq!(rt; end, ended);
+    assert!(rt; written == joined(alloc, &[REPLY_2, REPLY_3, REPLY_1])?);
+    let (end, written) = shown_of(&rt, alloc, Shown::Text, &asks, &[])?;
+    assert_eq!(rt; end, ended);
+    assert!(rt; written.as_slice() == HISTORY);
+    let (end, written) = shown_of(&rt, alloc, Shown::Text, &asks, &[0])?;
+    assert_eq!(rt; end, PipeEnd::ReadFault);
+    assert!(rt; written.is_empty());
     Ok(())
 }
 

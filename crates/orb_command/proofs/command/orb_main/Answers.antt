@@ -11,10 +11,10 @@ pub returns-in-Ok-Pipe : goal.returns-in-Ok-Pipe
 returns-in-Ok-Pipe g c =
     let note = c.answered.ensures.note in
     rw (sym c.in-Ok-Pipe.ensures, c.in-Ok-Pipe.field-0-is)
-    (pipe_answers c.in-Ok-Pipe.config c.answered.result
+    (pipe_answers c.in-Ok-Pipe.words c.answered.result
     (moment (g.F.Files.state c.args.files.now) (g.I.Source.state c.args.input.now) (g.O.Sink.state c.args.out.now))
     (moment (g.F.Files.state c.pipe_note.new.files) (g.I.Source.state c.pipe_note.new.input) (g.O.Sink.state c.pipe_note.new.out))
-    (rw (note, sym c.as_ref.ensures.value) c.pipe_note.ensures) (c.answered.ensures.status ∙ ap status_of (sym note)))
+    (rw note c.pipe_note.ensures) (c.answered.ensures.status ∙ ap status_of (sym note)))
 
 pub returns-in-Ok-RefsAt : goal.returns-in-Ok-RefsAt
 returns-in-Ok-RefsAt g c =
@@ -24,7 +24,7 @@ returns-in-Ok-RefsAt g c =
     (at_answers c.at_run.result c.in-Ok-RefsAt.at c.in-Ok-RefsAt.config c.answered-in-Ok-RefsAt.result
     (moment (g.F.Files.state c.args.files.now) (g.I.Source.state c.args.input.now) (g.O.Sink.state c.args.out.now))
     (moment (g.F.Files.state c.at_run.new.files) (g.I.Source.state c.args.input.now) (g.O.Sink.state c.at_run.new.sink))
-    refl (rw (sym c.as_ref-in-Ok-RefsAt.ensures.value) c.at_run.ensures) note status)
+    refl (rw (sym c.as_ref.ensures.value) c.at_run.ensures) note status)
 
 pub returns-in-Ok-Idl : goal.returns-in-Ok-Idl
 returns-in-Ok-Idl g c =

@@ -1,12 +1,11 @@
 -- The driver ran the calls of the input.
-use Rattle.std.proofs.Common.{◌≡◌, List, Ok, Err, inl, inr, refl, sym, ap, ◌∙◌, subst}
+use Rattle.std.proofs.Common.{List, Ok, Err, inr, refl, sym, ap, subst}
 use Rattle.std.proofs.lemmas.Result.{err_from_is_err_and}
 use Rattle.lane_machine.specs.State.{State}
 use Rattle.lane_machine.specs.declared.call.LaneCall.{LaneCall}
 use Rattle.pipe_laws.specs.Legality.{AreHeardCalls}
 use Rattle.pipe_laws.specs.Setup.{pipe_conn}
 use Rattle.lane_driver.specs.declared.course.Course.{Course}
-use Rattle.pipe_runs.specs.Runs as Spec
 use Rattle.pipe_runs.proofs.Inputs.{Driven, calls_heard, driven, whole_comes}
 use Rattle.pipe_runs.proofs.running.run_input.Goals as goal
 

@@ -1,0 +1,11 @@
+//! What the words of a command line mean. No command is carried out here.
+#![tactic(auto)]
+
+mod meaning;
+mod words;
+
+pub use meaning::{Meaning, PipeWords};
+pub use words::read_words;
+
+#[cfg(test)]
+mod tests;

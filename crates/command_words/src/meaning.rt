@@ -1,0 +1,35 @@
+//! What the words of a command line mean.
+
+use object_lines::Address;
+use orb_base::Text;
+use pipe_runs::{Batch, Shown};
+
+/// The options of `pipe`.
+#[derive(Debug, Drop)]
+pub struct PipeWords {
+    /// The name of a configuration, where there is one.
+    pub config: Option<Text>,
+    /// How many calls a group has at most; 1 where none is said.
+    pub batch: Batch,
+    /// What is written: the bytes of GIOP, or with `--history` the text of the history.
+    pub shown: Shown,
+}
+
+/// What the words of a command line mean.
+#[derive(Debug, Drop)]
+pub enum Meaning {
+    /// The command `pipe`.
+    Pipe(PipeWords),
+    /// The command `dump`.
+    Dump,
+    /// The command `refs`.
+    Refs,
+    /// The command `refs` at an address, with the name of a configuration where there is one.
+    RefsAt(Address, Option<Text>),
+    /// The command `idl`, with the name of a file.
+    Idl(Text),
+    /// A command, or options of one, that isn't built yet.
+    Unbuilt,
+    /// No command.
+    Unread,
+}

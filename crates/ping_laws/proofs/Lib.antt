@@ -1,0 +1,10 @@
+pub mod CanOpen
+pub mod HeardLaws
+pub mod HearingLaws
+pub mod Judged
+pub mod PingSizes
+pub mod PipeRuns
+pub mod PipedLaws
+pub mod Places
+pub mod RepliedLaws
+pub mod StandardFacts

@@ -1,0 +1,10 @@
+//! What the pipe writes.
+
+/// What the pipe writes of its history.
+#[derive(Clone, Copy, Debug, PartialEq, Eq)]
+pub enum Shown {
+    /// The bytes that the history says: GIOP.
+    Bytes,
+    /// Its text, a line for each of its calls.
+    Text,
+}
