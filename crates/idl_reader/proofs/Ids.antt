@@ -1,12 +1,12 @@
 -- Ids tell declarations apart, case aside, where the scopes of a text are in order.
 use Rattle.std.proofs.Common.{◌≡◌, ◌⊎◌, inl, inr, ℕ, zero, suc, ◌-◌, ◌<◌, ◌≤◌, arith, Bool, true, false, List, [], ◌∷◌, ◌++◌, length, map, codes, append_assoc, refl, sym, ap, ◌∙◌}
 use Rattle.std.specs.Prelude.{◌==◌, if◌then◌else◌}
-use Rattle.std.proofs.lemmas.Bool.Decides.{nat_tests}
 use Rattle.std.proofs.lemmas.List.{map-append, append_cancel_left, append_cancel_right}
 use Rattle.std.specs.Char.{to_ascii_lowercase}
 use Rattle.idl_scopes.specs.Table.{Table}
 use Rattle.idl_scopes.specs.Finding.{lowered, scope_at, name_at, outer}
 use Rattle.idl_scopes.specs.Ids.{within, id_of}
+use Rattle.idl_scopes.proofs.Within.{is_not_0, around_file}
 use Rattle.idl_reader.proofs.CutNames.{has_slash, cut_last, cut_name, cut_path}
 
 -- the scopes of a text in order: a name has no `/`, a scope's number is at most that of what stands in it, and a scope has no
@@ -19,14 +19,6 @@ pub record InOrder (t : Table) : Type 0 where
 pub zero_or_more : (n : ℕ) → (n ≡ 0) ⊎ (0 < n)
 zero_or_more zero = inl refl
 zero_or_more (suc n) = inr (omega arith)
-
-is_not_0 : (scope : ℕ) → 0 < scope → (scope == 0) ≡ false
-is_not_0 scope h = grind (arith, nat_tests)
-
-pub around_file : (n : ℕ) (t : Table) (scope : ℕ) → scope ≡ 0 → within n t scope ≡ []
-unfolding within
-around_file zero t scope h = refl
-around_file (suc n) t scope h = ap (λ k. if k == 0 then [] else ((within n t (outer t k) ++ name_at t (k - 1)) ++ codes "/")) h
 
 pub one_more : (n : ℕ) (t : Table) (scope : ℕ) → 0 < scope → within (suc n) t scope ≡ (within n t (outer t scope) ++ name_at t (scope - 1)) ++ codes "/"
 unfolding within

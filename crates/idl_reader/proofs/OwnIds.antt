@@ -10,7 +10,8 @@ use Rattle.idl_scopes.specs.Finding.{lowered, scope_at, name_at, outer}
 use Rattle.idl_scopes.specs.Ids.{within, id_of}
 use Rattle.idl_types.specs.Sound.{is_reserved}
 use Rattle.idl_reader.proofs.CutNames.{cut_name, orb_in_front}
-use Rattle.idl_reader.proofs.Ids.{InOrder, zero_or_more, around_file, one_more, not_empty, low_more, cut_within, parts_same, outer_less, low_id}
+use Rattle.idl_scopes.proofs.Within.{around_file}
+use Rattle.idl_reader.proofs.Ids.{InOrder, zero_or_more, one_more, not_empty, low_more, cut_within, parts_same, outer_less, low_id}
 
 -- the name of the built-in module, in lower case
 abbrev orb : List ℕ

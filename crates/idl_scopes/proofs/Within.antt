@@ -10,7 +10,7 @@ nothing_more : (xs ys : List ℕ) → ys ≡ [] → xs ≡ xs ++ ys
 nothing_more [] ys e = sym e
 nothing_more (x ∷ xs) ys e = ap (λ zs. x ∷ zs) (nothing_more xs ys e)
 
-around_file : (n : ℕ) (t : Table) (scope : ℕ) → scope ≡ 0 → within n t scope ≡ []
+pub around_file : (n : ℕ) (t : Table) (scope : ℕ) → scope ≡ 0 → within n t scope ≡ []
 unfolding within
 around_file zero t scope h = refl
 around_file (suc n) t scope h = ap (λ k. if k == 0 then [] else ((within n t (outer t k) ++ name_at t (k - 1)) ++ codes "/")) h
@@ -27,7 +27,7 @@ none_around n t scope out h = nothing_more out (within n t scope) (around_file n
 pub none_asked : (n : ℕ) (t : Table) (scope : ℕ) (out : List ℕ) → n ≡ 0 → out ≡ out ++ within n t scope
 none_asked n t scope out h = nothing_more out (within n t scope) (past_none n t scope h)
 
-is_not_0 : (scope : ℕ) → 0 < scope → (scope == 0) ≡ false
+pub is_not_0 : (scope : ℕ) → 0 < scope → (scope == 0) ≡ false
 is_not_0 scope h = grind (arith, nat_tests)
 
 one_more : (n : ℕ) (t : Table) (scope : ℕ) → 0 < n → 0 < scope → within n t scope ≡ (within (n - 1) t (outer t scope) ++ name_at t (scope - 1)) ++ codes "/"

@@ -31,7 +31,7 @@ use Rattle.lane_machine.specs.Changes.{changes}
 use Rattle.lane_driver.proofs.Fronts.{Grows, begins_none, begins_one}
 use Rattle.lane_driver.proofs.Driving.{leads_none, leads_one, goes_none, goes_began, does_both, does_began, logged_both, logged_none, applied_is, reached_applied, stays_both}
 use Rattle.lane_driver.proofs.Grow.{grows_applied, grows_behind, grows_closed, behind_both}
-use Rattle.lane_driver.proofs.Items.{said_one, wrote_entries, front_entries, front_nothing, drives_then, stopped_first, want_first, want_at_once, grows_settling}
+use Rattle.lane_driver.proofs.Items.{said_one, wrote_entries, front_entries, stops_here, front_nothing, drives_then, stopped_first, want_first, want_at_once, grows_settling}
 use Rattle.pipe_laws.proofs.Standing.{heard_sound, heard_ready, heard_calm, heard_ends, last_ready}
 
 -- ---- another name for what is done from this state
@@ -104,17 +104,17 @@ did_want first next outcome s m log mid out among out' one grows same = record {
 }
 
 -- a call by which nothing is written, and which is no Finish
-abbrev pub IsSilent : LaneCall → Type 0
-IsSilent (Offer _) = Unit {0}
-IsSilent (Post _) = Unit {0}
-IsSilent (Cancel _ _) = Unit {0}
-IsSilent (End _ _) = Unit {0}
-IsSilent (Leave _) = Unit {0}
-IsSilent (Take _) = Unit {0}
-IsSilent (Finish _ _) = ⊥
-IsSilent (Collect _) = ⊥
+abbrev pub WritesNothing : LaneCall → Type 0
+WritesNothing (Offer _) = Unit {0}
+WritesNothing (Post _) = Unit {0}
+WritesNothing (Cancel _ _) = Unit {0}
+WritesNothing (End _ _) = Unit {0}
+WritesNothing (Leave _) = Unit {0}
+WritesNothing (Take _) = Unit {0}
+WritesNothing (Finish _ _) = ⊥
+WritesNothing (Collect _) = ⊥
 
-silent_said : (call : LaneCall) (r : LaneReply) → IsSilent call → said pipe_conn (entry call r ∷ []) ≡ []
+silent_said : (call : LaneCall) (r : LaneReply) → WritesNothing call → said pipe_conn (entry call r ∷ []) ≡ []
 silent_said (Offer job) r is = refl
 silent_said (Post notice) r is = refl
 silent_said (Cancel c id) r is = refl
@@ -124,7 +124,7 @@ silent_said (Take t) r is = refl
 silent_said (Finish t answer) r is = absurd is
 silent_said (Collect c) r is = absurd is
 
-silent_came : (outcome : Servant) (call : LaneCall) → IsSilent call → came_at outcome call
+silent_came : (outcome : Servant) (call : LaneCall) → WritesNothing call → came_at outcome call
 silent_came outcome (Offer job) is = tt
 silent_came outcome (Post notice) is = tt
 silent_came outcome (Cancel c id) is = tt
@@ -145,7 +145,7 @@ call_begins : (s s' : State) (call : LaneCall) (r : LaneReply) → s' ≡ (step 
 call_begins s s' call r state reply = begins_one (calling call) s (entry call r) (grows_calling call) (λ servant agrees h.
     ([], ap (λ (r : Run). r.history) (applied_is s s' call r h state reply) ∙ sym (append-nil (h ++ entry call r ∷ []))))
 
-pub did_call : (outcome : Servant) (call : LaneCall) (s s' : State) (log log' : Option History) (r : LaneReply) (out : SinkState) → IsSilent call → IsApplied s call s' log log' r → Did (calling call) outcome s s' log log' out out
+pub did_call : (outcome : Servant) (call : LaneCall) (s s' : State) (log log' : Option History) (r : LaneReply) (out : SinkState) → WritesNothing call → IsApplied s call s' log log' r → Did (calling call) outcome s s' log log' out out
 did_call outcome call s s' log log' r out silent applies = record {
   entries = entry call r ∷ [];
   does_so = record {
@@ -167,7 +167,7 @@ did_both first next outcome s m s' log mid log' out among out' grows one other =
   wrote = wrote_entries one.entries other.entries out among out' one.wrote other.wrote;
 }
 
-heard_silent : (pool : Pool) (call : LaneCall) → IsHeardCall pool pipe_conn call → IsSilent call
+heard_silent : (pool : Pool) (call : LaneCall) → IsHeardCall pool pipe_conn call → WritesNothing call
 heard_silent pool (Offer job) heard = tt
 heard_silent pool (Post notice) heard = tt
 heard_silent pool (Cancel c id) heard = tt
@@ -306,7 +306,7 @@ collect_drives outcome (Ok Stopped) s s' log log' out out' one = (
       begins = call_begins s s' (Collect pipe_conn) one.reply one.applied.state one.applied.reply;
     };
     logged = one.applied.logged;
-    wrote = subst (λ (x : List ℕ). WroteFrontOf x out out') (sym (said_one one.reply)) one.says.0;
+    wrote = stops_here (entry (Collect pipe_conn) one.reply) out out' (subst (λ (x : List ℕ). WroteFrontOf x out out') (sym (said_one one.reply)) one.says.0);
   },
   one.says.1,
 )

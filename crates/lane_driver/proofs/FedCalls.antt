@@ -22,7 +22,7 @@ use Rattle.lane_driver.proofs.Fronts.{agrees_first, agrees_then, begins_nothing,
 use Rattle.lane_driver.proofs.Driving.{leads_none, leads_both, legal_then, answers_both, logged_both, logged_none, stays_self, stays_both}
 use Rattle.lane_driver.proofs.Grow.{grows_folded}
 use Rattle.pipe_laws.proofs.Folds.{closing_stays}
-use Rattle.lane_driver.proofs.Items.{wrote_entries, front_entries, front_whole, rose_later}
+use Rattle.lane_driver.proofs.Items.{wrote_entries, front_entries, stops_later, front_whole, rose_later}
 use Rattle.lane_driver.proofs.Calls.{whole_of}
 
 -- the group behind one call, as the code makes it
@@ -115,7 +115,7 @@ fed_stopped batch outcome course s m s' room among_room left calls calls_left ca
         entries = so_far.entries ++ one.0.entries;
         begins = began_more batch outcome s m room among_room left calls calls_left call rest log mid out among one.0.entries is open_still left_is so_far one.0.begins;
         logged = logged_both so_far.entries one.0.entries log mid log' so_far.logged one.0.logged;
-        wrote = front_entries so_far.entries one.0.entries out among out' so_far.wrote one.0.wrote;
+        wrote = stops_later so_far.entries one.0.entries out among out' so_far.wrote one.0.wrote;
       },
       rose_later out.faults among.faults out'.faults so_far.faults one.1,
     )

@@ -1,5 +1,5 @@
 -- Collects one after another, and the ends of groups.
-use Rattle.std.proofs.Common.{◌≡◌, ℕ, ◌<◌, true, false, List, [], ◌∷◌, ◌++◌, Option, Some, None, length, refl, sym, ap, ◌∙◌, subst, arith, append-nil}
+use Rattle.std.proofs.Common.{◌≡◌, ℕ, ◌<◌, true, false, List, [], ◌∷◌, ◌++◌, Option, Some, None, length, refl, sym, ap, ◌∙◌, subst, arith, append-nil, append_assoc}
 use Rattle.std.specs.Prelude.{Result, Ok, Err, is_some}
 use Rattle.orb_base.specs.Outside.{SinkState, Rose}
 use Rattle.lane_machine.specs.declared.call.LaneCall.TheVariants.{Collect}
@@ -17,7 +17,7 @@ use Rattle.pipe_laws.specs.Said.{said, handed_bytes}
 use Rattle.pipe_laws.specs.Piped.{Run, rested, emptied, settled, first_given}
 use Rattle.lane_machine.specs.Entries.{One}
 use Rattle.pipe_laws.specs.Calm.{NoneBusy}
-use Rattle.lane_driver.specs.Driving.{Servant, Doer, run_at, entry, Goes, Did, BeganWriting, StoppedWriting, Drives, IsApplied, IsBetween, Stays}
+use Rattle.lane_driver.specs.Driving.{Servant, Doer, run_at, entry, Goes, Did, BeganWriting, WroteUpToLast, StoppedWriting, Drives, IsApplied, IsBetween, Stays}
 use Rattle.lane_driver.specs.Turning.{RunsToRest}
 use Rattle.lane_driver.specs.Collecting.{emptying, Says, CollectsBy, Empties, EmptiesWhole, SettlesWhole}
 use Rattle.pipe_laws.proofs.Rests.{Handing, handing, collect_ready, hands_over, without, one_item_less, empty_collects, empty_stays}
@@ -38,6 +38,31 @@ wrote_entries a b out mid out' first then =
 pub front_entries : (a b : History) (out mid out' : SinkState) → WroteText (said pipe_conn a) out mid → WroteFrontOf (said pipe_conn b) mid out' → WroteFrontOf (said pipe_conn (a ++ b)) out out'
 front_entries a b out mid out' first then =
     subst (λ (x : List ℕ). WroteFrontOf x out out') (sym (said_both pipe_conn a b)) (then.0, wrote_all (said pipe_conn a) (said pipe_conn b) then.0 out mid out' first then.1)
+
+-- the same where the second ends by a call whose write failed
+pub stops_later : (a b : History) (out mid out' : SinkState) → WroteText (said pipe_conn a) out mid → WroteUpToLast b mid out' → WroteUpToLast (a ++ b) out out'
+stops_later a b out mid out' first then = record {
+  before = a ++ then.before;
+  last = then.last;
+  front = then.front;
+  rest = then.rest;
+  ends = ap (λ (h : History). a ++ h) then.ends ∙ sym (append_assoc a then.before (then.last ∷ []));
+  parts = then.parts;
+  wrote = subst (λ (x : List ℕ). WroteText x out out')
+  (sym (append_assoc (said pipe_conn a) (said pipe_conn then.before) then.front) ∙ ap (λ (x : List ℕ). x ++ then.front) (sym (said_both pipe_conn a then.before)))
+  (wrote_behind (said pipe_conn a) (said pipe_conn then.before ++ then.front) out mid out' first then.wrote);
+}
+
+pub stops_here : (e : One) (out out' : SinkState) → WroteFrontOf (said pipe_conn (e ∷ [])) out out' → WroteUpToLast (e ∷ []) out out'
+stops_here e out out' some = record {
+  before = [];
+  last = e;
+  front = some.1.front;
+  rest = some.0;
+  ends = refl;
+  parts = some.1.parts;
+  wrote = some.1.wrote;
+}
 
 pub front_whole : (bytes : List ℕ) (out out' : SinkState) → WroteText bytes out out' → WroteFrontOf bytes out out'
 front_whole bytes out out' wrote = ([], record { front = bytes; parts = sym (append-nil bytes); wrote = wrote })
@@ -66,7 +91,7 @@ drives_then first then outcome (Ok Stopped) s m s' log mid log' out among out' g
     entries = one.entries ++ other.0.entries;
     begins = does_began grows one.does_so other.0.begins;
     logged = logged_both one.entries other.0.entries log mid log' one.logged other.0.logged;
-    wrote = front_entries one.entries other.0.entries out among out' one.wrote other.0.wrote;
+    wrote = stops_later one.entries other.0.entries out among out' one.wrote other.0.wrote;
   },
   rose_later out.faults among.faults out'.faults le other.1,
 )
@@ -189,7 +214,7 @@ empties_stopped {E = E} outcome course s m s' log mid log' out among out' stoppe
         entries = so_far.entries ++ entry (Collect pipe_conn) one.reply ∷ [];
         begins = goes_began (goes_both (so_far.goes_so outcome) (goes_once outcome m s' mid log' one.reply some one.applied));
         logged = logged_both so_far.entries (entry (Collect pipe_conn) one.reply ∷ []) log mid log' so_far.logged one.applied.logged;
-        wrote = front_entries so_far.entries (entry (Collect pipe_conn) one.reply ∷ []) out among out' so_far.wrote wrote;
+        wrote = stops_later so_far.entries (entry (Collect pipe_conn) one.reply ∷ []) out among out' so_far.wrote (stops_here (entry (Collect pipe_conn) one.reply) among out' wrote);
       },
       rose_later out.faults among.faults out'.faults so_far.faults says.1,
     )

@@ -15,7 +15,7 @@ use Rattle.lane_driver.proofs.Fronts.{agrees_first, agrees_then, begins_then}
 use Rattle.lane_driver.proofs.Driving.{leads_both, legal_then, answers_both, logged_both, stays_both}
 use Rattle.lane_driver.proofs.Grow.{grows_folded}
 use Rattle.pipe_laws.proofs.Folds.{folds_go_on}
-use Rattle.lane_driver.proofs.Items.{wrote_entries, front_entries, rose_later}
+use Rattle.lane_driver.proofs.Items.{wrote_entries, front_entries, stops_later, rose_later}
 
 abbrev First : ℕ → Servant → State → State → ℕ → ℕ → List LaneCall → Option History → Option History → SinkState → SinkState → Type 0
 First batch outcome s m room room1 calls log mid out among = Fed batch outcome s m room room1 calls [] log mid out among
@@ -73,7 +73,7 @@ feeds_both (Ok Stopped) batch outcome s m s' room room1 room2 calls more log mid
     entries = first.entries ++ next.0.entries;
     begins = began_on batch outcome s m room room1 calls more log mid out among next.0.entries first next.0.begins;
     logged = logged_both first.entries next.0.entries log mid log' first.logged next.0.logged;
-    wrote = front_entries first.entries next.0.entries out among out' first.wrote next.0.wrote;
+    wrote = stops_later first.entries next.0.entries out among out' first.wrote next.0.wrote;
   },
   rose_later out.faults among.faults out'.faults first.faults next.1,
 )

@@ -1,6 +1,6 @@
 -- What a driver of the lane machine did: the entries that it added to the history, whatever run led to the state at which it
 -- began. Own profile.
-use Rattle.std.specs.Prelude.{◌≡◌, true, [], ◌∷◌, ◌++◌, Option, option_map, Result, Ok, Err}
+use Rattle.std.specs.Prelude.{◌≡◌, true, ℕ, List, [], ◌∷◌, ◌++◌, Option, option_map, Result, Ok, Err}
 use Rattle.orb_base.specs.Outside.{SinkState, Rose}
 use Rattle.orb_base.specs.JobRecord.{JobRecord}
 use Rattle.orb_base.specs.declared.outcome.Outcome.{Outcome}
@@ -86,12 +86,22 @@ pub record BeganWriting (does : Doer) (outcome : Servant) (s : State) (out out' 
   pub begins : Began does outcome s entries
   pub wrote : WroteFrontOf (said pipe_conn entries) out out'
 
--- the same up to a failed write
+-- all that these entries say was written, but that of what the last one says only a front was
+pub record WroteUpToLast (entries : History) (out out' : SinkState) : Type 0 where
+  pub before : History
+  pub last : Entry State LaneCall LaneReply
+  pub front : List ℕ
+  pub rest : List ℕ
+  pub ends : entries ≡ before ++ (last ∷ [])
+  pub parts : said pipe_conn (last ∷ []) ≡ front ++ rest
+  pub wrote : WroteText (said pipe_conn before ++ front) out out'
+
+-- it was begun, up to the call by which a write failed
 pub record StoppedWriting (does : Doer) (outcome : Servant) (s : State) (log log' : Option History) (out out' : SinkState) : Type 0 where
   pub entries : History
   pub begins : Began does outcome s entries
   pub logged : Logged entries log log'
-  pub wrote : WroteFrontOf (said pipe_conn entries) out out'
+  pub wrote : WroteUpToLast entries out out'
 
 -- what was done, by how it came out: all of it, what stands before a failed write, or a front at want of memory
 abbrev pub Drives : {E : Type 0} → Result Course E → Doer → Servant → State → State → Option History → Option History

@@ -15,7 +15,7 @@ use Rattle.pipe_laws.specs.Piped.{Run}
 use Rattle.pipe_laws.specs.Serials.{CountsFrom, RisesFrom}
 use Rattle.pipe_laws.specs.Setup.{pipe_conn}
 use Rattle.pipe_laws.proofs.Rising.{counting_rises}
-use Rattle.lane_driver.specs.Driving.{Drives, Did, BeganWriting}
+use Rattle.lane_driver.specs.Driving.{Drives, Did, BeganWriting, StoppedWriting}
 use Rattle.lane_driver.specs.Running.{running}
 use Rattle.lane_driver.specs.declared.course.Course.{Course}
 use Rattle.lane_driver.specs.declared.course.Course.TheVariants.{Whole, Stopped}
@@ -23,7 +23,7 @@ use Rattle.lane_driver.proofs.Opened.{can_open}
 use Rattle.lane_driver.proofs.Whole.{done_is_piped, begun_is_piped}
 use Rattle.heard_calls.specs.Input.{HearsInput}
 use Rattle.heard_calls.specs.declared.ending.Ending.{Ending}
-use Rattle.pipe_runs.specs.Runs.{RanWhole, RanFront, Runs, end_of, how_of}
+use Rattle.pipe_runs.specs.Runs.{RanWhole, RanFront, RanUpToLast, Runs, end_of, how_of}
 use Rattle.pipe_runs.proofs.HeardCalls.{heard_ones}
 
 -- the calls of an input are those of the reading side
@@ -79,12 +79,28 @@ ran_front setup outcome batch input calls ending out out' well slots heard began
       wrote = began.wrote;
     }
 
+pub ran_up_to : (setup : SetupData) (outcome : List ℕ → JobRecord → Outcome) (batch : ℕ) (input : List ℕ) (calls : List LaneCall) (ending : Ending)
+    (log log' : Option History) (out out' : SinkState) → IsWellFormed setup.pool → HasSlots setup.slots setup.per_slot → HearsInput setup pipe_conn input calls ending
+    → StoppedWriting (running batch calls (how_of ending)) (served setup outcome) (first setup) log log' out out'
+    → RanUpToLast setup outcome batch input log log' out out'
+ran_up_to setup outcome batch input calls ending log log' out out' well slots heard stopped =
+    let can = can_open setup.pool setup.slots setup.per_slot well slots in
+    let is = begun_is_piped setup outcome batch calls (how_of ending) 0 stopped.entries can (calls_heard setup input calls ending well heard)
+    (calls_rise setup input calls ending well heard) stopped.begins
+    in
+    record {
+      entries = stopped.entries;
+      run = record { calls = calls; ending = ending; heard = heard; lacking = is.0; later = is.1; begins = is.2 };
+      logged = stopped.logged;
+      wrote = stopped.wrote;
+    }
+
 -- what the driver's answer says of the input
 abbrev pub Driven : {E : Type 0} → Result Course E → SetupData → (List ℕ → JobRecord → Outcome) → ℕ → List ℕ → Ending → State
     → Option History → Option History → SinkState → SinkState → Type 0
 Driven (Ok Whole) setup outcome batch input ending s' log log' out out' =
     RanWhole setup outcome batch input ending s'.closing log log' out out' × (out'.faults ≡ out.faults)
-Driven (Ok Stopped) setup outcome batch input ending s' log log' out out' = RanFront setup outcome batch input out out' × Rose out.faults out'.faults
+Driven (Ok Stopped) setup outcome batch input ending s' log log' out out' = RanUpToLast setup outcome batch input log log' out out' × Rose out.faults out'.faults
 Driven (Err _) setup outcome batch input ending s' log log' out out' = RanFront setup outcome batch input out out'
 
 driven_by : {E : Type 0} (result : Result Course E) (setup : SetupData) (outcome : List ℕ → JobRecord → Outcome) (batch : ℕ) (input : List ℕ) (calls : List LaneCall) (ending : Ending) (s' : State)
@@ -94,7 +110,7 @@ driven_by : {E : Type 0} (result : Result Course E) (setup : SetupData) (outcome
 driven_by (Ok Whole) setup outcome batch input calls ending s' log log' out out' well slots heard d =
     (ran_whole setup outcome batch input calls ending s' log log' out out' well slots heard d.0, d.1)
 driven_by (Ok Stopped) setup outcome batch input calls ending s' log log' out out' well slots heard d =
-    (ran_front setup outcome batch input calls ending out out' well slots heard (record { entries = d.0.entries; begins = d.0.begins; wrote = d.0.wrote }), d.1)
+    (ran_up_to setup outcome batch input calls ending log log' out out' well slots heard d.0, d.1)
 driven_by (Err e) setup outcome batch input calls ending s' log log' out out' well slots heard d =
     ran_front setup outcome batch input calls ending out out' well slots heard d
 

@@ -1,5 +1,5 @@
 -- What is shown of the run of an input.
-use Rattle.std.proofs.Common.{◌≡◌, inl, inr, ℕ, Bool, true, false, List, [], ◌++◌, Option, Some, Result, Ok, Err, sym, ap, ◌∙◌, subst, arith, append-nil}
+use Rattle.std.proofs.Common.{◌≡◌, inl, inr, ℕ, Bool, true, false, List, [], ◌++◌, Option, Some, Result, Ok, Err, sym, ap, ◌∙◌, subst, arith}
 use Rattle.std.specs.Prelude.{option_map, unwrap_or}
 use Rattle.orb_base.specs.JobRecord.{JobRecord}
 use Rattle.orb_base.specs.Outside.{SinkState, Rose}
@@ -9,7 +9,7 @@ use Rattle.history_lines.specs.Lines.{history_text}
 use Rattle.text_streams.specs.Streams.{WroteText, WroteFrontOf}
 use Rattle.adapter_policies.specs.SetupData.{SetupData}
 use Rattle.heard_calls.specs.declared.ending.Ending.{Ending}
-use Rattle.pipe_runs.specs.Runs.{IsRunOf, BeginsRunOf, Runs}
+use Rattle.pipe_runs.specs.Runs.{IsRunOf, Runs}
 use Rattle.pipe_runs.specs.Pipe.{Shows}
 use Rattle.pipe_runs.specs.declared.input_end.InputEnd.{InputEnd}
 use Rattle.pipe_runs.specs.declared.input_end.InputEnd.TheVariants as end
@@ -26,17 +26,6 @@ bytes_shown (Err e) setup outcome batch input log log' out out' (inl same) = inl
 bytes_shown (Err e) setup outcome batch input log log' out out' (inr h) = inr (record { entries = h.entries; run = h.run; wrote = h.wrote })
 
 -- ---- the text
-
-begins_of : (setup : SetupData) (outcome : List ℕ → JobRecord → Outcome) (batch : ℕ) (input : List ℕ) (ending : Ending) (closing : Bool) (entries : History)
-    → IsRunOf setup outcome batch input ending closing entries → BeginsRunOf setup outcome batch input entries
-begins_of setup outcome batch input ending closing entries run = record {
-  calls = run.calls;
-  ending = ending;
-  heard = run.heard;
-  lacking = run.lacking;
-  later = [];
-  begins = run.runs ∙ sym (append-nil entries);
-}
 
 -- the history that was kept is that of the run
 kept_is : (entries history : History) (log' : Option History) → log' ≡ option_map (λ h. h ++ entries) (Some []) → history ≡ unwrap_or log' [] → entries ≡ history
@@ -62,8 +51,8 @@ pub text_front : (ran : InputEnd) (setup : SetupData) (outcome : List ℕ → Jo
     → WroteFrontOf (history_text history) out out' → Rose out.faults out'.faults → Shows {E = ⊥} (Ok end.WriteFault) Text setup outcome batch input out out'
 text_front (end.Ended ending) setup outcome batch input log' history nowhere nowhere' out out' none still h is wrote rose =
     let same = kept_is h.0.entries history log' h.0.logged is in
-    (record { entries = history; run = begins_of setup outcome batch input ending false history (subst (λ (x : History). IsRunOf setup outcome batch input ending false x) same h.0.run); wrote = wrote }, rose)
+    (record { entries = history; ending = ending; closing = false; run = subst (λ (x : History). IsRunOf setup outcome batch input ending false x) same h.0.run; wrote = wrote }, rose)
 text_front end.Closed setup outcome batch input log' history nowhere nowhere' out out' none still h is wrote rose =
     let same = kept_is h.0.1.entries history log' h.0.1.logged is in
-    (record { entries = history; run = begins_of setup outcome batch input h.0.0 true history (subst (λ (x : History). IsRunOf setup outcome batch input h.0.0 true x) same h.0.1.run); wrote = wrote }, rose)
+    (record { entries = history; ending = h.0.0; closing = true; run = subst (λ (x : History). IsRunOf setup outcome batch input h.0.0 true x) same h.0.1.run; wrote = wrote }, rose)
 text_front end.WriteFault setup outcome batch input log' history nowhere nowhere' out out' none still h is wrote rose = absurd (never_rose nowhere.faults nowhere'.faults none still h.1)

@@ -9,6 +9,7 @@ use Rattle.text_streams.specs.Streams.{Gave, WroteText, WroteFrontOf}
 use Rattle.adapter_policies.specs.SetupData.{SetupData}
 use Rattle.pipe_laws.specs.Said.{said}
 use Rattle.pipe_laws.specs.Setup.{pipe_conn}
+use Rattle.lane_driver.specs.Driving.{WroteUpToLast}
 use Rattle.heard_calls.specs.declared.ending.Ending.{Ending}
 use Rattle.pipe_runs.specs.Runs.{IsRunOf, BeginsRunOf}
 use Rattle.pipe_runs.specs.declared.input_end.InputEnd.{InputEnd}
@@ -37,6 +38,26 @@ pub record ShowedFront (shown : Shown) (setup : SetupData) (outcome : List ℕ �
   pub run : BeginsRunOf setup outcome batch input entries
   pub wrote : WroteFrontOf (shown_of shown entries) out out'
 
+-- the run of the input was begun, up to a call by which a write failed: all that these entries say was written, but that of what the last one says
+-- only a front was
+pub record ShowedUpToLast (setup : SetupData) (outcome : List ℕ → JobRecord → Outcome) (batch : ℕ) (input : List ℕ) (out out' : SinkState) : Type 0 where
+  pub entries : History
+  pub run : BeginsRunOf setup outcome batch input entries
+  pub wrote : WroteUpToLast entries out out'
+
+-- the whole input was run, and a front of the text of its history was written
+pub record ShowedFrontOfText (setup : SetupData) (outcome : List ℕ → JobRecord → Outcome) (batch : ℕ) (input : List ℕ) (out out' : SinkState) : Type 0 where
+  pub ending : Ending
+  pub closing : Bool
+  pub entries : History
+  pub run : IsRunOf setup outcome batch input ending closing entries
+  pub wrote : WroteFrontOf (history_text entries) out out'
+
+-- what was written before a write failed, by what is shown
+abbrev pub StopsShowing : Shown → SetupData → (List ℕ → JobRecord → Outcome) → ℕ → List ℕ → SinkState → SinkState → Type 0
+StopsShowing Bytes setup outcome batch input out out' = ShowedUpToLast setup outcome batch input out out'
+StopsShowing Text setup outcome batch input out out' = ShowedFrontOfText setup outcome batch input out out'
+
 -- what comes of a whole input, by what is shown. At want of memory nothing was written, or a front
 abbrev pub Shows : {E : Type 0} → Result InputEnd E → Shown → SetupData → (List ℕ → JobRecord → Outcome) → ℕ → List ℕ → SinkState → SinkState → Type 0
 Shows (Ok (end.Ended ending)) shown setup outcome batch input out out' =
@@ -44,7 +65,7 @@ Shows (Ok (end.Ended ending)) shown setup outcome batch input out out' =
 Shows (Ok end.Closed) shown setup outcome batch input out out' =
     ((ending : Ending) × Showed shown setup outcome batch input ending true out out') × (out'.faults ≡ out.faults)
 Shows (Ok end.WriteFault) shown setup outcome batch input out out' =
-    ShowedFront shown setup outcome batch input out out' × Rose out.faults out'.faults
+    StopsShowing shown setup outcome batch input out out' × Rose out.faults out'.faults
 Shows (Err _) shown setup outcome batch input out out' = (out' ≡ out) ⊎ ShowedFront shown setup outcome batch input out out'
 
 -- the input was read to its end, behind which nothing is left, and no read failed

@@ -14,6 +14,7 @@ use Rattle.pipe_laws.specs.Lacking.{Lacking}
 use Rattle.pipe_laws.specs.Piped.{Run, piped}
 use Rattle.pipe_laws.specs.Said.{said}
 use Rattle.pipe_laws.specs.Setup.{pipe_conn}
+use Rattle.lane_driver.specs.Driving.{WroteUpToLast}
 use Rattle.heard_calls.specs.Input.{HearsInput}
 use Rattle.heard_calls.specs.declared.ending.Ending.{Ending}
 use Rattle.heard_calls.specs.declared.ending.Ending.TheVariants.{Ended, Cut, Broken}
@@ -64,6 +65,15 @@ pub record RanFront (setup : SetupData) (outcome : List ℕ → JobRecord → Ou
   pub run : BeginsRunOf setup outcome batch input entries
   pub wrote : WroteFrontOf (said pipe_conn entries) out out'
 
+-- the run of the input was begun, up to a call by which a write failed: these entries end with that call, and stand behind the history that is
+-- kept, if one is; all that they say was written, but that of what the last one says only a front was
+pub record RanUpToLast (setup : SetupData) (outcome : List ℕ → JobRecord → Outcome) (batch : ℕ) (input : List ℕ) (log log' : Option History)
+    (out out' : SinkState) : Type 0 where
+  pub entries : History
+  pub run : BeginsRunOf setup outcome batch input entries
+  pub logged : log' ≡ option_map (λ h. h ++ entries) log
+  pub wrote : WroteUpToLast entries out out'
+
 -- what comes of a whole input. At want of memory nothing was written, or the run was begun
 abbrev pub Runs : {E : Type 0} → Result InputEnd E → SetupData → (List ℕ → JobRecord → Outcome) → ℕ → List ℕ
     → Option History → Option History → SinkState → SinkState → Type 0
@@ -72,7 +82,7 @@ Runs (Ok (end.Ended ending)) setup outcome batch input log log' out out' =
 Runs (Ok end.Closed) setup outcome batch input log log' out out' =
     ((ending : Ending) × RanWhole setup outcome batch input ending true log log' out out') × (out'.faults ≡ out.faults)
 Runs (Ok end.WriteFault) setup outcome batch input log log' out out' =
-    RanFront setup outcome batch input out out' × Rose out.faults out'.faults
+    RanUpToLast setup outcome batch input log log' out out' × Rose out.faults out'.faults
 Runs (Err _) setup outcome batch input log log' out out' = (out' ≡ out) ⊎ RanFront setup outcome batch input out out'
 
 -- how a run came out whose calls were all made, or dropped once it was closing
