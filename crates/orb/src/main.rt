@@ -38,10 +38,12 @@ fn without_words(fault: &io::Error) -> Answered
         io::ErrorKind::OutOfMemory => Answered {
             status: 12,
             note: Note::Memory,
+            piped: None,
         },
         _ => Answered {
             status: 1,
             note: Note::Usage,
+            piped: None,
         },
     }
 }

@@ -66,10 +66,11 @@ at_faults answer place config before after (inr none) = none_faults answer confi
 
 pub at_answers : (answer : AtEnd) (place : Place) (config : Option (List ℕ)) (answered : Answered) (before after : Moment)
     → after.input ≡ before.input → At answer config place.host place.port before.files after.files before.out after.out
-    → answered.note ≡ at_note answer → answered.status ≡ status_of (at_note answer) → Answers (RefsAt place config) answered before after
-at_answers answer place config answered before after same h note status = record {
+    → answered.note ≡ at_note answer → answered.status ≡ status_of (at_note answer) → answered.piped ≡ None → Answers (RefsAt place config) answered before after
+at_answers answer place config answered before after same h note status none = record {
   status = status ∙ ap status_of (sym note);
   means = record { answer = answer; told = note; at = h; input = same };
+  piped = none;
   faults = (same, subst (λ n. FiledFaults n before after) (sym note) (at_faults answer place config before after h));
   few = subst (λ (s : SourceState). GaveFew 0 before.input s) (sym same) (gave_none 0 before.input);
 }
@@ -79,6 +80,6 @@ at_once : (place : Place) (config : Option (List ℕ)) (moment : Moment) → At 
 at_once place (Some name) moment = inr (refl, refl)
 at_once place None moment = inr (refl, refl)
 
-pub at_wanting : (place : Place) (config : Option (List ℕ)) (answered : Answered) (before : Moment) → answered.note ≡ Memory → answered.status ≡ 12
+pub at_wanting : (place : Place) (config : Option (List ℕ)) (answered : Answered) (before : Moment) → answered.note ≡ Memory → answered.status ≡ 12 → answered.piped ≡ None
     → Answers (RefsAt place config) answered before before
-at_wanting place config answered before note status = at_answers end.NoMemory place config answered before before refl (at_once place config before) note status
+at_wanting place config answered before note status none = at_answers end.NoMemory place config answered before before refl (at_once place config before) note status none

@@ -1,6 +1,6 @@
 -- The answers of the top call, by what its words mean.
 use Rattle.std.proofs.Common.{◌≡◌, ℕ, List, refl, ap, ◌∙◌, subst, sym}
-use Rattle.std.specs.Prelude.{Result, Ok, Err}
+use Rattle.std.specs.Prelude.{Option, None, Result, Ok, Err}
 use Rattle.orb_base.specs.Outside.{SinkState}
 use Rattle.orb_base.specs.declared.no_memory.NoMemory.{NoMemory}
 use Rattle.giop_dump.specs.declared.dump_end.DumpEnd.{DumpEnd}
@@ -30,10 +30,11 @@ dump_faults (Ok dump.WriteFault) before after h = h
 dump_faults (Err e) before after h = tt
 
 pub dump_answers : (ran : Result DumpEnd NoMemory) (answered : Answered) (before after : Moment) → after.files ≡ before.files → Dumps ran before.input after.input before.out after.out
-    → answered.note ≡ dump_note ran → answered.status ≡ status_of (dump_note ran) → Answers Dump answered before after
-dump_answers ran answered before after same h note status = record {
+    → answered.note ≡ dump_note ran → answered.status ≡ status_of (dump_note ran) → answered.piped ≡ None → Answers Dump answered before after
+dump_answers ran answered before after same h note status none = record {
   status = status ∙ ap status_of (sym note);
   means = record { answer = ran; told = note; dumps = h };
+  piped = none;
   faults = (same, subst (λ n. StreamFaults n before after) (sym note) (dump_faults ran before after h.faults));
   few = record { bytes = h.bytes; few = h.few; gave = h.gave };
 }
@@ -49,28 +50,31 @@ refs_faults (Ok refs.WriteFault) bytes before after h = (h.1, h.3.1)
 refs_faults (Err e) bytes before after h = tt
 
 pub refs_answers : (ran : Result RefsEnd NoMemory) (answered : Answered) (before after : Moment) → after.files ≡ before.files → Refs ran before.input after.input before.out after.out
-    → answered.note ≡ refs_note ran → answered.status ≡ status_of (refs_note ran) → Answers RefsMeaning answered before after
-refs_answers ran answered before after same h note status = record {
+    → answered.note ≡ refs_note ran → answered.status ≡ status_of (refs_note ran) → answered.piped ≡ None → Answers RefsMeaning answered before after
+refs_answers ran answered before after same h note status none = record {
   status = status ∙ ap status_of (sym note);
   means = record { answer = ran; told = note; refs = h };
+  piped = none;
   faults = (same, subst (λ n. StreamFaults n before after) (sym note) (refs_faults ran h.bytes before after h.came));
   few = record { bytes = h.bytes; few = h.few; gave = h.gave };
 }
 
 -- ---- no command that is built
 
-pub unbuilt_answers : (answered : Answered) (before : Moment) → answered.note ≡ NotBuilt → answered.status ≡ 14 → Answers Unbuilt answered before before
-unbuilt_answers answered before note status = record {
+pub unbuilt_answers : (answered : Answered) (before : Moment) → answered.note ≡ NotBuilt → answered.status ≡ 14 → answered.piped ≡ None → Answers Unbuilt answered before before
+unbuilt_answers answered before note status none = record {
   status = status ∙ ap status_of (sym note);
   means = (note, refl);
+  piped = none;
   faults = (refl, subst (λ n. StreamFaults n before before) (sym note) (refl, refl));
   few = gave_none 0 before.input;
 }
 
-pub unread_answers : (answered : Answered) (before : Moment) → answered.note ≡ Usage → answered.status ≡ 1 → Answers Unread answered before before
-unread_answers answered before note status = record {
+pub unread_answers : (answered : Answered) (before : Moment) → answered.note ≡ Usage → answered.status ≡ 1 → answered.piped ≡ None → Answers Unread answered before before
+unread_answers answered before note status none = record {
   status = status ∙ ap status_of (sym note);
   means = (note, refl);
+  piped = none;
   faults = (refl, subst (λ n. StreamFaults n before before) (sym note) (refl, refl));
   few = gave_none 0 before.input;
 }

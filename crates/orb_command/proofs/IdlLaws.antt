@@ -32,15 +32,16 @@ pub idl_answers : (answer : IdlEnd) (name : List ℕ) (answered : Answered) (bef
     → after.input ≡ before.input → Lists answer name before.files after.files before.out after.out
     → ((things : List Thing) → FileTells before.files name things → OnlyLists answer things before.out after.out)
     → ((bytes : List ℕ) → IsTold before.files name bytes → ListsExactly answer (text_things bytes) before.out after.out)
-    → answered.note ≡ idl_note answer → answered.status ≡ status_of (idl_note answer) → Answers (Idl name) answered before after
-idl_answers answer name answered before after same h only exact note status = record {
+    → answered.note ≡ idl_note answer → answered.status ≡ status_of (idl_note answer) → answered.piped ≡ None → Answers (Idl name) answered before after
+idl_answers answer name answered before after same h only exact note status none = record {
   status = status ∙ ap status_of (sym note);
   means = record { answer = answer; told = note; lists = h; only = only; exact = exact; input = same };
+  piped = none;
   faults = (same, subst (λ n. FiledFaults n before after) (sym note) (idl_faults answer name before after h));
   few = subst (λ (s : SourceState). GaveFew 0 before.input s) (sym same) (gave_none 0 before.input);
 }
 
 -- where memory is wanting for the words, nothing was done
-pub idl_wanting : (name : List ℕ) (answered : Answered) (before : Moment) → answered.note ≡ Memory → answered.status ≡ 12
+pub idl_wanting : (name : List ℕ) (answered : Answered) (before : Moment) → answered.note ≡ Memory → answered.status ≡ 12 → answered.piped ≡ None
     → Answers (Idl name) answered before before
-idl_wanting name answered before note status = idl_answers end.NoMemory name answered before before refl (refl, refl) (λ things tells. tt) (λ bytes told. tt) note status
+idl_wanting name answered before note status none = idl_answers end.NoMemory name answered before before refl (refl, refl) (λ things tells. tt) (λ bytes told. tt) note status none

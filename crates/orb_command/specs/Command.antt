@@ -1,10 +1,11 @@
 -- The answers of the top call: for each note its cause, and what was written.
-use Rattle.std.specs.Prelude.{◌≡◌, ◌+◌, ℕ}
+use Rattle.std.specs.Prelude.{◌≡◌, ◌+◌, ℕ, Option, None}
 use Rattle.command_words.specs.declared.meaning.Meaning.{Meaning}
 use Rattle.command_words.specs.declared.meaning.Meaning.TheVariants.{Pipe, Dump, Refs, RefsAt, Idl, Unbuilt, Unread}
 use Rattle.orb_command.specs.declared.answered.Answered.{Answered}
 use Rattle.orb_command.specs.declared.note.Note.{Note}
 use Rattle.orb_command.specs.declared.note.Note.TheVariants.{Nothing, Usage, Config, Idl as IdlNote, TooLong, ReadFault, WriteFault, Input, Absent, Reference, Memory, Limit, NotBuilt}
+use Rattle.pipe_runs.specs.declared.pipe_end.Piped.{Piped}
 use Rattle.pipe_runs.specs.declared.pipe_end.TheConstants.{MAX_PIPED}
 use Rattle.giop_dump.specs.declared.dump_end.TheConstants.{MAX_DUMPED}
 use Rattle.reference_lines.specs.declared.refs_end.TheConstants.{MAX_REFERENCE}
@@ -43,20 +44,31 @@ most_taken (Idl name) = 0
 most_taken Unbuilt = 0
 most_taken Unread = 0
 
--- what each note means, by what the words mean; a command that isn't there does nothing
-abbrev pub NoteMeans : Meaning → Note → Moment → Moment → Type 0
-NoteMeans (Pipe words) note before after = PipeAnswers words note before after
-NoteMeans Dump note before after = DumpAnswers note before after
-NoteMeans Refs note before after = RefsAnswers note before after
-NoteMeans (RefsAt place config) note before after = AtAnswers place config note before after
-NoteMeans (Idl name) note before after = IdlAnswers name note before after
-NoteMeans Unbuilt note before after = (note ≡ NotBuilt) × (after ≡ before)
-NoteMeans Unread note before after = (note ≡ Usage) × (after ≡ before)
+-- what each note means, and what a run of the pipe says, by what the words mean; a command that isn't there does nothing
+abbrev pub NoteMeans : Meaning → Note → Option Piped → Moment → Moment → Type 0
+NoteMeans (Pipe words) note piped before after = PipeAnswers words note piped before after
+NoteMeans Dump note piped before after = DumpAnswers note before after
+NoteMeans Refs note piped before after = RefsAnswers note before after
+NoteMeans (RefsAt place config) note piped before after = AtAnswers place config note before after
+NoteMeans (Idl name) note piped before after = IdlAnswers name note before after
+NoteMeans Unbuilt note piped before after = (note ≡ NotBuilt) × (after ≡ before)
+NoteMeans Unread note piped before after = (note ≡ Usage) × (after ≡ before)
+
+-- no other command than the pipe has a run of it
+abbrev pub PipedBy : Meaning → Option Piped → Type 0
+PipedBy (Pipe words) piped = Unit {0}
+PipedBy Dump piped = piped ≡ None
+PipedBy Refs piped = piped ≡ None
+PipedBy (RefsAt place config) piped = piped ≡ None
+PipedBy (Idl name) piped = piped ≡ None
+PipedBy Unbuilt piped = piped ≡ None
+PipedBy Unread piped = piped ≡ None
 
 -- what the program answers, between two moments: the status is that of the note, which means what was read and written, and
 -- an input is taken no further than its command takes it
 pub record Answers (command : Meaning) (answered : Answered) (before after : Moment) : Type 0 where
   pub status : answered.status ≡ status_of answered.note
-  pub means : NoteMeans command answered.note before after
+  pub means : NoteMeans command answered.note answered.piped before after
+  pub piped : PipedBy command answered.piped
   pub faults : FaultsAt command answered.note before after
   pub few : GaveFew (most_taken command) before.input after.input

@@ -1,15 +1,16 @@
 //! The top call.
-ghost use Rattle.std.specs.Prelude.{◌≡◌, string_bytes};
+ghost use Rattle.std.specs.Prelude.{◌≡◌, string_bytes, None};
 ghost use Rattle.command_words.specs.Words.{command_of};
 ghost use Rattle.orb_command.specs.Moment.{moment};
-ghost use Rattle.orb_command.specs.Command.{Answers, status_of};
+ghost use Rattle.orb_command.specs.Command.{Answers};
+ghost use Rattle.orb_command.specs.Command as Spec;
 
 use crate::answered::Answered;
 use crate::at_note::note_at;
 use crate::dump_note::dump_note;
 use crate::idl_note::idl_note;
 use crate::note::Note;
-use crate::pipe_note::pipe_note;
+use crate::pipe_note::{Told, run_pipe};
 use crate::refs_note::refs_note;
 use command_words::{Meaning, read_words};
 use giop_dump::dump_run;
@@ -19,12 +20,11 @@ use orb_base::{Files, NoMemory, Sink, Source};
 use reference_lines::refs_run;
 use std::alloc::Global;
 
-/// The note with its status.
-fn answered(note: Note) -> Answered
-    ensures note { result.note ≡ note }
-    ensures status { result.status ≡ status_of note }
+/// The status of a note.
+fn status_of(note: &Note) -> u8
+    ensures { result ≡ Spec.status_of note.now }
 {
-    let status = match &note {
+    match note {
         Note::Nothing => 0,
         Note::Usage => 1,
         Note::Config(_) | Note::Idl(_) | Note::TooLong(_) => 2,
@@ -35,8 +35,35 @@ fn answered(note: Note) -> Answered
         Note::Memory => 12,
         Note::Limit => 13,
         Note::NotBuilt => 14,
-    };
-    Answered { status, note }
+    }
+}
+
+/// The note with its status, where nothing was piped.
+fn answered(note: Note) -> Answered
+    ensures note { result.note ≡ note }
+    ensures status { result.status ≡ Spec.status_of note }
+    ensures piped { result.piped ≡ None }
+{
+    let status = status_of(&note);
+    Answered {
+        status,
+        note,
+        piped: None,
+    }
+}
+
+/// What the pipe came to, with its status.
+fn answered_pipe(told: Told) -> Answered
+    ensures note { result.note ≡ told.note }
+    ensures status { result.status ≡ Spec.status_of told.note }
+    ensures piped { result.piped ≡ told.piped }
+{
+    let status = status_of(&told.note);
+    Answered {
+        status,
+        note: told.note,
+        piped: told.piped,
+    }
 }
 
 /// Does all that the program does: reads the words, runs the command over the files, the input and the output, and answers the
@@ -46,7 +73,7 @@ fn answered(note: Note) -> Answered
 /// the parts of the reference that it is. `refs --at HOST:PORT` writes the reference of each object of the built-in setup at that
 /// address, and with `--config FILE` of each object of the configuration of this name. `idl --file FILE` lists what the
 /// IDL of the file declares. The other commands aren't built yet. It
-/// returns where each read and write returns.
+/// returns where each read and write returns. The answer to `pipe` has its run, with the history.
 #[tactic(auto, using(crate::proofs::CommandLaws::dump_answers, crate::proofs::CommandLaws::refs_answers, crate::proofs::CommandLaws::unbuilt_answers, crate::proofs::CommandLaws::unread_answers, crate::proofs::AtLaws::at_answers, crate::proofs::IdlLaws::idl_answers, crate::proofs::PipeNotes::pipe_answers, crate::proofs::PipeNotes::wanting_answers))]
 pub fn orb_main<F: Files, I: Source, O: Sink>(
     alloc: Global,
@@ -65,7 +92,7 @@ pub fn orb_main<F: Files, I: Source, O: Sink>(
         (moment (F.state files.new) (I.state input.new) (O.state out.new)) }
 {
     match read_words(alloc, words) {
-        Ok(Meaning::Pipe(words)) => answered(pipe_note(alloc, files, &words, input, out)),
+        Ok(Meaning::Pipe(words)) => answered_pipe(run_pipe(alloc, files, &words, input, out)),
         Ok(Meaning::Dump) => answered(dump_note(dump_run(alloc, input, out))),
         Ok(Meaning::Refs) => answered(refs_note(refs_run(alloc, input, out))),
         Ok(Meaning::RefsAt(at, config)) => {

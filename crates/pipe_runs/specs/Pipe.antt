@@ -14,6 +14,7 @@ use Rattle.heard_calls.specs.declared.ending.Ending.{Ending}
 use Rattle.pipe_runs.specs.Runs.{IsRunOf, BeginsRunOf}
 use Rattle.pipe_runs.specs.declared.input_end.InputEnd.{InputEnd}
 use Rattle.pipe_runs.specs.declared.input_end.InputEnd.TheVariants as end
+use Rattle.pipe_runs.specs.declared.pipe_end.Piped.{Piped}
 use Rattle.pipe_runs.specs.declared.pipe_end.PipeEnd.{PipeEnd}
 use Rattle.pipe_runs.specs.declared.pipe_end.PipeEnd.TheVariants as pipe
 use Rattle.pipe_runs.specs.declared.pipe_end.TheConstants.{MAX_PIPED}
@@ -25,12 +26,29 @@ abbrev pub shown_of : Shown → History → List ℕ
 shown_of Bytes h = said pipe_conn h
 shown_of Text h = history_text h
 
--- the whole input was run, and its history was shown
+-- the whole input was run, this is its history, and what shows it was written
 pub record Showed (shown : Shown) (setup : SetupData) (outcome : List ℕ → JobRecord → Outcome) (batch : ℕ) (input : List ℕ) (ending : Ending) (closing : Bool)
-    (out out' : SinkState) : Type 0 where
-  pub entries : History
-  pub run : IsRunOf setup outcome batch input ending closing entries
-  pub wrote : WroteText (shown_of shown entries) out out'
+    (history : History) (out out' : SinkState) : Type 0 where
+  pub run : IsRunOf setup outcome batch input ending closing history
+  pub wrote : WroteText (shown_of shown history) out out'
+
+-- the run of the input was begun with this history, up to a call by which a write failed: all that it says was written, but that of
+-- what the last call says only a front was
+pub record ShowedUpToLast (setup : SetupData) (outcome : List ℕ → JobRecord → Outcome) (batch : ℕ) (input : List ℕ) (history : History) (out out' : SinkState) : Type 0 where
+  pub run : BeginsRunOf setup outcome batch input history
+  pub wrote : WroteUpToLast history out out'
+
+-- the whole input was run, this is its history, and a front of its text was written
+pub record ShowedFrontOfText (setup : SetupData) (outcome : List ℕ → JobRecord → Outcome) (batch : ℕ) (input : List ℕ) (history : History) (out out' : SinkState) : Type 0 where
+  pub ending : Ending
+  pub closing : Bool
+  pub run : IsRunOf setup outcome batch input ending closing history
+  pub wrote : WroteFrontOf (history_text history) out out'
+
+-- what was written before a write failed, by what is shown
+abbrev pub StopsShowing : Shown → SetupData → (List ℕ → JobRecord → Outcome) → ℕ → List ℕ → History → SinkState → SinkState → Type 0
+StopsShowing Bytes setup outcome batch input history out out' = ShowedUpToLast setup outcome batch input history out out'
+StopsShowing Text setup outcome batch input history out out' = ShowedFrontOfText setup outcome batch input history out out'
 
 -- the run of the input was begun, and a front of what shows these entries was written
 pub record ShowedFront (shown : Shown) (setup : SetupData) (outcome : List ℕ → JobRecord → Outcome) (batch : ℕ) (input : List ℕ) (out out' : SinkState) : Type 0 where
@@ -38,34 +56,18 @@ pub record ShowedFront (shown : Shown) (setup : SetupData) (outcome : List ℕ �
   pub run : BeginsRunOf setup outcome batch input entries
   pub wrote : WroteFrontOf (shown_of shown entries) out out'
 
--- the run of the input was begun, up to a call by which a write failed: all that these entries say was written, but that of what the last one says
--- only a front was
-pub record ShowedUpToLast (setup : SetupData) (outcome : List ℕ → JobRecord → Outcome) (batch : ℕ) (input : List ℕ) (out out' : SinkState) : Type 0 where
-  pub entries : History
-  pub run : BeginsRunOf setup outcome batch input entries
-  pub wrote : WroteUpToLast entries out out'
+-- what comes of a run of a whole input that has this history, by how it came out and by what is shown
+abbrev pub ShowsRun : InputEnd → History → Shown → SetupData → (List ℕ → JobRecord → Outcome) → ℕ → List ℕ → SinkState → SinkState → Type 0
+ShowsRun (end.Ended ending) history shown setup outcome batch input out out' =
+    Showed shown setup outcome batch input ending false history out out' × (out'.faults ≡ out.faults)
+ShowsRun end.Closed history shown setup outcome batch input out out' =
+    ((ending : Ending) × Showed shown setup outcome batch input ending true history out out') × (out'.faults ≡ out.faults)
+ShowsRun end.WriteFault history shown setup outcome batch input out out' =
+    StopsShowing shown setup outcome batch input history out out' × Rose out.faults out'.faults
 
--- the whole input was run, and a front of the text of its history was written
-pub record ShowedFrontOfText (setup : SetupData) (outcome : List ℕ → JobRecord → Outcome) (batch : ℕ) (input : List ℕ) (out out' : SinkState) : Type 0 where
-  pub ending : Ending
-  pub closing : Bool
-  pub entries : History
-  pub run : IsRunOf setup outcome batch input ending closing entries
-  pub wrote : WroteFrontOf (history_text entries) out out'
-
--- what was written before a write failed, by what is shown
-abbrev pub StopsShowing : Shown → SetupData → (List ℕ → JobRecord → Outcome) → ℕ → List ℕ → SinkState → SinkState → Type 0
-StopsShowing Bytes setup outcome batch input out out' = ShowedUpToLast setup outcome batch input out out'
-StopsShowing Text setup outcome batch input out out' = ShowedFrontOfText setup outcome batch input out out'
-
--- what comes of a whole input, by what is shown. At want of memory nothing was written, or a front
-abbrev pub Shows : {E : Type 0} → Result InputEnd E → Shown → SetupData → (List ℕ → JobRecord → Outcome) → ℕ → List ℕ → SinkState → SinkState → Type 0
-Shows (Ok (end.Ended ending)) shown setup outcome batch input out out' =
-    Showed shown setup outcome batch input ending false out out' × (out'.faults ≡ out.faults)
-Shows (Ok end.Closed) shown setup outcome batch input out out' =
-    ((ending : Ending) × Showed shown setup outcome batch input ending true out out') × (out'.faults ≡ out.faults)
-Shows (Ok end.WriteFault) shown setup outcome batch input out out' =
-    StopsShowing shown setup outcome batch input out out' × Rose out.faults out'.faults
+-- what comes of a whole input. At want of memory nothing was written, or a front
+abbrev pub Shows : {E : Type 0} → Result Piped E → Shown → SetupData → (List ℕ → JobRecord → Outcome) → ℕ → List ℕ → SinkState → SinkState → Type 0
+Shows (Ok ran) shown setup outcome batch input out out' = ShowsRun ran.end ran.history.items shown setup outcome batch input out out'
 Shows (Err _) shown setup outcome batch input out out' = (out' ≡ out) ⊎ ShowedFront shown setup outcome batch input out out'
 
 -- the input was read to its end, behind which nothing is left, and no read failed

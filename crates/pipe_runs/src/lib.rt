@@ -15,7 +15,7 @@ mod shown;
 pub use batch::Batch;
 pub use input_end::InputEnd;
 pub use pipe::pipe_run;
-pub use pipe_end::{MAX_PIPED, PipeEnd};
+pub use pipe_end::{MAX_PIPED, PipeEnd, Piped};
 pub use running::run_input;
 pub use shown::Shown;
 

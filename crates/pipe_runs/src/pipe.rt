@@ -4,11 +4,11 @@ ghost use Rattle.lane_machine.specs.State.{HasSlots};
 ghost use Rattle.history_lines.specs.Lines.{history_text as history_text_of};
 ghost use Rattle.text_streams.specs.Streams.{WritesAll};
 ghost use Rattle.pipe_runs.specs.Pipe as Spec;
-ghost use Rattle.pipe_runs.specs.declared.shown.Shown.TheVariants.{Text};
+ghost use Rattle.pipe_runs.specs.declared.shown.Shown.TheVariants.{Bytes, Text};
 
 use crate::batch::Batch;
 use crate::input_end::InputEnd;
-use crate::pipe_end::{MAX_PIPED, PipeEnd};
+use crate::pipe_end::{MAX_PIPED, PipeEnd, Piped};
 use crate::running::run_input;
 use crate::shown::Shown;
 use adapter_policies::Setup;
@@ -41,6 +41,26 @@ fn write_history<O: Sink>(
     Ok(write_all(sink, text.as_bytes()))
 }
 
+/// Runs a whole input, and writes the bytes that its history says.
+fn run_as_bytes<O: Sink, S: Serving>(
+    alloc: Global,
+    setup: &Setup,
+    servants: &S,
+    batch: u8,
+    sink: &mut O,
+    input: &[u8],
+) -> Result<Piped, NoMemory>
+    requires slots { HasSlots setup.now.slots setup.now.per_slot }
+    requires batch { 1 ≤ batch }
+    requires few { length input.now < 2 ^ 32 }
+    ensures { Spec.Shows result Bytes setup.now (S.outcome servants.now) batch input.now (O.state sink.old) (O.state sink.new) }
+{
+    let mut log = Log::kept(alloc);
+    let end = run_input(alloc, setup, servants, batch, &mut log, sink, input)?;
+    let history = kept_of(alloc, log);
+    Ok(Piped { end, history })
+}
+
 /// Runs a whole input, and writes the text of its history in place of the bytes.
 fn run_as_text<O: Sink, S: Serving>(
     alloc: Global,
@@ -49,7 +69,7 @@ fn run_as_text<O: Sink, S: Serving>(
     batch: u8,
     sink: &mut O,
     input: &[u8],
-) -> Result<InputEnd, NoMemory>
+) -> Result<Piped, NoMemory>
     requires slots { HasSlots setup.now.slots setup.now.per_slot }
     requires batch { 1 ≤ batch }
     requires few { length input.now < 2 ^ 32 }
@@ -60,8 +80,11 @@ fn run_as_text<O: Sink, S: Serving>(
     let end = run_input(alloc, setup, servants, batch, &mut log, &mut nowhere, input)?;
     let history = kept_of(alloc, log);
     match write_history(alloc, sink, history.as_slice())? {
-        WriteAll::Whole => Ok(end),
-        WriteAll::Failed => Ok(InputEnd::WriteFault),
+        WriteAll::Whole => Ok(Piped { end, history }),
+        WriteAll::Failed => Ok(Piped {
+            end: InputEnd::WriteFault,
+            history,
+        }),
     }
 }
 
@@ -74,25 +97,22 @@ fn run_shown<O: Sink, S: Serving>(
     shown: Shown,
     sink: &mut O,
     input: &[u8],
-) -> Result<InputEnd, NoMemory>
+) -> Result<Piped, NoMemory>
     requires slots { HasSlots setup.now.slots setup.now.per_slot }
     requires batch { 1 ≤ batch }
     requires few { length input.now < 2 ^ 32 }
     ensures { Spec.Shows result shown setup.now (S.outcome servants.now) batch input.now (O.state sink.old) (O.state sink.new) }
 {
     match shown {
-        Shown::Bytes => {
-            let mut log = Log::none();
-            run_input(alloc, setup, servants, batch, &mut log, sink, input)
-        }
+        Shown::Bytes => run_as_bytes(alloc, setup, servants, batch, sink, input),
         Shown::Text => run_as_text(alloc, setup, servants, batch, sink, input),
     }
 }
 
 /// Runs the pipe of a setup: reads the input to its end, runs it in groups of `batch` calls, and writes the bytes that
-/// its history says, or the text of the history. An input of more than `MAX_PIPED` bytes is too long so far. It returns where each
-/// read and write returns. Memory grows with the input, the machine's limits, and with the history where its text is shown; the
-/// work is that of hearing, and for each call that of one step of the machine.
+/// its history says, or the text of the history, which is answered. An input of more than `MAX_PIPED` bytes is too long so far. It
+/// returns where each read and write returns. Memory grows with the input, the machine's limits and the history; the work is that of
+/// hearing, and for each call that of one step of the machine.
 pub fn pipe_run<I: Source, O: Sink, S: Serving>(
     alloc: Global,
     setup: &Setup,
