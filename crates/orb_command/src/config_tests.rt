@@ -33,11 +33,8 @@ const PONG: &[u8] =
 const NO_OBJECT: &[u8] =
     b"GIOP\x01\x02\0\x01\0\0\0\x40\0\0\0\x01\0\0\0\x02\0\0\0\0\0\0\0\x27IDL:omg.org/CORBA/OBJECT_NOT_EXIST:1.0\0\0\0\0\0\x01\0\0\0\x01";
 
-/// The reply 7 to the request of id 1, and behind it the CloseConnection.
+/// The reply 7 to the request of id 1.
 const PING_REPLY: &[u8] = b"GIOP\x01\x02\0\x01\0\0\0\x0e\0\0\0\x01\0\0\0\0\0\0\0\0\0\x07";
-
-const CLOSED: &[u8] =
-    b"GIOP\x01\x02\0\x01\0\0\0\x0e\0\0\0\x01\0\0\0\0\0\0\0\0\0\x07GIOP\x01\x02\0\x05\0\0\0\0";
 
 /// Lanes 10 and 20 of one static thread each, with borrowing, and a buffer of three requests; `ping` under CLIENT_PROPAGATED at 10.
 const LANES: &[u8] =
@@ -178,20 +175,6 @@ fn an_urgent_request_overtakes(rt: HostRuntime) -> Result<(), Fail> {
     };
     assert!(rt; is_so(alloc, &grouped, 0, "Nothing", URGENT_REPLIES)?);
     assert!(rt; is_so(alloc, &shown, 0, "Nothing", URGENT_HISTORY)?);
-    Ok(())
-}
-
-/// A run that hears one call answers it, and closes the connection in place of the next.
-#[test]
-fn a_limit_of_the_configuration_closes_the_connection(rt: HostRuntime) -> Result<(), Fail> {
-    let alloc = rt.alloc();
-    let mut config = String::from_str(alloc, "server = { max_calls = 1 }\n")?;
-    config.push_str("pool = { static = 1, dynamic = 0, default_priority = 1 }\n")?;
-    config.push_str(REST)?;
-    let mut twice = list(alloc, PING)?;
-    assert!(rt; twice.append(PING).is_ok());
-    let run = of(config.as_bytes(), "c", twice.as_slice());
-    assert!(rt; is_so(alloc, &run, 13, "Limit", CLOSED)?);
     Ok(())
 }
 

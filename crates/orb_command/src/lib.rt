@@ -23,6 +23,8 @@ mod config_tests;
 #[cfg(test)]
 mod idl_tests;
 #[cfg(test)]
+mod lane_tests;
+#[cfg(test)]
 mod tests;
 #[cfg(test)]
 mod tool_tests;

@@ -63,8 +63,7 @@ const NO_OBJECT: &[u8] =
 /// The reply of id 1 without a body, and the one of the other byte order with the priority 7.
 const BARE_REPLY: &[u8] = b"GIOP\x01\x02\0\x01\0\0\0\x0c\0\0\0\x01\0\0\0\0\0\0\0\0";
 
-const LITTLE_SEVEN: &[u8] =
-    b"GIOP\x01\x02\x01\x01\x0e\0\0\0\x01\0\0\0\0\0\0\0\0\0\0\0\x07\0";
+const LITTLE_SEVEN: &[u8] = b"GIOP\x01\x02\x01\x01\x0e\0\0\0\x01\0\0\0\0\0\0\0\0\0\0\0\x07\0";
 
 const ERROR: &[u8] = b"GIOP\x01\x02\0\x06\0\0\0\0";
 
@@ -366,6 +365,9 @@ fn ample_memory_always_gives_the_priority(rt: HostRuntime) -> Result<(), Fail> {
         let answered = orb_main(alloc, words.as_slice(), &mut files, &mut input, &mut out);
         assert_eq!(rt; answered.status, 0);
         assert_eq!(rt; out.held(), reply.as_slice());
+        // Offer, Take, Finish, Collect, End, Collect.
+        let piped = answered.piped.as_ref().ok_or("a run")?;
+        assert_eq!(rt; piped.history.len(), 6);
     }
     Ok(())
 }
@@ -381,6 +383,7 @@ fn an_input_has_its_limit(rt: HostRuntime) -> Result<(), Fail> {
     let mut files = SteadyFiles::new(List::new(alloc));
     let answered = orb_main(alloc, words.as_slice(), &mut files, &mut input, &mut out);
     assert_eq!(rt; answered.status, 14);
+    assert!(rt; answered.piped.is_none());
     assert_eq!(rt; out.held().len(), 0);
     Ok(())
 }
