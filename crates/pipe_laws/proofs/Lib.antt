@@ -10,3 +10,4 @@ pub mod Making
 pub mod Rising
 pub mod Taking
 pub mod Beginning
+pub mod Grouping

@@ -8,3 +8,4 @@ pub mod Calm
 pub mod Lacking
 pub mod Serials
 pub mod Begun
+pub mod Grouping

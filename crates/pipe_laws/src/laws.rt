@@ -8,6 +8,7 @@ ghost use Rattle.lane_machine.specs.State.{opening};
 ghost use Rattle.adapter_policies.specs.SetupData.{SetupData};
 ghost use Rattle.pipe_laws.specs.Piped.{IsReplayed, piped};
 ghost use Rattle.pipe_laws.specs.Groups.{GroupsAreFolded, FoldsGoOn};
+ghost use Rattle.pipe_laws.specs.Grouping.{GroupsEndWhereTheyMust};
 ghost use Rattle.pipe_laws.specs.Legality.{PipedIsLegal, PipedOwesNothing, PipedIsDone};
 ghost use Rattle.pipe_laws.specs.Begun.{BegunTellsLacks};
 ghost use Rattle.pipe_laws.specs.Lacking.{LacksAreThere};
@@ -39,6 +40,12 @@ pub fn piped_is_done()
 pub fn groups_are_folded()
     ensures same { GroupsAreFolded }
     ensures more { FoldsGoOn }
+{}
+
+/// The calls are made in groups of at most `batch`. A group that isn't the last is full, or the next call isn't ready behind it; behind
+/// the last no call is left, unless the run is closing.
+pub fn groups_end_where_they_must()
+    ensures { GroupsEndWhereTheyMust }
 {}
 
 /// In a legal history from an opening, whose requests are one connection's and have serial numbers that differ, no request

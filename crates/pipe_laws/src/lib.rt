@@ -7,7 +7,7 @@
 mod laws;
 
 pub use laws::{
-    begun_tells_lacks, counting_rises, groups_are_folded, lacks_are_there, offered_finishes_once,
-    piped_is_done, piped_is_legal, piped_is_replayed, piped_makes_calls, piped_owes_nothing,
-    piped_takes_once, rising_offers_once,
+    begun_tells_lacks, counting_rises, groups_are_folded, groups_end_where_they_must,
+    lacks_are_there, offered_finishes_once, piped_is_done, piped_is_legal, piped_is_replayed,
+    piped_makes_calls, piped_owes_nothing, piped_takes_once, rising_offers_once,
 };
