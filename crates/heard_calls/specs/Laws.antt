@@ -18,6 +18,7 @@ GoesOn None setup conn new serial told all =
     (later : Told) × Hears setup conn new told.band (serial + length told.calls) later × (all ≡ in_front told.calls later)
 GoesOn (Some ending) setup conn new serial told all = all ≡ told
 
+-- hearing goes on with further messages: the calls of the earlier ones stand in front
 abbrev pub HearingGoesOn : Type 0
 HearingGoesOn = (setup : SetupData) (conn : ConnId) (ms new : List Frames.Message) (band : Option Span) (serial : ℕ) (told all : Told)
     → Hears setup conn ms band serial told → Hears setup conn (ms ++ new) band serial all → GoesOn told.ending setup conn new serial told all

@@ -16,9 +16,10 @@ member_due place n = record { place = short place; part = part_of_thing.Member (
 abbrev pub element_due : TypeRef → TypeRef
 element_due due = record { place = due.place; part = due.part; steps = short (due.steps + 1) }
 
--- the type of a result and of a parameter of an operation of the interface at a place
+-- the type of the result of an operation of the interface at a place
 abbrev pub result_due : ℕ → ℕ → TypeRef
 result_due place o = record { place = short place; part = part_of_thing.Outcome (short o); steps = 0 }
 
+-- the type of one of its parameters
 abbrev pub param_due : ℕ → ℕ → ℕ → TypeRef
 param_due place o n = record { place = short place; part = part_of_thing.Parameter (short o) (short n); steps = 0 }

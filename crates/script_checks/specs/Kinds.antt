@@ -25,13 +25,15 @@ same_kind (structure a ms) (structure b ns) = bytes_eq a b
 same_kind (union a d cs) (union b e ds) = bytes_eq a b
 same_kind _ _ = false
 
--- the kind of numbers, of truths and of texts
+-- the kind of numbers
 abbrev pub number_kind : Kind
 number_kind = scalar (signed size4)
 
+-- the kind of truths
 abbrev pub truth_kind : Kind
 truth_kind = scalar boolean
 
+-- the kind of texts
 abbrev pub text_kind : Kind
 text_kind = words 0
 

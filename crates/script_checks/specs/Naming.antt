@@ -22,6 +22,7 @@ abbrev pub last_of : At → List Part → At
 last_of at [] = at
 last_of at (p ∷ ps) = last_of p.at ps
 
+-- where the last part of a scoped name stands
 abbrev pub last_part : Scoped → At
 last_part n = last_of n.at n.parts
 
@@ -30,6 +31,7 @@ abbrev pub known_or : CheckCause → Result Meaning At → Checks Meaning
 known_or cause (Ok m) = Ok m
 known_or cause (Err at) = refused cause at
 
+-- what a name means in a scene; unknown as a name otherwise
 abbrev pub meaning_at : Scene → Scoped → Checks Meaning
 meaning_at s n = known_or cause.UnknownName (meant s.known s.interface n)
 
@@ -63,6 +65,7 @@ abbrev pub or_value : Scene → Scoped → Option (ℕ × Kind × Option TypeRef
 or_value s n (Some v) = Ok (slot v.0, v.1)
 or_value s n None = value_named s n
 
+-- a name as an expression: the variable of that name, or else what it names
 abbrev pub name_typed : Scene → List Var → Scoped → Checks Typed
 name_typed s vs n = or_value s n (variable_of vs n.rooted n.parts)
 
@@ -80,6 +83,7 @@ abbrev pub struct_in : ℕ → Option Thing → Option (ℕ × Kind)
 struct_in i (Some (named t)) = option_map (λ k. (i, k)) (as_struct t.kind)
 struct_in i t = None
 
+-- the struct that a name means, by its place
 abbrev pub struct_of : List Thing → Meaning → Option (ℕ × Kind)
 struct_of ts (means.Thing i) = struct_in i (slice_get ts i)
 struct_of ts m = None
@@ -93,6 +97,7 @@ abbrev pub exception_in : ℕ → Option Thing → Option (ℕ × ExceptionView)
 exception_in i (Some (exception e)) = Some (i, e)
 exception_in i t = None
 
+-- the exception that a name means, by its place
 abbrev pub exception_of : List Thing → Meaning → Option (ℕ × ExceptionView)
 exception_of ts (means.Thing i) = exception_in i (slice_get ts i)
 exception_of ts m = None

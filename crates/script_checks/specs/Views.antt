@@ -34,6 +34,7 @@ scene_of r names interface = record { things = things_of r; known = known_of nam
 abbrev pub ground_of : Ground → Scene
 ground_of g = scene_of g.repository.now g.names.now g.interface.now
 
+-- the things of the repository that a method is checked over
 abbrev pub things_in : Ground → List Thing
 things_in g = things_of g.repository.now
 
