@@ -20,9 +20,10 @@ use Rattle.thread_borrowing.specs.Choice.{chosen_thread}
 use Rattle.request_buffer.specs.Next.{next_job}
 use Rattle.lane_machine.specs.Machine.{step, is_over, offered}
 use Rattle.lane_machine.specs.Readiness.{owed}
-use Rattle.turn_cell.specs.declared.entry.Entry.{Entry}
 use Rattle.lane_machine.specs.Histories.{History, replay, IsLegal}
 use Rattle.pipe_laws.specs.Setup.{pipe_conn, interface_of}
+use Rattle.turn_cell.specs.declared.entry.Entry.{Entry}
+use Rattle.lane_driver.specs.Driving.{run_at as at, entry}
 use Rattle.adapter_policies.specs.SetupData.{SetupData}
 use Rattle.pipe_laws.specs.Said.{call_bytes, said, item_bytes}
 use Rattle.pipe_laws.specs.Piped.{Run, settled, grouped, answer_of}
@@ -31,12 +32,6 @@ use Rattle.ping_laws.specs.Built.{Spares}
 use Rattle.ping_laws.specs.PingRun.{ping_job, IsPingJob, ArePingJobs, offers, outcome_at, with_thread, IsSettled, IsAnswered, Ran, Runs}
 
 -- ---- words
-
-abbrev pub at : State → History → Run
-at s h = record { state = s; history = h }
-
-abbrev entry : LaneCall → LaneReply → Entry State LaneCall LaneReply
-entry call answer = record { caller = 0; call = call; reply = answer }
 
 abbrev pub idle : State → ℕ → ℕ → State
 idle base calls bytes = with_thread base Free calls bytes

@@ -43,7 +43,8 @@ use Rattle.text_streams.specs.Streams.{Gave, GaveFew, WroteText, WroteSome}
 use Rattle.text_streams.proofs.CallerLemmas.{wrote_start, wrote_nothing, wrote_behind}
 use Rattle.ping_laws.proofs.CanOpen.{opens_free}
 use Rattle.ping_laws.proofs.HearingLaws.{jobs_of}
-use Rattle.ping_laws.proofs.PipeRuns.{at, idle, Grouped}
+use Rattle.lane_driver.specs.Driving.{run_at as at}
+use Rattle.ping_laws.proofs.PipeRuns.{idle, Grouped}
 
 -- ---- the end of the connection
 

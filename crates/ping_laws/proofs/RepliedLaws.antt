@@ -53,7 +53,8 @@ use Rattle.ping_laws.proofs.Places.{pings_place}
 use Rattle.lane_driver.proofs.ReplyLaws.{reply_short}
 use Rattle.heard_calls.proofs.StreamCounts.{few_messages}
 use Rattle.ping_laws.proofs.PingSizes.{ping_size, answer_size, not_over}
-use Rattle.ping_laws.proofs.PipeRuns.{at, idle, run_over}
+use Rattle.lane_driver.specs.Driving.{run_at as at}
+use Rattle.ping_laws.proofs.PipeRuns.{idle, run_over}
 use Rattle.ping_laws.proofs.PipedLaws.{gone, last, closes_so, last_says}
 
 -- ---- the pipe's output is that of a run of its jobs

@@ -5,21 +5,11 @@ use Rattle.cdr_values.specs.declared.kind.Member.{Member}
 use Rattle.cdr_values.specs.Trees.{members_of}
 use Rattle.cdr_values.specs.Kinds.{members_view}
 use Rattle.idl_types.specs.Things.{Thing}
-use Rattle.idl_types.specs.References.{kind_at}
-use Rattle.script_values.specs.declared.tree.Expr.{Expr}
 use Rattle.script_values.specs.declared.tree.Link.{Link}
 use Rattle.script_values.specs.declared.tree.Element.{Element}
-use Rattle.script_values.specs.declared.tree.Form.TheFolds.{fold_out-Expr, fold_out-Element}
-use Rattle.script_values.specs.Trees.{Term, Joint, Part, joint, spine}
-use Rattle.script_values.specs.Views.{form_step, link_step, element_step, expr_step, first_of, term_of, joint_of, part_of, joints_view, parts_view}
+use Rattle.script_values.specs.Trees.{Term, joint, spine}
+use Rattle.script_values.specs.Views.{joint_of, part_of, joints_view, parts_view}
 use Rattle.script_checks.specs.Built.{members_len}
-
--- an expression is its first part with its links
-pub term_is : (ts : List Thing) (e : Expr) → term_of ts e ≡ spine (first_of ts e.form) (joints_view ts e.links.items)
-term_is ts e = fold_out-Expr Term Joint Part Term form_step link_step (element_step ts) expr_step e
-
-pub part_is : (ts : List Thing) (e : Element) → part_of ts e ≡ (e.place, kind_at ts e.due, term_of ts e.value)
-part_is ts e = fold_out-Element Term Joint Part Term form_step link_step (element_step ts) expr_step e
 
 -- one more link behind those that are there
 pub one_link : (ts : List Thing) (t : Term) (ls : List Link) (l : Link)

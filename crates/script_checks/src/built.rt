@@ -24,7 +24,7 @@ use servant_scripts::{At, Part};
 use std::alloc::Global;
 
 /// Whether a member was given already. Costs a step for each one that was.
-#[tactic(auto, using(crate::proofs::Parts::part_is))]
+#[tactic(auto, using(script_values::proofs::Parts::part_is))]
 fn is_given(elements: &[Element], place: usize) -> bool
     ensures { (ts : List Thing) → result ≡ Spec.is_given (parts_view ts elements.now) place }
 {

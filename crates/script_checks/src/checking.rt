@@ -256,7 +256,7 @@ pub(crate) fn check_given<'r>(
 /// The check of the members of the struct or the exception at a place. Costs a step for each member that was given before,
 /// and a comparison for each that is there.
 #[cycle(check)]
-#[tactic(auto, using(crate::proofs::Written::field_is, crate::proofs::Parts::part_is), unfolding(crate::specs::Checking::fields))]
+#[tactic(auto, using(crate::proofs::Written::field_is, script_values::proofs::Parts::part_is), unfolding(crate::specs::Checking::fields))]
 pub(crate) fn check_fields<'r>(
     fields: &[Field],
     place: usize,
@@ -284,7 +284,7 @@ pub(crate) fn check_fields<'r>(
 
 /// The check of the elements of a list.
 #[cycle(check)]
-#[tactic(auto, using(crate::proofs::Parts::part_is, crate::proofs::Parts::parts_count), unfolding(crate::specs::Checking::elements))]
+#[tactic(auto, using(script_values::proofs::Parts::part_is, crate::proofs::Parts::parts_count), unfolding(crate::specs::Checking::elements))]
 fn check_elements<'r>(
     phrases: &[Phrase],
     due: TypeRef,

@@ -48,7 +48,7 @@ fn given_by<'r>(op: Unary, sort: Sort<'r>) -> Sort<'r>
 }
 
 /// An expression of one part.
-#[tactic(auto, using(crate::proofs::Parts::term_is))]
+#[tactic(auto, using(script_values::proofs::Parts::term_is))]
 pub(crate) fn single(form: Form, alloc: Global) -> Expr
     ensures { (ts : List Thing) → term_of ts result ≡ first_of ts form }
 {
@@ -94,7 +94,7 @@ pub(crate) fn with_unary<'r>(
 }
 
 /// An expression with one more done to it.
-#[tactic(auto, using(crate::proofs::Parts::term_is, crate::proofs::Parts::one_link))]
+#[tactic(auto, using(script_values::proofs::Parts::term_is, crate::proofs::Parts::one_link))]
 pub(crate) fn with_link(expr: Expr, link: Link) -> Result<Expr, NoMemory>
     ensures { (ts : List Thing) → IfOk result (λ e. term_of ts e ≡ joint (term_of ts expr) (joint_of ts link)) }
 {
