@@ -1,5 +1,5 @@
 -- The groups of the pipe end where they must.
-use Rattle.std.proofs.Common.{◌≡◌, ℕ, ◌+◌, ◌≤◌, Bool, true, false, List, [], ◌∷◌, ◌++◌, length, inl, inr, refl, sym, ap, ◌∙◌, subst, arith, append_assoc, append-nil, length-append}
+use Rattle.std.proofs.Common.{◌≡◌, ℕ, ◌+◌, ◌-◌, ◌≤◌, Bool, true, false, List, [], ◌∷◌, ◌++◌, length, inl, inr, refl, sym, ap, ◌∙◌, subst, arith, append_assoc, append-nil, length-append}
 use Rattle.std.specs.Prelude.{if◌then◌else◌, ◌==◌}
 use Rattle.std.proofs.lemmas.Bool.{cases_Bool}
 use Rattle.std.proofs.lemmas.Bool.Decides.{nat_tests}
@@ -16,6 +16,9 @@ all_push run (c ∷ calls) call = all_push (applied run c) calls call
 
 one_longer : (calls : List LaneCall) (call : LaneCall) → length (calls ++ call ∷ []) ≡ length calls + 1
 one_longer calls call = length-append calls (call ∷ [])
+
+none_first : (n : ℕ) → length {A = LaneCall} [] + n ≡ n
+none_first n = omega arith
 
 -- a group in front of others
 in_front : (servant : JobRecord → Outcome) (batch : ℕ) (start : Run) (group rest : List LaneCall) (behind : Run) → length group ≤ batch → EndsEarly batch start group rest
@@ -44,12 +47,12 @@ with_call servant batch left start group call calls some fits later =
     subst (λ (cs : List LaneCall). HasGroups servant batch start cs (grouped servant batch (if left == 0 then batch else left) (behind_call servant left run) calls)) (append_assoc group (call ∷ []) calls)
     (elim (cases_Bool (left == 0)) [
       | inl none ↦
-          let zero : left ≡ 0 = grind (nat_tests, none) in
+          let zero : left ≡ 0 = grind (arith, nat_tests, none) in
           let all : length longer ≡ batch = omega (arith, full, zero) in
           subst (λ (b : Bool). HasGroups servant batch start (longer ++ calls) (grouped servant batch (if b then batch else left) (if b then settled servant run else run) calls)) (sym none)
           (in_front servant batch start longer calls _ (omega (arith, all)) (inl all)
           (subst (λ (r : Run). HasGroups servant batch (settled servant r) calls (grouped servant batch batch (settled servant run) calls)) (sym (all_push start group call))
-          (later (settled servant run) [] batch refl some)))
+          (later (settled servant run) [] batch (none_first batch) some)))
       | inr some_left ↦
           subst (λ (b : Bool). HasGroups servant batch start (longer ++ calls) (grouped servant batch (if b then batch else left) (if b then settled servant run else run) calls)) (sym some_left)
           (subst (λ (r : Run). HasGroups servant batch start (longer ++ calls) (grouped servant batch left r calls)) (all_push start group call)
@@ -101,4 +104,4 @@ opens servant batch (call ∷ calls) start group room fits some =
     ]
 
 pub groups_end : GroupsEndWhereTheyMust
-groups_end servant batch run calls some = opens servant batch calls run [] batch refl some
+groups_end servant batch run calls some = opens servant batch calls run [] batch (none_first batch) some
