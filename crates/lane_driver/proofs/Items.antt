@@ -49,8 +49,8 @@ stops_later a b out mid out' first then = record {
   ends = ap (λ (h : History). a ++ h) then.ends ∙ sym (append_assoc a then.before (then.last ∷ []));
   parts = then.parts;
   wrote = subst (λ (x : List ℕ). WroteText x out out')
-  (sym (append_assoc (said pipe_conn a) (said pipe_conn then.before) then.front) ∙ ap (λ (x : List ℕ). x ++ then.front) (sym (said_both pipe_conn a then.before)))
-  (wrote_behind (said pipe_conn a) (said pipe_conn then.before ++ then.front) out mid out' first then.wrote);
+      (sym (append_assoc (said pipe_conn a) (said pipe_conn then.before) then.front) ∙ ap (λ (x : List ℕ). x ++ then.front) (sym (said_both pipe_conn a then.before)))
+      (wrote_behind (said pipe_conn a) (said pipe_conn then.before ++ then.front) out mid out' first then.wrote);
 }
 
 pub stops_here : (e : One) (out out' : SinkState) → WroteFrontOf (said pipe_conn (e ∷ [])) out out' → WroteUpToLast (e ∷ []) out out'
