@@ -1,5 +1,5 @@
 -- The answers of the top call where its words mean the listing of a file.
-use Rattle.std.proofs.Common.{◌≡◌, ℕ, List, refl, ap, ◌∙◌, subst, sym}
+use Rattle.std.proofs.Common.{◌≡◌, ℕ, List, None, refl, ap, ◌∙◌, subst, sym}
 use Rattle.orb_base.specs.Outside.{SinkState, SourceState}
 use Rattle.idl_types.specs.Things.{Thing}
 use Rattle.idl_reader.specs.Whole.{text_things}

@@ -201,14 +201,14 @@ few_taken words note piped before after (inl (setup, given, comes)) = few_setup 
 few_taken words note piped before after (inr (answer, none, d)) = few_of (at_note answer) note piped before after d
 
 pub pipe_answers : (words : PipeWords) (answered : Answered) (before after : Moment)
-    → PipesBy words answered.note piped before.files after.files before.input after.input before.out after.out
+    → PipesBy words answered.note answered.piped before.files after.files before.input after.input before.out after.out
     → answered.status ≡ status_of answered.note → Answers (Pipe words) answered before after
 pipe_answers words answered before after h status = record {
   status = status;
   means = h;
   piped = tt;
-  faults = faults_by words.shown words.batch words.config answered.note piped before after h;
-  few = few_taken words answered.note piped before after h;
+  faults = faults_by words.shown words.batch words.config answered.note answered.piped before after h;
+  few = few_taken words answered.note answered.piped before after h;
 }
 
 -- ---- where memory is wanting for the words, nothing was done
@@ -220,8 +220,8 @@ wants_config None files h = refl
 pub wanting_answers : (command : Meaning) (answered : Answered) (before : Moment) → NamesThings command → answered.note ≡ Memory → answered.status ≡ 12 → answered.piped ≡ None
     → Answers command answered before before
 wanting_answers (RefsAt place config) answered before h note status none = at_wanting place config answered before note status none
-wanting_answers (Pipe words) answered before h note status =
-    pipe_answers words answered before before (by_none words end.NoMemory answered.note piped before.files before.files before.input before.out (wants_config words.config before.files h) note)
+wanting_answers (Pipe words) answered before h note status none =
+    pipe_answers words answered before before (by_none words end.NoMemory answered.note answered.piped before.files before.files before.input before.out (wants_config words.config before.files h) note none)
     (status ∙ ap status_of (sym note))
 wanting_answers (Idl name) answered before h note status none = idl_wanting name answered before note status none
 wanting_answers Dump answered before h note status none = absurd h
