@@ -1,5 +1,5 @@
 -- The leaves of what is declared are counted, and no more than a file may have.
-use Rattle.std.proofs.Common.{◌≡◌, ◌⊎◌, inl, inr, ℕ, ◌+◌, ◌-◌, ◌<◌, ◌≤◌, arith, min, Bool, true, false, List, [], ◌∷◌, ◌++◌, length, set, Option, Some, None, Result, Ok, Err, refl, sym, ap, subst, ◌∙◌, sum_by, if◌then◌else◌}
+use Rattle.std.proofs.Common.{◌≡◌, inl, inr, ℕ, ◌+◌, ◌-◌, ◌<◌, ◌≤◌, arith, Bool, true, false, List, [], ◌∷◌, ◌++◌, length, set, Option, Some, None, Ok, refl, sym, ap, subst, ◌∙◌}
 use Rattle.std.specs.Prelude.{slice_get, ◌==◌}
 use Rattle.std.specs.List.{list_any}
 use Rattle.std.proofs.lemmas.Bool.{cond_both}
@@ -11,27 +11,24 @@ use Rattle.idl_grammar.specs.declared.label.IdlLabel.{IdlLabel}
 use Rattle.idl_grammar.specs.declared.label.IdlLabel.TheVariants as l
 use Rattle.cdr_values.specs.Trees.{scalar, structure, union, enumeration, members_of, cases_of}
 use Rattle.idl_types.specs.Things.{OperationView}
-use Rattle.idl_types.specs.Counting as counting
-use Rattle.idl_types.specs.Counting.{leaves_of, leaves_of_members}
 use Rattle.idl_scopes.specs.Finding.{module_in}
 use Rattle.idl_names.specs.Each.{and_new, and_each}
 use Rattle.idl_names.specs.Sizes.{Sized, most, plus, leaf}
 use Rattle.idl_names.specs.State.{Thing, nothing, interface, type, exception, constant, enumerator, operations, Parts, Built, nothing_built}
 use Rattle.idl_names.specs.Changes.{Done, leave, newest, opened, thing_in, place_at}
 use Rattle.idl_names.specs.Bodies as bodies
-use Rattle.idl_names.specs.Interfaces.{operations_in, operations_from, inherited, leaves_from, operation_leaves, attribute_of, operation_read}
+use Rattle.idl_names.specs.Interfaces.{operations_in, operations_from, inherited, leaves_from, operation_leaves, attribute_of}
 use Rattle.idl_names.specs.Labels.{act, judge}
 use Rattle.idl_names.specs.Whole.{Declares}
 use Rattle.idl_reader.proofs.ThingLists.{get_last, set_there}
-use Rattle.idl_reader.proofs.KeptNames.{IsOrderly}
 use Rattle.idl_reader.proofs.QuietLabels.{Counts, same_leaves, Same, itself, counted_counts, quiet_act, quiet_judge}
-use Rattle.idl_reader.proofs.Shapes.{Adds, Sets, Ends, gained, declare_adds, open_opens, enumerate_adds, param_adds, typedef_sets, member_sets, case_member_sets, end_const_sets, type_ends, exception_ends, attribute_adds, operation_ends, interface_opens, base_adds, module_opens}
+use Rattle.idl_reader.proofs.Shapes.{gained, declare_adds, open_opens, enumerate_adds, param_adds, typedef_sets, member_sets, case_member_sets, end_const_sets, type_ends, exception_ends, attribute_adds, operation_ends, interface_opens, base_adds, module_opens}
 use Rattle.idl_reader.proofs.Places.{Spot, outside, heading, based, named, inside, part, goes, goes_alone}
 use Rattle.idl_reader.proofs.Standing.{Stands, standing_keeps}
 use Rattle.idl_reader.proofs.EarlierBases.{gained_nothing, newest_there}
 use Rattle.idl_reader.proofs.SizedTypes.{AtMost}
 use Rattle.idl_reader.proofs.Measured.{IsMeasuredThing, IsMeasured, measured_at, measured_alone, attribute_measured, nothing_measured}
-use Rattle.idl_reader.proofs.FileLeaves.{own_leaves, held_leaves, declared_leaves, all_leaves, IsHeld, AreHeld, HasHeld, AllHeld, HeldSame, are_held_same, are_held_more, held_leaves_same, all_same, all_held_same, all_set, all_held_set, held_in, NoOperation, nothing_free, set_same, leaves_added, held_added, leaves_set, held_set, gained_same, leaves_gained, held_gained}
+use Rattle.idl_reader.proofs.FileLeaves.{own_leaves, held_leaves, declared_leaves, all_leaves, IsHeld, AreHeld, HasHeld, AllHeld, HeldSame, are_held_same, are_held_more, held_leaves_same, all_same, all_held_same, all_set, all_held_set, held_in, nothing_free, set_same, leaves_added, held_added, leaves_set, held_set, gained_same, leaves_gained, held_gained}
 
 -- what an interface inherits are operations
 and_new_held : (ts : List Thing) (is : List ℕ) (i : ℕ) → AreHeld ts is → IsHeld ts i → AreHeld ts (and_new is i)

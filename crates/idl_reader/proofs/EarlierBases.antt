@@ -1,5 +1,5 @@
 -- The bases of an interface are interfaces that were declared before it.
-use Rattle.std.proofs.Common.{◌≡◌, ◌⊎◌, inl, inr, ℕ, ◌+◌, ◌-◌, ◌<◌, arith, Bool, true, false, List, [], ◌∷◌, ◌++◌, length, set, Option, Some, None, Result, Ok, Err, refl, sym, ap, subst, ◌∙◌}
+use Rattle.std.proofs.Common.{◌≡◌, inl, inr, ℕ, ◌-◌, ◌<◌, arith, Bool, true, false, List, [], ◌∷◌, ◌++◌, length, set, Option, Some, None, Ok, refl, sym, ap, subst, ◌∙◌}
 use Rattle.std.specs.Prelude.{slice_get}
 use Rattle.std.proofs.lemmas.Bool.{both_ways, cases_eq}
 use Rattle.grammar.proofs.Basics.{ok_is}
@@ -11,9 +11,9 @@ use Rattle.idl_grammar.specs.declared.label.IdlLabel.TheVariants as l
 use Rattle.cdr_values.specs.Trees.{scalar, structure, union, enumeration, members_of, cases_of}
 use Rattle.idl_scopes.specs.Finding.{module_in}
 use Rattle.idl_names.specs.Sizes.{Sized, plus, leaf}
-use Rattle.idl_names.specs.State.{Thing, nothing, interface, type, exception, constant, enumerator, operations, Built, nothing_built}
-use Rattle.idl_names.specs.Changes.{newest, opened, thing_in, thing_at}
-use Rattle.idl_names.specs.ScopedNames.{meant, meaning}
+use Rattle.idl_names.specs.State.{Thing, nothing, interface, type, exception, constant, enumerator, operations, Built}
+use Rattle.idl_names.specs.Changes.{newest, opened, thing_in}
+use Rattle.idl_names.specs.ScopedNames.{meant}
 use Rattle.idl_names.specs.Bodies as bodies
 use Rattle.idl_names.specs.Interfaces.{is_interface, and_operation, attribute_of, operation_read, inherited}
 use Rattle.idl_names.specs.Labels.{act, judge}
@@ -78,7 +78,7 @@ based_set ts n x there plain h i bases os e = elim (get_set ts n i x (interface 
 ]
 
 -- what is an interface isn't where nothing stands, and what comes last is behind all others
-earlier : (ts : List Thing) (is : List ℕ) → slice_get ts (length ts - 1) ≡ Some nothing → AreBases ts is → AreEarlier is (length ts - 1)
+pub earlier : (ts : List Thing) (is : List ℕ) → slice_get ts (length ts - 1) ≡ Some nothing → AreBases ts is → AreEarlier is (length ts - 1)
 earlier ts [] there b = tt
 earlier ts (i ∷ is) there b =
     let q = slice_get_within ts i _ b.0.there in

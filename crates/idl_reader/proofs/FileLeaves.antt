@@ -1,8 +1,8 @@
 -- The leaves of what is declared, and what becomes of them where one thing more is declared or set.
-use Rattle.std.proofs.Common.{◌≡◌, ◌⊎◌, inl, inr, ℕ, zero, suc, ◌+◌, ◌-◌, ◌<◌, ◌≤◌, arith, List, [], ◌∷◌, ◌++◌, length, set, Option, Some, None, refl, sym, ap, subst, ◌∙◌, sum_by}
+use Rattle.std.proofs.Common.{◌≡◌, inl, inr, ℕ, zero, suc, ◌+◌, ◌≤◌, arith, List, [], ◌∷◌, ◌++◌, set, Option, Some, None, refl, sym, ap, subst, ◌∙◌, sum_by}
 use Rattle.std.specs.Prelude.{slice_get}
 use Rattle.std.proofs.lemmas.Bool.{cases_eq}
-use Rattle.std.proofs.lemmas.Option.{none-some, same_Some, slice_get_within, slice_get_past}
+use Rattle.std.proofs.lemmas.Option.{none-some, same_Some}
 use Rattle.cdr_values.specs.Trees.{members_of}
 use Rattle.idl_types.specs.Things.{OperationView}
 use Rattle.idl_types.specs.Counting as counting
@@ -10,7 +10,7 @@ use Rattle.idl_types.specs.Counting.{leaves_of, leaves_of_members}
 use Rattle.idl_names.specs.State.{Thing, nothing, interface, type, exception, constant, enumerator, operations}
 use Rattle.idl_names.specs.Changes.{thing_in}
 use Rattle.idl_names.specs.Interfaces.{and_operation}
-use Rattle.idl_reader.proofs.ThingLists.{get_before, get_last, set_elsewhere, set_there}
+use Rattle.idl_reader.proofs.ThingLists.{get_before, set_elsewhere, set_there}
 use Rattle.idl_reader.proofs.Shapes.{gained}
 
 -- the leaves of the operations that a thing stands for

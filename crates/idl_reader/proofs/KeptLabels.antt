@@ -1,11 +1,10 @@
 -- What the labels of the grammar do keeps scopes in order.
-use Rattle.std.proofs.Common.{◌≡◌, ℕ, ◌-◌, ◌<◌, ◌≤◌, ◌+◌, arith, Bool, true, false, not, List, length, Option, Some, None, Result, Ok, Err, refl, sym, ap, subst, ◌∙◌}
-use Rattle.std.specs.Prelude.{nat_lt, ◌&&◌, slice_get, if◌then◌else◌}
-use Rattle.std.proofs.lemmas.Bool.{both_ways}
+use Rattle.std.proofs.Common.{◌≡◌, ℕ, ◌-◌, ◌<◌, ◌+◌, arith, Bool, true, false, not, List, length, Option, Some, None, Result, Ok, Err, refl, subst}
+use Rattle.std.specs.Prelude.{nat_lt, slice_get}
 use Rattle.std.proofs.lemmas.Option.{none-some, cond_some, slice_get_within}
 use Rattle.grammar.specs.Language.{Placed}
 use Rattle.grammar.specs.Reading.{◌>>=◌}
-use Rattle.grammar.proofs.Basics.{bind_ok, ok_is}
+use Rattle.grammar.proofs.Basics.{bind_ok}
 use Rattle.idl_tokens.specs.declared.kind.Kind.{Kind}
 use Rattle.idl_grammar.specs.declared.fault.IdlFault.{IdlFault}
 use Rattle.idl_grammar.specs.declared.fault.IdlCause.TheVariants as cause
@@ -21,7 +20,7 @@ use Rattle.idl_names.specs.Sizes.{Sized, plus, leaf}
 use Rattle.cdr_values.specs.Trees.{scalar, structure, union, enumeration, members_of, cases_of}
 use Rattle.idl_names.specs.State.{Thing, nothing, interface, type, exception, constant, enumerator, Built, no_parts}
 use Rattle.idl_constants.specs.ConstValues.{Value}
-use Rattle.idl_names.specs.Changes.{Done, place_of, unless, newest, opened, thing_at, place_at, name_at, with_name, declare_in, declare, enter, become, leave, ends, counted, measured}
+use Rattle.idl_names.specs.Changes.{place_of, unless, newest, opened, thing_at, place_at, name_at, with_name, declare_in, declare, enter, become, leave, ends, counted, measured}
 use Rattle.idl_names.specs.ScopedNames as names
 use Rattle.idl_names.specs.Values as values
 use Rattle.idl_names.specs.Bodies as bodies

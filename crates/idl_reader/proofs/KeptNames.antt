@@ -1,6 +1,6 @@
 -- Scopes stay in order at each label of the grammar, at names without a `/`.
-use Rattle.std.proofs.Common.{◌≡◌, ℕ, ◌+◌, ◌-◌, ◌<◌, ◌≤◌, arith, Bool, true, false, not, List, [], ◌∷◌, ◌++◌, length, length-append, map, codes, set, Option, Some, None, Result, Ok, Err, refl, sym, ap, subst, ◌∙◌}
-use Rattle.std.specs.Prelude.{◌||◌, ◌&&◌, nat_lt, pos, neg_ℤ, slice_get, if◌then◌else◌}
+use Rattle.std.proofs.Common.{◌≡◌, ℕ, ◌+◌, ◌-◌, ◌≤◌, arith, Bool, true, false, List, [], ◌∷◌, ◌++◌, length, length-append, map, codes, set, Option, Some, None, Ok, Err, refl, sym, ap, subst, ◌∙◌}
+use Rattle.std.specs.Prelude.{◌||◌, nat_lt, slice_get}
 use Rattle.std.specs.List.{list_any}
 use Rattle.std.proofs.lemmas.Bool.{cond_both, both_ways, or_parts}
 use Rattle.std.proofs.lemmas.Slice.Eq.{bytes_eq-Decides}
@@ -9,36 +9,24 @@ use Rattle.std.proofs.lemmas.List.{map-append, length-map, length-set}
 use Rattle.grammar.specs.Language.{Placed}
 use Rattle.grammar.specs.Reading.{◌>>=◌}
 use Rattle.grammar.proofs.Basics.{bind_ok, ok_is}
-use Rattle.cdr_values.specs.Trees.{words}
 use Rattle.idl_tokens.specs.declared.kind.Kind.{Kind}
-use Rattle.idl_tokens.specs.declared.kind.Kind.TheVariants as token
 use Rattle.idl_grammar.specs.declared.fault.IdlFault.{IdlFault}
 use Rattle.idl_grammar.specs.declared.fault.IdlCause.{IdlCause}
 use Rattle.idl_grammar.specs.declared.fault.IdlCause.TheVariants as cause
-use Rattle.idl_grammar.specs.declared.label.IdlLabel.{IdlLabel}
-use Rattle.idl_grammar.specs.declared.label.IdlLabel.TheVariants as l
 use Rattle.idl_scopes.specs.declared.place.Place.{Place}
 use Rattle.idl_scopes.specs.Table.{Sort, Declared, Table, module_}
 use Rattle.idl_scopes.specs.Table as table
 use Rattle.idl_scopes.specs.Finding.{lowered, is_at, above, outer}
-use Rattle.idl_scopes.specs.Finding as scopes
 use Rattle.idl_scopes.specs.Taking.{is_in, is_owner, is_operation_in, is_taken, is_taken_part}
-use Rattle.idl_scopes.specs.Declaring.{added, finished_in, finished}
-use Rattle.idl_scopes.proofs.NotTaken.{absent_here, part_absent}
-use Rattle.idl_constants.specs.Fitting.{Fit, fit}
-use Rattle.idl_constants.specs.Standing.{may_switch, may_be_constant}
-use Rattle.idl_constants.specs.ConstValues.{Value, label_of}
-use Rattle.idl_constants.specs.declared.misfit.Misfit.{Misfit}
-use Rattle.idl_names.specs.Sizes.{Sized, plus}
-use Rattle.idl_names.specs.State.{Thing, nothing, interface, type, exception, constant, enumerator, operations, Built, nothing_built}
-use Rattle.idl_names.specs.Changes.{Done, place_of, refused, unless, newest, opened, place_at, name_at, with_name, declare_in, declare, entered, enter, open_body, set_thing, become, leave, ended, ends, counted, measured}
-use Rattle.idl_names.specs.ScopedNames as names
+use Rattle.idl_scopes.specs.Declaring.{finished_in}
+use Rattle.idl_scopes.proofs.NotTaken.{absent_here}
+use Rattle.idl_constants.specs.Fitting.{Fit}
+use Rattle.idl_names.specs.Sizes.{Sized}
+use Rattle.idl_names.specs.State.{Thing, nothing, Built}
+use Rattle.idl_names.specs.Changes.{Done, place_of, refused, unless, newest, opened, with_name, declare_in, declare, entered, enter, set_thing, become, leave, ended, ends, counted, measured}
 use Rattle.idl_names.specs.Values as values
 use Rattle.idl_names.specs.Bodies as bodies
-use Rattle.idl_names.specs.Interfaces as interfaces
-use Rattle.idl_names.specs.Labels.{act_in_body, act_on_value, act, judge}
 use Rattle.idl_reader.proofs.CutNames.{has_slash}
-use Rattle.idl_reader.proofs.Ids.{InOrder}
 use Rattle.idl_reader.proofs.Tables.{known, known_in, key_of, AreInOrder, one_more_name, IsFree, free_more, same_known, known_added, in_order}
 use Rattle.idl_reader.proofs.Steps.{Gives, gives_ok, gives_err, gives_then, gives_unless}
 

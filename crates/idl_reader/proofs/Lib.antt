@@ -28,3 +28,12 @@ pub mod SmallOperations
 pub mod SmallThings
 pub mod ParamsApart
 pub mod ApartThings
+pub mod DeclaredNames
+pub mod KeptTypes
+pub mod TypedThings
+pub mod ToldTypes
+pub mod ApartBodies
+pub mod ToldThings
+pub mod LawfulTypes
+pub mod FilledBodies
+pub mod LawfulThings

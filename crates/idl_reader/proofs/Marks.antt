@@ -1,9 +1,9 @@
 -- What is so of each mark that a rule spells, and what is kept along marks.
-use Rattle.std.proofs.Common.{◌≡◌, ◌⊎◌, ℕ, zero, suc, Bool, true, false, ◌&&◌, List, [], ◌∷◌, ◌++◌, Result, Ok, Err, refl, sym, ap, subst, ◌∙◌, inl, inr}
+use Rattle.std.proofs.Common.{◌≡◌, ℕ, zero, suc, Bool, true, ◌&&◌, List, [], ◌∷◌, ◌++◌, Ok, sym, ap, subst, ◌∙◌, inl, inr}
 use Rattle.std.proofs.lemmas.Bool.{and_parts}
 use Rattle.grammar.specs.Rules.{one, does, ◌then◌, ◌or◌, maybe, many, chained, nested}
 use Rattle.grammar.specs.Language.{Placed, Language, RuleOf}
-use Rattle.grammar.specs.Grammar.{took, did, MarkOf, Parts, Spelled, SpelledInner, tokens_of, act_mark, acts}
+use Rattle.grammar.specs.Grammar.{took, did, MarkOf, Parts, Spelled, SpelledInner, tokens_of, acts}
 use Rattle.grammar.proofs.Basics.{ok_is, acts_one, acts_split}
 
 -- what may stand in a rule: labels at kinds of tokens, labels without a token, and rules in brackets

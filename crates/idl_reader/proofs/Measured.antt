@@ -1,9 +1,9 @@
 -- What is counted of the types of a text is no less than they have, and none is too large.
-use Rattle.std.proofs.Common.{◌≡◌, ◌⊎◌, inl, inr, ℕ, ◌+◌, ◌-◌, ◌*◌, ◌<◌, ◌≤◌, arith, max, Bool, true, false, not, List, [], ◌∷◌, ◌++◌, length, set, Option, Some, None, Result, Ok, Err, refl, sym, ap, subst, ◌∙◌, sum_by}
+use Rattle.std.proofs.Common.{◌≡◌, inl, inr, ℕ, ◌+◌, ◌-◌, ◌≤◌, arith, Bool, true, false, not, List, [], ◌∷◌, ◌++◌, length, set, Option, Some, None, Result, Ok, Err, refl, sym, ap, subst, ◌∙◌, sum_by}
 use Rattle.std.specs.Prelude.{nat_lt, slice_get}
-use Rattle.std.proofs.lemmas.Bool.{cond_both, not-false}
+use Rattle.std.proofs.lemmas.Bool.{cond_both}
 use Rattle.std.proofs.lemmas.Bool.Decides.{nat_tests}
-use Rattle.std.proofs.lemmas.Option.{none-some, same_Some}
+use Rattle.std.proofs.lemmas.Option.{none-some}
 use Rattle.grammar.specs.Language.{Placed}
 use Rattle.grammar.specs.Reading.{◌>>=◌}
 use Rattle.grammar.proofs.Basics.{bind_ok, ok_is}
@@ -24,12 +24,12 @@ use Rattle.idl_scopes.specs.Finding.{outer, module_in}
 use Rattle.idl_scopes.specs.Taking.{is_taken, is_taken_part}
 use Rattle.idl_constants.specs.ConstValues.{Value, label_of}
 use Rattle.idl_constants.specs.Fitting.{Fit, fit}
-use Rattle.idl_types.specs.Things.{OperationView, ParamView}
+use Rattle.idl_types.specs.Things.{ParamView}
 use Rattle.idl_types.specs.Counting as counting
 use Rattle.idl_types.specs.Counting.{leaves_of, levels_of, leaves_of_members, leaves_of_cases, levels_of_members, levels_of_cases, result_leaves}
-use Rattle.idl_names.specs.Sizes.{Sized, most, plus, times, leaf, sequence_of, arrays_of, is_large, basic_kind}
+use Rattle.idl_names.specs.Sizes.{Sized, plus, leaf, is_large, basic_kind}
 use Rattle.idl_names.specs.State.{Thing, nothing, interface, type, exception, constant, enumerator, operations, Parts, no_parts, Built, nothing_built}
-use Rattle.idl_names.specs.Changes.{Done, place_of, refused, unless, newest, opened, thing_in, thing_at, place_at, name_at, with_name, declare_in, declare, entered, enter, open_body, become, leave, ended, ends, counted, measured}
+use Rattle.idl_names.specs.Changes.{Done, place_of, refused, unless, newest, opened, thing_in, thing_at, place_at, name_at, with_name, declare_in, declare, entered, enter, become, leave, ended, ends, counted, measured}
 use Rattle.idl_names.specs.ScopedNames as names
 use Rattle.idl_names.specs.Values as values
 use Rattle.idl_names.specs.Bodies as bodies
@@ -40,8 +40,8 @@ use Rattle.idl_reader.proofs.Steps.{Gives, gives_ok, gives_err, gives_then, give
 use Rattle.idl_reader.proofs.Tables.{get_behind}
 use Rattle.idl_reader.proofs.ThingLists.{get_set}
 use Rattle.idl_reader.proofs.KeptNames.{unless_ok}
-use Rattle.idl_reader.proofs.Places.{Spot, text_keeps}
-use Rattle.idl_reader.proofs.SizedTypes.{AtMost, IsSized, IsSmall, plus_at_most, leaf_sized, sequence_sized, arrays_sized, not_large, small, leaves_more, levels_more, case_leaves_more, case_levels_more, sum_more}
+use Rattle.idl_reader.proofs.Places.{text_keeps}
+use Rattle.idl_reader.proofs.SizedTypes.{AtMost, IsSized, plus_at_most, leaf_sized, sequence_sized, arrays_sized, small, leaves_more, levels_more, case_leaves_more, case_levels_more, sum_more}
 
 -- the leaves of parameters
 abbrev pub param_leaves : List ParamView → ℕ

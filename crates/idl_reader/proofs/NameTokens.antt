@@ -1,9 +1,9 @@
--- The names of a text have no `/`.
-use Rattle.std.proofs.Common.{◌≡◌, ◌⊎◌, inl, inr, ℕ, zero, suc, ◌+◌, ◌-◌, ◌<◌, ◌≤◌, arith, Bool, true, false, cond, not, List, [], ◌∷◌, length, map, take, Option, Some, None, refl, sym, ap, subst, ◌∙◌}
-use Rattle.std.specs.Prelude.{◌==◌, ◌||◌, ◌&&◌, nat_lt, unwrap_or, position, if◌then◌else◌}
-use Rattle.std.specs.List.{list_any, list_all, starts_with, prefix_len}
+-- The names of a text have no `/`, and begin with a letter.
+use Rattle.std.proofs.Common.{◌≡◌, inl, inr, ℕ, zero, suc, ◌+◌, ◌-◌, ◌≤◌, arith, Bool, true, false, cond, not, List, [], ◌∷◌, length, take, Option, Some, None, refl, sym, ap, ◌∙◌}
+use Rattle.std.specs.Prelude.{◌==◌, ◌||◌, ◌&&◌, nat_lt, unwrap_or, if◌then◌else◌}
+use Rattle.std.specs.List.{list_all, starts_with, prefix_len}
 use Rattle.std.specs.Char.{to_ascii_lowercase, is_ascii_alphabetic, is_ascii_digit}
-use Rattle.std.proofs.lemmas.Bool.{or_parts, or_from, and_parts, not-true, both_ways, cases_Bool, cond_both, false_from_ne_true, eqb-true, ne_eqb, ltb-true, ltb-false}
+use Rattle.std.proofs.lemmas.Bool.{or_from, and_parts, not-true, both_ways, cases_Bool, cond_both, false_from_ne_true, eqb-true, ne_eqb, ltb-false}
 use Rattle.idl_scopes.specs.Finding.{lowered}
 use Rattle.idl_tokens.specs.declared.kind.Kind.{Kind}
 use Rattle.idl_tokens.specs.declared.kind.Kind.TheVariants as kind
@@ -13,7 +13,7 @@ use Rattle.idl_tokens.specs.Stream.{Stream, stream}
 use Rattle.idl_tokens.specs.Runs.{is_name_byte, is_blank, is_of_line, run_len, text_len, comment_end}
 use Rattle.idl_tokens.specs.Words.{Table, mark_at, idl_marks}
 use Rattle.idl_tokens.specs.Lexing.{byte_at, named, underscored, numbered, quoted, character, comment, slashed, lex}
-use Rattle.idl_tokens.specs.Cutting.{with_token, cut, text_tokens, line_after, column_after}
+use Rattle.idl_tokens.specs.Cutting.{cut, text_tokens, line_after, column_after}
 use Rattle.idl_reader.proofs.CutNames.{is_slash, has_slash}
 use Rattle.idl_reader.proofs.Marks.{EachToken}
 
@@ -71,9 +71,19 @@ run_no_slash (b ∷ z) = elim (cases_Bool (is_name_byte b)) [
   | inr isnt ↦ ap (λ (c : Bool). has_slash (take (cond (not (not c)) (1 + run z) 0) (b ∷ z))) isnt
 ]
 
--- a token that is a name has no `/`
+-- a name begins with `_`
+abbrev pub begins_low : List ℕ → Bool
+begins_low [] = false
+begins_low (b ∷ z) = b == 95
+
+letter_first : (b : ℕ) (z : List ℕ) (n : ℕ) → is_ascii_alphabetic b ≡ true → begins_low (take (n + 1) (b ∷ z)) ≡ false
+letter_first b z n h =
+    let e : n + 1 ≡ suc n = omega arith in
+    ap (λ (m : ℕ). begins_low (take m (b ∷ z))) e ∙ false_from_ne_true (b == 95) (λ s. both_ways (is_ascii_alphabetic b) (ap is_ascii_alphabetic (eqb-true b 95 s)) h)
+
+-- a token that is a name begins with a letter, and has no `/`
 abbrev IsFine : ℕ → List ℕ → Kind × ℕ → Type 0
-IsFine b z k = is_name k.0 ≡ true → has_slash (take (k.1 + 1) (b ∷ z)) ≡ false
+IsFine b z k = is_name k.0 ≡ true → (is_ascii_alphabetic b ≡ true) × (has_slash (take (k.1 + 1) (b ∷ z)) ≡ false)
 
 no_name : (b : ℕ) (z : List ℕ) (k : Kind × ℕ) → is_name k.0 ≡ false → IsFine b z k
 no_name b z k h e = absurd (both_ways (is_name k.0) h e)
@@ -85,7 +95,7 @@ fine_named : (b : ℕ) (z : List ℕ) → is_ascii_alphabetic b ≡ true → IsF
 fine_named b z h e =
     let n = run_len is_name_byte z in
     let f : n + 1 ≡ suc (run z) = let r = run_is z in omega arith in
-    ap (λ (m : ℕ). has_slash (take m (b ∷ z))) f ∙ or_from (is_slash b) (has_slash (take (run z) z)) (no_slash_byte is_ascii_alphabetic refl b h) (run_no_slash z)
+    (h, ap (λ (m : ℕ). has_slash (take m (b ∷ z))) f ∙ or_from (is_slash b) (has_slash (take (run z) z)) (no_slash_byte is_ascii_alphabetic refl b h) (run_no_slash z))
 
 mark_no_name : (ms : Table) (z : List ℕ) → list_all (λ m. not (is_name m.1)) ms ≡ true → is_name (mark_at ms z).0 ≡ false
 mark_no_name [] z h = refl
@@ -138,9 +148,9 @@ fine_token b z =
     fine_if b z (b == 39) (character z) after_slash (λ n. fine_character b z z) (λ n.
     fine_if b z (b == 47) (slashed Idl z) (mark_at idl_marks (b ∷ z)) (λ o. fine_slashed b z z) (λ o. fine_mark b z (b ∷ z))))))))
 
--- a token of a name has no `/`, in lower case either
+-- a token of a name has no `/`, in lower case either, and doesn't begin with `_`
 abbrev pub IsPlainName : Placed Kind → Type 0
-IsPlainName t = is_name t.kind ≡ true → has_slash (lowered t.text) ≡ false
+IsPlainName t = is_name t.kind ≡ true → (has_slash (lowered t.text) ≡ false) × (begins_low t.text ≡ false)
 
 each_if : (c d : Bool) (t : Placed Kind) (s : Stream Kind) → IsPlainName t → EachToken IsPlainName s.tokens
     → EachToken IsPlainName (if c then stream [] t else (if d then s else stream (t ∷ s.tokens) s.end)).tokens
@@ -156,7 +166,7 @@ each_cut zero line column (b ∷ z) =
     let k = lex Idl b z in
     each_if (same_kind k.0 kind.Bad) (same_kind k.0 kind.Blank) (record { kind = k.0; text = take (k.1 + 1) (b ∷ z); line = line; column = column })
     (cut Idl k.1 (line_after b line) (column_after b column) z)
-    (λ e. low_slashes (take (k.1 + 1) (b ∷ z)) ∙ fine_token b z e) (each_cut k.1 (line_after b line) (column_after b column) z)
+    (λ e. let f = fine_token b z e in (low_slashes (take (k.1 + 1) (b ∷ z)) ∙ f.1, letter_first b z k.1 f.0)) (each_cut k.1 (line_after b line) (column_after b column) z)
 
 -- so of all tokens of a text
 pub plain_names : (text : List ℕ) → EachToken IsPlainName (text_tokens Idl text).tokens

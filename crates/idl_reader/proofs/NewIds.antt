@@ -1,27 +1,23 @@
 -- The things that a text declares have ids of their own, case aside, and none is in the built-in module.
-use Rattle.std.proofs.Common.{◌≡◌, ℕ, ◌+◌, ◌<◌, ◌≤◌, arith, Bool, true, false, not, List, [], ◌∷◌, ◌++◌, length, codes, Option, Some, None, refl, sym, ap, subst, ◌∙◌}
+use Rattle.std.proofs.Common.{◌≡◌, ℕ, ◌+◌, ◌<◌, ◌≤◌, arith, false, List, [], ◌∷◌, ◌++◌, length, codes, Option, Some, None, refl, sym, ap, subst, ◌∙◌}
 use Rattle.std.specs.List.{list_any}
 use Rattle.std.specs.Str.{str_eq_ignore_ascii_case, str_to_ascii_lowercase}
 use Rattle.std.proofs.lemmas.Bool.{or_from, not_from_false, false_from_ne_true}
 use Rattle.std.proofs.lemmas.Option.{none-some, same_Some}
 use Rattle.std.proofs.lemmas.Slice.Eq.{bytes_eq-Decides}
-use Rattle.cdr_values.specs.Trees.{Name}
 use Rattle.idl_scopes.specs.Table.{Table}
 use Rattle.idl_scopes.specs.Ids as ids
 use Rattle.idl_types.specs.Things.{Thing, id_of}
-use Rattle.idl_types.specs.Declaring.{is_new}
 use Rattle.idl_types.specs.Sound.{is_reserved}
 use Rattle.idl_scopes.specs.Finding.{lowered, scope_at, name_at}
 use Rattle.idl_names.specs.State as names
 use Rattle.idl_names.specs.State.{Built}
 use Rattle.idl_names.specs.Whole.{Declares}
 use Rattle.idl_reader.specs.Declared.{declared_at, listed, declared_from, declared}
-use Rattle.idl_reader.specs.Whole as whole
 use Rattle.idl_reader.specs.Accepted.{Each, IsNew, TextsGive}
 use Rattle.idl_reader.proofs.Ids.{InOrder, same_id}
 use Rattle.idl_reader.proofs.Tables.{in_order, free_at}
 use Rattle.idl_reader.proofs.OwnIds.{own_id}
-use Rattle.idl_reader.proofs.KeptNames.{IsOrderly}
 use Rattle.idl_reader.proofs.Standing.{orderly_text}
 
 -- the ids of things are those of declarations before this place

@@ -1,6 +1,6 @@
 -- No id of a text's declarations is in the built-in module.
-use Rattle.std.proofs.Common.{◌≡◌, ◌⊎◌, inl, inr, ℕ, zero, suc, ◌-◌, ◌<◌, ◌≤◌, arith, Bool, true, false, List, [], ◌∷◌, ◌++◌, length, map, take, drop, codes, append_assoc, refl, sym, ap, subst, ◌∙◌}
-use Rattle.std.specs.Str.{str_eq_ignore_ascii_case, bytes_eq}
+use Rattle.std.proofs.Common.{◌≡◌, inl, inr, ℕ, zero, suc, ◌-◌, ◌<◌, ◌≤◌, arith, false, List, [], ◌∷◌, ◌++◌, length, take, drop, codes, append_assoc, refl, sym, ap, ◌∙◌}
+use Rattle.std.specs.Str.{str_eq_ignore_ascii_case}
 use Rattle.std.proofs.lemmas.Bool.{or_from, false_from_ne_true}
 use Rattle.std.proofs.lemmas.List.{map-append, append_cancel_left, append_cancel_right, take-append-drop, take-map}
 use Rattle.std.proofs.lemmas.Slice.Eq.{bytes_eq-Decides}

@@ -1,15 +1,14 @@
 -- The parameters of an operation of a text are told apart, case aside.
-use Rattle.std.proofs.Common.{◌≡◌, ◌⊎◌, inl, inr, ℕ, ◌+◌, ◌-◌, Bool, true, false, not, ◌&&◌, ◌||◌, List, [], ◌∷◌, ◌++◌, append-nil, length, map, set, Option, Some, None, Result, Ok, Err, refl, sym, ap, subst, ◌∙◌}
+use Rattle.std.proofs.Common.{◌≡◌, ◌⊎◌, inl, inr, ℕ, ◌+◌, ◌-◌, Bool, true, false, not, ◌||◌, List, [], ◌∷◌, ◌++◌, append-nil, length, map, set, Option, Some, None, Ok, refl, sym, ap, subst, ◌∙◌}
 use Rattle.std.specs.Prelude.{◌==◌, nat_lt, slice_get}
 use Rattle.std.specs.List.{list_any}
 use Rattle.std.specs.Str.{bytes_eq, str_eq_ignore_ascii_case}
-use Rattle.std.proofs.lemmas.Bool.{and_from, and_parts, or_from, or_left, or_right, or_parts, both_ways, not-true, not_from_false, false_from_ne_true, cond_both, eq-eqb}
+use Rattle.std.proofs.lemmas.Bool.{and_from, and_parts, or_from, or_left, or_right, or_parts, both_ways, not-true, not_from_false, false_from_ne_true, eq-eqb}
 use Rattle.std.proofs.lemmas.Option.{none-some, same_Some}
 use Rattle.std.proofs.lemmas.Slice.Eq.{bytes_eq-Decides}
 use Rattle.grammar.specs.Language.{Placed}
 use Rattle.grammar.specs.Reading.{◌>>=◌}
 use Rattle.grammar.proofs.Basics.{bind_ok, ok_is}
-use Rattle.cdr_values.specs.Lawful.{differ}
 use Rattle.cdr_values.specs.Trees.{scalar, structure, union, enumeration, members_of, cases_of}
 use Rattle.idl_tokens.specs.declared.kind.Kind.{Kind}
 use Rattle.idl_grammar.specs.declared.fault.IdlCause.TheVariants as cause
@@ -25,19 +24,19 @@ use Rattle.idl_constants.specs.Fitting.{fit}
 use Rattle.idl_types.specs.Things.{OperationView, ParamView}
 use Rattle.idl_types.specs.Apart.{are_apart}
 use Rattle.idl_names.specs.Sizes.{Sized, plus, leaf}
-use Rattle.idl_names.specs.State.{Thing, nothing, interface, type, exception, constant, enumerator, operations, Parts, Built, nothing_built}
-use Rattle.idl_names.specs.Changes.{Done, place_of, unless, newest, opened, thing_in, thing_at, place_at, with_name, declare_in, declare, entered, enter, open_body, leave, ended, ends, counted, measured}
+use Rattle.idl_names.specs.State.{Thing, nothing, interface, type, exception, constant, enumerator, operations, Parts, Built}
+use Rattle.idl_names.specs.Changes.{Done, place_of, unless, newest, opened, thing_in, thing_at, place_at, with_name, declare_in, declare, entered, open_body, leave, ended, ends, counted, measured}
 use Rattle.idl_names.specs.ScopedNames as names
 use Rattle.idl_names.specs.Values as values
 use Rattle.idl_names.specs.Bodies as bodies
 use Rattle.idl_names.specs.Interfaces as interfaces
 use Rattle.idl_names.specs.Labels.{act, judge}
 use Rattle.idl_names.specs.Whole.{Declares}
-use Rattle.idl_reader.proofs.Steps.{Gives, gives_ok, gives_err, gives_then, gives_unless}
+use Rattle.idl_reader.proofs.Steps.{Gives, gives_ok, gives_then}
 use Rattle.idl_reader.proofs.Tables.{get_behind}
 use Rattle.idl_reader.proofs.ThingLists.{get_set}
 use Rattle.idl_reader.proofs.KeptNames.{unless_ok}
-use Rattle.idl_reader.proofs.QuietLabels.{Same, itself, LeavesCounted, leaves_then, leaves_unless, leaves_counted, leaves_measured, leaves_fitting, quiet_act, quiet_judge}
+use Rattle.idl_reader.proofs.QuietLabels.{Same, itself, leaves_then, leaves_unless, leaves_counted, leaves_measured, leaves_fitting, quiet_act, quiet_judge}
 use Rattle.idl_reader.proofs.Shapes.{gained, declare_adds, open_opens, enumerate_adds, param_adds, typedef_sets, member_sets, case_member_sets, end_const_sets, type_ends, exception_ends, attribute_adds, operation_ends, interface_opens, base_adds, module_opens}
 use Rattle.idl_reader.proofs.Places.{Spot, outside, heading, based, named, inside, part, goes, goes_alone}
 use Rattle.idl_reader.proofs.Standing.{Stands, standing_keeps}
@@ -60,7 +59,7 @@ abbrev pub AllApart : List Thing → Type 0
 AllApart ts = (i : ℕ) (x : Thing) → slice_get ts i ≡ Some x → HasParamsApart x
 
 -- names are declared in a scope
-abbrev AreKeys : List (ℕ × List ℕ) → ℕ → List (List ℕ) → Type 0
+abbrev pub AreKeys : List (ℕ × List ℕ) → ℕ → List (List ℕ) → Type 0
 AreKeys ks scope [] = Unit {0}
 AreKeys ks scope (n ∷ ns) = (list_any (is_at scope (lowered n)) ks ≡ true) × AreKeys ks scope ns
 
@@ -72,7 +71,7 @@ any_before f (x ∷ xs) ys h = elim (either (f x) (list_any f xs) h) [ inl a ↦
     either true b h = inl refl
     either false b h = inr h
 
-keys_more : (ks more : List (ℕ × List ℕ)) (scope : ℕ) (ns : List (List ℕ)) → AreKeys ks scope ns → AreKeys (ks ++ more) scope ns
+pub keys_more : (ks more : List (ℕ × List ℕ)) (scope : ℕ) (ns : List (List ℕ)) → AreKeys ks scope ns → AreKeys (ks ++ more) scope ns
 keys_more ks more scope [] h = tt
 keys_more ks more scope (n ∷ ns) h = (any_before (is_at scope (lowered n)) ks more h.0, keys_more ks more scope ns h.1)
 
@@ -84,11 +83,11 @@ none_same ks scope name ns absent h x there =
     let low : lowered name ≡ lowered x = (bytes_eq-Decides (lowered name) (lowered x)).0 same in
     both_ways (list_any (is_at scope (lowered name)) ks) absent (subst (λ (n : List ℕ). list_any (is_at scope n) ks ≡ true) (sym low) there))
 
-any_append : {X : Type 0} (f : X → Bool) (xs : List X) (y : X) → list_any f xs ≡ false → f y ≡ false → list_any f (xs ++ y ∷ []) ≡ false
+pub any_append : {X : Type 0} (f : X → Bool) (xs : List X) (y : X) → list_any f xs ≡ false → f y ≡ false → list_any f (xs ++ y ∷ []) ≡ false
 any_append f [] y h k = or_from (f y) false k refl
 any_append f (x ∷ xs) y h k = let p = or_parts (f x) (list_any f xs) h in or_from (f x) (list_any f (xs ++ y ∷ [])) p.0 (any_append f xs y p.1 k)
 
-apart_more : (ks : List (ℕ × List ℕ)) (scope : ℕ) (name : List ℕ) (ns : List (List ℕ)) → list_any (is_at scope (lowered name)) ks ≡ false → AreKeys ks scope ns → are_apart ns ≡ true → are_apart (ns ++ name ∷ []) ≡ true
+pub apart_more : (ks : List (ℕ × List ℕ)) (scope : ℕ) (name : List ℕ) (ns : List (List ℕ)) → list_any (is_at scope (lowered name)) ks ≡ false → AreKeys ks scope ns → are_apart ns ≡ true → are_apart (ns ++ name ∷ []) ≡ true
 apart_more ks scope name [] absent h a = refl
 apart_more ks scope name (x ∷ ns) absent h a =
     let f = λ (y : List ℕ). str_eq_ignore_ascii_case y x in
@@ -101,14 +100,14 @@ names_more : (ps : List ParamView) (p : ParamView) → names_of (ps ++ p ∷ [])
 names_more [] p = refl
 names_more (q ∷ ps) p = ap (λ (ns : List (List ℕ)). q.name ∷ ns) (names_more ps p)
 
-keys_last : (ks : List (ℕ × List ℕ)) (scope : ℕ) (name : List ℕ) → list_any (is_at scope (lowered name)) (ks ++ (scope, lowered name) ∷ []) ≡ true
+pub keys_last : (ks : List (ℕ × List ℕ)) (scope : ℕ) (name : List ℕ) → list_any (is_at scope (lowered name)) (ks ++ (scope, lowered name) ∷ []) ≡ true
 keys_last [] scope name = or_left (is_at scope (lowered name) (scope, lowered name)) false (itself_at scope (lowered name))
   where
     itself_at : (scope : ℕ) (n : List ℕ) → is_at scope n (scope, n) ≡ true
     itself_at scope n = and_from (scope == scope) (bytes_eq n n) (eq-eqb scope scope refl) ((bytes_eq-Decides n n).1 refl)
 keys_last (k ∷ ks) scope name = or_right (is_at scope (lowered name) k) (list_any (is_at scope (lowered name)) (ks ++ (scope, lowered name) ∷ [])) (keys_last ks scope name)
 
-keys_behind : (ks : List (ℕ × List ℕ)) (scope : ℕ) (ns : List (List ℕ)) (n : List ℕ) → AreKeys ks scope ns → list_any (is_at scope (lowered n)) ks ≡ true → AreKeys ks scope (ns ++ n ∷ [])
+pub keys_behind : (ks : List (ℕ × List ℕ)) (scope : ℕ) (ns : List (List ℕ)) (n : List ℕ) → AreKeys ks scope ns → list_any (is_at scope (lowered n)) ks ≡ true → AreKeys ks scope (ns ++ n ∷ [])
 keys_behind ks scope [] n h k = (k, tt)
 keys_behind ks scope (m ∷ ns) n h k = (h.0, keys_behind ks scope ns n h.1 k)
 

@@ -106,7 +106,7 @@ goes_alone l.EndOperation m = only inside outside m
 goes_alone label m = Some m
 
 -- where what stands in brackets leads
-abbrev goes_within : Inner → Spot → Option Spot
+abbrev pub goes_within : Inner → Spot → Option Spot
 goes_within inner.ModuleBody m = only outside outside m
 goes_within inner.InterfaceBody m = only outside outside m
 goes_within inner.StructBody m = only inside inside m
@@ -173,7 +173,7 @@ module _ (I : Spot → Built → Type 0)
   at_kind : (k : Kind) (label : IdlLabel) (m n : Spot) → goes_at k label m ≡ Some n → LeadsAt idl IsPlainName (I m) k label (I n)
   at_kind k label m n e t same p s c i a =
       let q = only_at_names (declares label) (is_name k) (goes label m) n e in
-      h_at label m n q.0 t (λ d. p (ap is_name ((idl_plain act judge).rules.same_is t.kind k same) ∙ q.1 d)) s c i a
+      h_at label m n q.0 t (λ d. (p (ap is_name ((idl_plain act judge).rules.same_is t.kind k same) ∙ q.1 d)).0) s c i a
 
   only_same : (m n : Spot) → same_spot m n ≡ true → (s : Built) → I m s → I n s
   only_same m n e s i = subst (λ (k : Spot). I k s) (spot_is m n e) i

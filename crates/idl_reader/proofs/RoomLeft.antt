@@ -1,8 +1,7 @@
 -- With each thing that a text declares, the file has no more leaves than it may.
-use Rattle.std.proofs.Common.{◌≡◌, ◌⊎◌, inl, inr, ℕ, ◌+◌, ◌≤◌, arith, Bool, true, false, List, [], ◌∷◌, ◌++◌, Option, Some, None, refl, sym, ap, subst, ◌∙◌, sum_by, if◌then◌else◌}
-use Rattle.std.specs.Prelude.{slice_get, nat_le}
+use Rattle.std.proofs.Common.{◌≡◌, ℕ, ◌+◌, ◌≤◌, arith, List, [], ◌∷◌, ◌++◌, Option, Some, None, refl, sym, ap, subst, ◌∙◌, sum_by}
+use Rattle.std.specs.Prelude.{slice_get}
 use Rattle.std.proofs.lemmas.Bool.{cond_both, le-leb}
-use Rattle.std.proofs.lemmas.Bool.Decides.{nat_tests}
 use Rattle.std.proofs.lemmas.List.Sums.{sum_by-append, sum_by_push}
 use Rattle.std.proofs.lemmas.Option.{none-some, same_Some}
 use Rattle.idl_scopes.specs.Table.{Table}
@@ -10,7 +9,7 @@ use Rattle.idl_types.specs.Things as things
 use Rattle.idl_types.specs.Things.{id_of}
 use Rattle.idl_types.specs.Counting.{operation_leaves, thing_leaves}
 use Rattle.idl_types.specs.Sound.{is_reserved, counted_leaves, file_leaves}
-use Rattle.idl_names.specs.State.{Thing, nothing, interface, type, exception, constant, enumerator, operations, Built}
+use Rattle.idl_names.specs.State.{Thing, nothing, interface, type, exception, constant, enumerator, operations}
 use Rattle.idl_names.specs.Changes.{thing_in}
 use Rattle.idl_reader.specs.Declared.{operations_of, operations_at, declared_at, listed, declared_from}
 use Rattle.idl_reader.specs.Accepted.{Each, TextsGive, HasLeavesLeft}

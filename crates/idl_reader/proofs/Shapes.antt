@@ -1,11 +1,11 @@
 -- What a label at which a name is declared, or a declaration ends, makes of the things and of the bases that were read.
-use Rattle.std.proofs.Common.{◌≡◌, ◌⊎◌, inl, inr, ℕ, ◌+◌, ◌-◌, ◌≤◌, arith, Bool, true, false, not, List, [], ◌∷◌, ◌++◌, length, length-append, set, Option, Some, None, Result, Ok, Err, refl, sym, ap, subst, ◌∙◌}
+use Rattle.std.proofs.Common.{◌≡◌, ◌⊎◌, inl, inr, ℕ, ◌+◌, ◌-◌, arith, true, not, List, [], ◌∷◌, ◌++◌, length, length-append, set, Option, Some, None, Ok, refl, sym, ap, subst, ◌∙◌}
 use Rattle.std.specs.Prelude.{nat_lt, slice_get}
 use Rattle.std.proofs.lemmas.Bool.{cond_both, not-false}
 use Rattle.grammar.proofs.Basics.{bind_ok, ok_is}
 use Rattle.grammar.specs.Language.{Placed}
 use Rattle.grammar.specs.Reading.{◌>>=◌}
-use Rattle.cdr_values.specs.Trees.{Kind, scalar, structure, union, enumeration, members_of, cases_of}
+use Rattle.cdr_values.specs.Trees.{Kind}
 use Rattle.idl_tokens.specs.declared.kind.Kind as token
 use Rattle.idl_grammar.specs.declared.fault.IdlCause.TheVariants as cause
 use Rattle.idl_scopes.specs.declared.place.Place.{Place}
@@ -15,16 +15,16 @@ use Rattle.idl_scopes.specs.Finding.{outer, scopes_of}
 use Rattle.idl_scopes.specs.Taking.{is_taken, is_taken_part}
 use Rattle.idl_constants.specs.ConstValues.{Value}
 use Rattle.idl_constants.specs.Fitting.{fit}
-use Rattle.idl_names.specs.Sizes.{Sized, plus, leaf}
-use Rattle.idl_names.specs.State.{Thing, nothing, interface, type, exception, constant, enumerator, operations, Parts, Built}
-use Rattle.idl_names.specs.Changes.{Done, place_of, refused, thing_in, unless, newest, opened, thing_at, place_at, name_at, with_name, declare_in, declare, entered, enter, open_body, become, leave, ended, ends, counted, measured}
+use Rattle.idl_names.specs.Sizes.{Sized, plus}
+use Rattle.idl_names.specs.State.{Thing, nothing, interface, type, exception, constant, enumerator, Built}
+use Rattle.idl_names.specs.Changes.{place_of, refused, thing_in, unless, newest, opened, thing_at, place_at, with_name, declare_in, declare, entered, enter, open_body, ended, ends, counted, measured}
 use Rattle.idl_names.specs.ScopedNames as names
 use Rattle.idl_names.specs.Values as values
 use Rattle.idl_names.specs.Bodies as bodies
 use Rattle.idl_names.specs.Interfaces as interfaces
-use Rattle.idl_reader.proofs.Steps.{Gives, gives_ok, gives_err, gives_then, gives_unless}
+use Rattle.idl_reader.proofs.Steps.{Gives, gives_ok, gives_err, gives_then}
 use Rattle.idl_reader.proofs.KeptNames.{unless_ok}
-use Rattle.idl_reader.proofs.QuietLabels.{Counts, counts_behind, same_leaves, Same, itself, LeavesCounted, counted_counts, Leaves, leaves_then, leaves_unless, leaves_counted, leaves_measured, leaves_fitting}
+use Rattle.idl_reader.proofs.QuietLabels.{Counts, counts_behind, same_leaves, Same, itself, LeavesCounted, counted_counts, Leaves, leaves_unless, leaves_measured, leaves_fitting}
 
 -- one thing more, and the open scope and the bases as before; no leaves are counted
 pub record Adds (thing : Thing) (s c : Built) : Type 0 where

@@ -1,11 +1,11 @@
 -- What is counted of a type is no less than it has, as long as the count isn't cut.
-use Rattle.std.proofs.Common.{◌≡◌, ℕ, zero, suc, ◌+◌, ◌*◌, ◌<◌, ◌≤◌, arith, min, max, Bool, true, false, ◌||◌, List, [], ◌∷◌, ◌++◌, Option, Some, None, refl, sym, ap, subst, ◌∙◌, sum_by}
+use Rattle.std.proofs.Common.{◌≡◌, ℕ, zero, suc, ◌+◌, ◌*◌, ◌<◌, ◌≤◌, arith, max, false, List, [], ◌∷◌, ◌++◌, sum_by}
 use Rattle.std.specs.Prelude.{nat_lt}
 use Rattle.std.proofs.lemmas.Bool.{or_parts}
 use Rattle.std.proofs.lemmas.Bool.Decides.{nat_tests}
 use Rattle.std.proofs.lemmas.List.Sums.{sum_by_push}
 use Rattle.std.proofs.lemmas.Nat.{mul-le}
-use Rattle.cdr_values.specs.Trees.{Kind, scalar, words, sequence, array, members_of, Branch, cases_of}
+use Rattle.cdr_values.specs.Trees.{Kind, members_of, Branch, cases_of}
 use Rattle.idl_types.specs.Counting.{leaves_of, leaves_of_members, leaves_of_cases, levels_of, levels_of_members, levels_of_cases}
 use Rattle.idl_names.specs.Sizes.{Sized, most, plus, times, leaf, sequence_of, array_of, arrays_of, is_large}
 

@@ -1,12 +1,12 @@
 -- No result or parameter of an operation of a text is larger than a type may be.
-use Rattle.std.proofs.Common.{◌≡◌, ◌⊎◌, inl, inr, ℕ, ◌+◌, ◌-◌, ◌≤◌, arith, Bool, true, false, not, List, [], ◌∷◌, ◌++◌, length, set, Option, Some, None, Result, Ok, Err, refl, sym, ap, subst, ◌∙◌}
+use Rattle.std.proofs.Common.{◌≡◌, inl, inr, ℕ, ◌+◌, ◌-◌, arith, Bool, true, false, not, List, [], ◌∷◌, ◌++◌, length, set, Option, Some, None, Result, Ok, Err, refl, sym, ap, subst, ◌∙◌}
 use Rattle.std.specs.Prelude.{nat_lt, slice_get}
 use Rattle.std.proofs.lemmas.Bool.{cond_both}
 use Rattle.std.proofs.lemmas.Option.{none-some, same_Some}
 use Rattle.grammar.specs.Language.{Placed}
 use Rattle.grammar.specs.Reading.{◌>>=◌}
 use Rattle.grammar.specs.Grammar.{SpelledInner}
-use Rattle.grammar.proofs.Basics.{bind_ok, ok_is}
+use Rattle.grammar.proofs.Basics.{ok_is}
 use Rattle.cdr_values.specs.Trees as trees
 use Rattle.cdr_values.specs.Trees.{scalar, structure, union, enumeration, words, members_of, cases_of}
 use Rattle.idl_tokens.specs.declared.kind.Kind.{Kind}
@@ -29,8 +29,8 @@ use Rattle.idl_constants.specs.ConstValues.{Value, label_of}
 use Rattle.idl_constants.specs.Fitting.{Fit, fit}
 use Rattle.idl_types.specs.Things.{OperationView, ParamView}
 use Rattle.idl_names.specs.Sizes.{Sized, plus, leaf, basic_kind}
-use Rattle.idl_names.specs.State.{Thing, nothing, interface, type, exception, constant, enumerator, operations, Parts, no_parts, Built, nothing_built}
-use Rattle.idl_names.specs.Changes.{Done, place_of, refused, unless, newest, opened, thing_in, thing_at, place_at, name_at, with_name, declare_in, declare, entered, enter, open_body, become, leave, ended, ends, counted, measured}
+use Rattle.idl_names.specs.State.{Thing, nothing, interface, type, exception, constant, enumerator, operations, no_parts, Built, nothing_built}
+use Rattle.idl_names.specs.Changes.{Done, place_of, refused, unless, newest, opened, thing_in, thing_at, place_at, with_name, declare_in, declare, entered, enter, become, leave, ended, ends, counted, measured}
 use Rattle.idl_names.specs.ScopedNames as names
 use Rattle.idl_names.specs.Values as values
 use Rattle.idl_names.specs.Bodies as bodies

@@ -1,15 +1,14 @@
 -- How the scopes and the things of a text stand, at each of the spots where a label may stand.
-use Rattle.std.proofs.Common.{◌≡◌, ◌⊎◌, inl, inr, ℕ, ◌+◌, ◌-◌, ◌<◌, ◌≤◌, arith, Bool, true, false, List, [], ◌∷◌, ◌++◌, length, length-append, set, Option, Some, None, Result, Ok, Err, refl, sym, ap, subst, ◌∙◌}
+use Rattle.std.proofs.Common.{◌≡◌, ℕ, ◌+◌, ◌-◌, ◌<◌, arith, true, false, List, [], ◌∷◌, ◌++◌, length, length-append, set, Some, Ok, refl, sym, ap, subst, ◌∙◌}
 use Rattle.std.specs.Prelude.{slice_get}
-use Rattle.std.proofs.lemmas.Option.{none-some, same_Some, slice_get_within}
+use Rattle.std.proofs.lemmas.Option.{none-some, same_Some}
 use Rattle.grammar.specs.Language.{Placed}
 use Rattle.idl_tokens.specs.declared.kind.Kind.{Kind}
 use Rattle.idl_grammar.specs.declared.label.IdlLabel.{IdlLabel}
 use Rattle.idl_grammar.specs.declared.label.IdlLabel.TheVariants as l
-use Rattle.idl_scopes.specs.Table.{Table}
 use Rattle.idl_scopes.specs.Finding.{lowered}
 use Rattle.idl_names.specs.State.{Thing, nothing, Built, nothing_built}
-use Rattle.idl_names.specs.Changes.{newest, opened}
+use Rattle.idl_names.specs.Changes.{newest}
 use Rattle.idl_names.specs.Labels.{act, judge}
 use Rattle.idl_names.specs.Whole.{Declares}
 use Rattle.idl_reader.proofs.CutNames.{has_slash}
@@ -18,7 +17,7 @@ use Rattle.idl_reader.proofs.KeptNames.{IsOrderly, like}
 use Rattle.idl_reader.proofs.KeptLabels.{declares, kept_judge, kept_act}
 use Rattle.idl_reader.proofs.ThingLists.{get_before, get_last, set_elsewhere}
 use Rattle.idl_reader.proofs.QuietLabels.{Same, quiet_act, quiet_judge}
-use Rattle.idl_reader.proofs.Shapes.{Adds, Sets, Opens, declare_adds, open_opens, enumerate_adds, param_adds, member_sets, case_member_sets, AddsBase, base_adds}
+use Rattle.idl_reader.proofs.Shapes.{Adds, Sets, Opens, declare_adds, open_opens, enumerate_adds, param_adds, member_sets, case_member_sets, base_adds}
 use Rattle.idl_reader.proofs.Places.{Spot, outside, heading, based, named, inside, part, goes, goes_alone, text_keeps}
 
 -- the newest declaration stands for nothing yet
@@ -109,7 +108,7 @@ opened_set s c thing a o less h =
     }
 
 -- what each label keeps so at its token
-stands_at : (label : IdlLabel) (m n : Spot) → goes label m ≡ Some n → (t : Placed Kind) → (declares label ≡ true → has_slash (lowered t.text) ≡ false) → (s c : Built) → Stands m s → act label t s ≡ Ok c → Stands n c
+pub stands_at : (label : IdlLabel) (m n : Spot) → goes label m ≡ Some n → (t : Placed Kind) → (declares label ≡ true → has_slash (lowered t.text) ≡ false) → (s c : Built) → Stands m s → act label t s ≡ Ok c → Stands n c
 stands_at l.Module outside n e t p s c h a = subst (λ (k : Spot). Stands k c) (same_Some outside n e) (kept_act l.Module t s p (λ d. absurd cc) h c a)
 stands_at l.Module m n e t p s c h a = absurd (none-some n e)
 stands_at l.EndModule outside n e t p s c h a = subst (λ (k : Spot). Stands k c) (same_Some outside n e) (kept_act l.EndModule t s p (λ d. absurd cc) h c a)
@@ -159,7 +158,7 @@ stands_at (l.Refuse d) m n e t p s c h a = absurd cc
 stands_at label m n e t p s c h a = subst (λ (k : Spot). Stands k c) (same_Some m n e) (stands_same m s c (quiet_act label t s refl c a) h)
 
 -- and without a token
-stands_alone : (label : IdlLabel) (m n : Spot) → goes_alone label m ≡ Some n → (s c : Built) → Stands m s → judge label s ≡ Ok c → Stands n c
+pub stands_alone : (label : IdlLabel) (m n : Spot) → goes_alone label m ≡ Some n → (s c : Built) → Stands m s → judge label s ≡ Ok c → Stands n c
 stands_alone l.Base heading n e s c h a =
     let d = base_adds s c a in
     subst (λ (k : Spot). Stands k c) (same_Some heading n e) (kept_judge l.Base s h.0 c a, fresh_same s c (sym d.things) h.1)
@@ -180,7 +179,7 @@ stands_alone l.EndOperation inside n e s c h a = subst (λ (k : Spot). Stands k 
 stands_alone l.EndOperation m n e s c h a = absurd (none-some n e)
 stands_alone label m n e s c h a = subst (λ (k : Spot). Stands k c) (same_Some m n e) (stands_same m s c (quiet_judge label s refl c a) h)
 
-nothing_orderly : IsOrderly nothing_built
+pub nothing_orderly : IsOrderly nothing_built
 nothing_orderly = record { names = no_names_in_order; keyed = refl; inside = omega arith; free = none_free; paired = refl }
 
 -- what a text declares is in order

@@ -1,5 +1,5 @@
 -- What a step gives, where it isn't refused.
-use Rattle.std.proofs.Common.{◌≡◌, Bool, true, false, Result, Ok, Err, subst}
+use Rattle.std.proofs.Common.{◌≡◌, Bool, true, false, Ok, Err, subst}
 use Rattle.grammar.specs.Reading.{◌>>=◌}
 use Rattle.grammar.proofs.Basics.{bind_ok, ok_is}
 use Rattle.idl_grammar.specs.declared.fault.IdlFault.{IdlFault}

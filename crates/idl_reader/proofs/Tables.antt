@@ -1,12 +1,12 @@
 -- Scopes in order: what declaring a name and ending a declaration keep.
-use Rattle.std.proofs.Common.{◌≡◌, ◌⊎◌, inl, inr, ℕ, zero, suc, ◌<◌, ◌≤◌, arith, Bool, true, false, List, [], ◌∷◌, ◌++◌, length, length-append, map, codes, set, Option, Some, None, refl, sym, ap, subst, ◌∙◌}
+use Rattle.std.proofs.Common.{◌≡◌, ◌⊎◌, inl, inr, ℕ, zero, suc, ◌<◌, ◌≤◌, arith, Bool, true, false, List, [], ◌∷◌, ◌++◌, length, map, codes, set, Option, Some, None, refl, sym, ap, subst, ◌∙◌}
 use Rattle.std.specs.Prelude.{◌==◌, slice_get}
 use Rattle.std.specs.List.{list_any}
 use Rattle.std.specs.Option.{option_map}
 use Rattle.std.specs.Str.{bytes_eq}
 use Rattle.std.proofs.lemmas.Bool.{and_from, or_left, or_right, both_ways, eq-eqb}
-use Rattle.std.proofs.lemmas.List.{map-append, map-set, length-map}
-use Rattle.std.proofs.lemmas.Option.{none-some, same_Some, slice_get-map, slice_get_within}
+use Rattle.std.proofs.lemmas.List.{map-append, map-set}
+use Rattle.std.proofs.lemmas.Option.{none-some, same_Some, slice_get-map}
 use Rattle.std.proofs.lemmas.Slice.Eq.{bytes_eq-Decides}
 use Rattle.idl_scopes.specs.declared.place.Place.{Place}
 use Rattle.idl_scopes.specs.Table.{Sort, Declared, Table}
@@ -40,7 +40,7 @@ get_behind [] y x (suc i) e = absurd (none-some x e)
 get_behind (z ∷ xs) y x zero e = inl e
 get_behind (z ∷ xs) y x (suc i) e = elim (get_behind xs y x i e) [ inl h ↦ inl h | inr h ↦ inr (let k = h.0 in omega arith, h.1) ]
 
-any_there : {X : Type 0} (test : X → Bool) (xs : List X) (i : ℕ) (x : X) → slice_get xs i ≡ Some x → test x ≡ true → list_any test xs ≡ true
+pub any_there : {X : Type 0} (test : X → Bool) (xs : List X) (i : ℕ) (x : X) → slice_get xs i ≡ Some x → test x ≡ true → list_any test xs ≡ true
 any_there test [] i x e h = absurd (none-some x e)
 any_there test (y ∷ xs) zero x e h = or_left (test y) (list_any test xs) (ap test (same_Some y x e) ∙ h)
 any_there test (y ∷ xs) (suc i) x e h = or_right (test y) (list_any test xs) (any_there test xs i x e h)

@@ -1,8 +1,8 @@
 -- What is so before a rule is read, and what is so behind it.
-use Rattle.std.proofs.Common.{◌≡◌, ◌⊎◌, ℕ, zero, suc, true, List, [], ◌∷◌, ◌++◌, Ok, refl, sym, subst, ◌∙◌, inl, inr}
+use Rattle.std.proofs.Common.{◌≡◌, ℕ, zero, suc, true, List, [], ◌∷◌, ◌++◌, Ok, sym, subst, ◌∙◌, inl, inr}
 use Rattle.grammar.specs.Rules.{one, does, ◌then◌, ◌or◌, maybe, many, chained, nested}
 use Rattle.grammar.specs.Language.{Placed, Language, RuleOf}
-use Rattle.grammar.specs.Grammar.{took, did, MarkOf, Parts, Spelled, SpelledInner, tokens_of, acts}
+use Rattle.grammar.specs.Grammar.{took, did, MarkOf, Parts, Spelled, tokens_of, acts}
 use Rattle.grammar.proofs.Basics.{ok_is, tokens_append, acts_one, acts_split}
 use Rattle.idl_reader.proofs.Marks.{Allowed, AreAllowed, are_allowed, spelled_allowed, EachToken, kept_along}
 

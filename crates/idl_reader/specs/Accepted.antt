@@ -1,9 +1,10 @@
 -- What a repository asks of one more thing, of the things that texts declare.
 use Rattle.std.specs.Prelude.{◌≡◌, ℕ, ◌+◌, ◌&&◌, nat_le, Bool, true, false, List, [], ◌∷◌, ◌++◌, map, Option, Some, None}
 use Rattle.std.specs.List.{list_all}
-use Rattle.cdr_values.specs.Trees.{Kind, members_of}
+use Rattle.cdr_values.specs.Trees.{Name, Kind, members_of}
+use Rattle.cdr_values.specs.Lawful.{is_lawful, are_lawful}
 use Rattle.idl_types.specs.Things.{OperationView, Thing, constant, named, exception, interface, id_of, operations_of}
-use Rattle.idl_types.specs.Apart.{are_apart}
+use Rattle.idl_types.specs.Apart.{are_apart, is_told_apart, are_told_apart}
 use Rattle.idl_types.specs.Counting.{leaves_of, levels_of, leaves_of_members, levels_of_members}
 use Rattle.idl_types.specs.Declaring.{is_new}
 use Rattle.idl_types.specs.Sound.{is_reserved, has_bases_in, counted_leaves, file_leaves, most_leaves, most_levels, most_file_leaves}
@@ -54,6 +55,30 @@ has_params_apart o = are_apart (map (λ p. p.name) o.params)
 -- so of each of its operations
 abbrev pub HasParamsApart : List Thing → Thing → Type 0
 HasParamsApart before t = list_all has_params_apart (operations_of t) ≡ true
+
+-- so of a result, where there is one
+abbrev pub is_result_so : (Kind → Bool) → Option Kind → Bool
+is_result_so so None = true
+is_result_so so (Some k) = so k
+
+-- so of the result and of the parameters of an operation
+abbrev pub has_types_so : (Kind → Bool) → OperationView → Bool
+has_types_so so o = is_result_so so o.result && list_all (λ p. so p.kind) o.params
+
+-- so of the type of a constant, of a named type and of the types of operations, and so of the members of an exception
+abbrev pub HasTypes : (Kind → Bool) → (List (Name × Kind) → Bool) → List Thing → Thing → Type 0
+HasTypes so are_so before (constant c) = so c.kind ≡ true
+HasTypes so are_so before (named t) = so t.kind ≡ true
+HasTypes so are_so before (exception e) = are_so e.members ≡ true
+HasTypes so are_so before (interface i) = list_all (has_types_so so) i.operations ≡ true
+
+-- the names in each of its types are told apart, case aside
+abbrev pub HasNamesApart : List Thing → Thing → Type 0
+HasNamesApart = HasTypes is_told_apart (λ ms. are_told_apart (members_of ms))
+
+-- each of its types is lawful
+abbrev pub HasLawfulTypes : List Thing → Thing → Type 0
+HasLawfulTypes = HasTypes is_lawful (λ ms. are_lawful (members_of ms))
 
 -- with it the file has no more leaves than it may
 abbrev pub HasLeavesLeft : List Thing → Thing → Type 0

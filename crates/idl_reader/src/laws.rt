@@ -1,5 +1,5 @@
 //! Laws on what texts declare. The bodies are empty: each contract is a law of the definitions.
-ghost use Rattle.idl_reader.specs.Accepted.{HasEarlierBases, HasLeavesLeft, HasParamsApart, HasSmallTypes, IsNew, TextsGive};
+ghost use Rattle.idl_reader.specs.Accepted.{HasEarlierBases, HasLawfulTypes, HasLeavesLeft, HasNamesApart, HasParamsApart, HasSmallTypes, IsNew, TextsGive};
 
 /// Each thing that a text declares has an id that none before it has, case aside, and none is in the built-in module.
 pub fn texts_give_new_ids()
@@ -14,6 +14,17 @@ pub fn texts_give_earlier_bases()
 /// Each type, constant, exception, result and parameter that a text declares has at most 65,536 leaves and 64 levels.
 pub fn texts_give_small_types()
     ensures { TextsGive HasSmallTypes }
+{}
+
+/// The names in each type that a text declares are told apart, case aside: of members, of cases, and of labels.
+pub fn texts_give_apart_names()
+    ensures { TextsGive HasNamesApart }
+{}
+
+/// Each type that a text declares is lawful: a struct has a member, a union a discriminator that it may switch on, labels that
+/// differ and at most one default, and an array a length.
+pub fn texts_give_lawful_types()
+    ensures { TextsGive HasLawfulTypes }
 {}
 
 /// The parameters of each operation that a text declares are told apart, case aside.
