@@ -37,3 +37,10 @@ pub mod ToldThings
 pub mod LawfulTypes
 pub mod FilledBodies
 pub mod LawfulThings
+pub mod FirstNames
+pub mod HeldOperations
+pub mod MergedBases
+pub mod HeldSpots
+pub mod KeptOperations
+pub mod OperationNames
+pub mod InheritedThings

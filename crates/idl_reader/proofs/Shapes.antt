@@ -52,11 +52,11 @@ pub counts_as : (n : ℕ) (s x c : Built) → Counts n s x → x.leaves ≡ c.le
 counts_as n s x c h e = let a = h.more in record { more = omega arith; within = λ w. let b = h.within w in omega arith }
 
 -- the place of the newest name, where the same is declared
-newest_same : (s x : Built) → Same s x → newest x ≡ newest s
+pub newest_same : (s x : Built) → Same s x → newest x ≡ newest s
 newest_same s x h = ap (λ (t : Table). length t.declared - 1) (sym h.scopes)
 
 -- and of the open declaration
-opened_same : (s x : Built) → Same s x → opened x ≡ opened s
+pub opened_same : (s x : Built) → Same s x → opened x ≡ opened s
 opened_same s x h = ap (λ (n : ℕ). n - 1) (sym h.here)
 
 -- a name that is declared is the newest

@@ -1,12 +1,15 @@
 -- What a repository asks of one more thing, of the things that texts declare.
 use Rattle.std.specs.Prelude.{◌≡◌, ℕ, ◌+◌, ◌&&◌, nat_le, Bool, true, false, List, [], ◌∷◌, ◌++◌, map, Option, Some, None}
 use Rattle.std.specs.List.{list_all}
+use Rattle.std.specs.Str.{bytes_eq}
 use Rattle.cdr_values.specs.Trees.{Name, Kind, members_of}
-use Rattle.cdr_values.specs.Lawful.{is_lawful, are_lawful}
+use Rattle.cdr_values.specs.Lawful.{differ, is_lawful, are_lawful}
 use Rattle.idl_types.specs.Things.{OperationView, Thing, constant, named, exception, interface, id_of, operations_of}
 use Rattle.idl_types.specs.Apart.{are_apart, is_told_apart, are_told_apart}
 use Rattle.idl_types.specs.Counting.{leaves_of, levels_of, leaves_of_members, levels_of_members}
 use Rattle.idl_types.specs.Declaring.{is_new}
+use Rattle.idl_types.specs.Inherited.{inherits_in}
+use Rattle.idl_types.specs.Names.{operation_names}
 use Rattle.idl_types.specs.Sound.{is_reserved, has_bases_in, counted_leaves, file_leaves, most_leaves, most_levels, most_file_leaves}
 use Rattle.idl_reader.specs.Whole.{Declares}
 
@@ -79,6 +82,14 @@ HasNamesApart = HasTypes is_told_apart (λ ms. are_told_apart (members_of ms))
 -- each of its types is lawful
 abbrev pub HasLawfulTypes : List Thing → Thing → Type 0
 HasLawfulTypes = HasTypes is_lawful (λ ms. are_lawful (members_of ms))
+
+-- the names of its operations differ
+abbrev pub HasOperationsApart : List Thing → Thing → Type 0
+HasOperationsApart before t = differ bytes_eq (operation_names (operations_of t)) ≡ true
+
+-- its operations begin with those that it inherits from its bases, which are among those before it
+abbrev pub HasInheritedFirst : List Thing → Thing → Type 0
+HasInheritedFirst before t = inherits_in before t ≡ true
 
 -- with it the file has no more leaves than it may
 abbrev pub HasLeavesLeft : List Thing → Thing → Type 0

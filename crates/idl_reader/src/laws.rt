@@ -1,5 +1,5 @@
 //! Laws on what texts declare. The bodies are empty: each contract is a law of the definitions.
-ghost use Rattle.idl_reader.specs.Accepted.{HasEarlierBases, HasLawfulTypes, HasLeavesLeft, HasNamesApart, HasParamsApart, HasSmallTypes, IsNew, TextsGive};
+ghost use Rattle.idl_reader.specs.Accepted.{HasEarlierBases, HasInheritedFirst, HasLawfulTypes, HasLeavesLeft, HasNamesApart, HasOperationsApart, HasParamsApart, HasSmallTypes, IsNew, TextsGive};
 
 /// Each thing that a text declares has an id that none before it has, case aside, and none is in the built-in module.
 pub fn texts_give_new_ids()
@@ -30,6 +30,16 @@ pub fn texts_give_lawful_types()
 /// The parameters of each operation that a text declares are told apart, case aside.
 pub fn texts_give_apart_params()
     ensures { TextsGive HasParamsApart }
+{}
+
+/// The operations of each interface that a text declares have names that differ, inherited ones and those of attributes too.
+pub fn texts_give_apart_operations()
+    ensures { TextsGive HasOperationsApart }
+{}
+
+/// The operations of each interface that a text declares begin with those that its bases give, each name once.
+pub fn texts_inherit_first()
+    ensures { TextsGive HasInheritedFirst }
 {}
 
 /// With each thing that a text declares the file has at most 1,048,576 leaves.
