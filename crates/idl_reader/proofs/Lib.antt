@@ -44,3 +44,4 @@ pub mod HeldSpots
 pub mod KeptOperations
 pub mod OperationNames
 pub mod InheritedThings
+pub mod TakenThings

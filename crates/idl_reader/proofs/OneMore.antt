@@ -15,7 +15,7 @@ pub none_given : (os : List things.OperationView) (ts : List Thing) (i : ℕ) �
 none_given os ts i e =
     sym (append-nil os) ∙ ap (λ (o : Option names.Thing). os ++ operations_of (thing_in o)) (sym (slice_get-map thing_of ts i ∙ ap (option_map thing_of) e))
 
-thing_next : (ts : List Thing) (i : ℕ) (x : Thing) → i < length ts → x ≡ get_or ts i x → drop i (map thing_of ts) ≡ thing_of x ∷ drop (i + 1) (map thing_of ts)
+pub thing_next : (ts : List Thing) (i : ℕ) (x : Thing) → i < length ts → x ≡ get_or ts i x → drop i (map thing_of ts) ≡ thing_of x ∷ drop (i + 1) (map thing_of ts)
 thing_next ts i x h is =
     let n : length (map thing_of ts) ≡ length ts = length-map ts thing_of in
     drop_more (map thing_of ts) i (thing_of x) (omega arith)

@@ -7,7 +7,7 @@ use Rattle.cdr_values.specs.Lawful.{differ, is_lawful, are_lawful}
 use Rattle.idl_types.specs.Things.{OperationView, Thing, constant, named, exception, interface, id_of, operations_of}
 use Rattle.idl_types.specs.Apart.{are_apart, is_told_apart, are_told_apart}
 use Rattle.idl_types.specs.Counting.{leaves_of, levels_of, leaves_of_members, levels_of_members}
-use Rattle.idl_types.specs.Declaring.{is_new}
+use Rattle.idl_types.specs.Declaring.{is_new, may_declare}
 use Rattle.idl_types.specs.Inherited.{inherits_in}
 use Rattle.idl_types.specs.Names.{operation_names}
 use Rattle.idl_types.specs.Sound.{is_reserved, has_bases_in, counted_leaves, file_leaves, most_leaves, most_levels, most_file_leaves}
@@ -94,3 +94,12 @@ HasInheritedFirst before t = inherits_in before t ≡ true
 -- with it the file has no more leaves than it may
 abbrev pub HasLeavesLeft : List Thing → Thing → Type 0
 HasLeavesLeft before t = nat_le (file_leaves before + counted_leaves t) most_file_leaves ≡ true
+
+-- a repository of those before it takes it
+abbrev pub MayDeclare : List Thing → Thing → Type 0
+MayDeclare before t = may_declare before t ≡ true
+
+-- a repository of these things takes what there is, if anything
+abbrev pub Takes : List Thing → Option Thing → Type 0
+Takes before None = Unit {0}
+Takes before (Some t) = MayDeclare before t

@@ -5,6 +5,7 @@ ghost use Rattle.idl_scopes.specs.Views.{table_of};
 ghost use Rattle.idl_types.specs.Contents.{things_of};
 ghost use Rattle.idl_types.specs.Views as types;
 ghost use Rattle.idl_names.specs.Views.{built_of, thing_of};
+ghost use Rattle.idl_reader.specs.Accepted.{Each, MayDeclare, Takes};
 ghost use Rattle.idl_reader.specs.Declared.{declared, declared_at, declared_from, listed};
 
 use crate::copies::constant_value;
@@ -50,16 +51,6 @@ fn declared_at(
     }
 }
 
-/// Declares one more thing. Where the repository would not take it, want of memory is told.
-fn declare(repository: &mut Repository, declaration: Declaration) -> Result<(), NoMemory>
-    ensures { OnOk result (things_of repository.new ≡ things_of repository.old ++ types.thing_of declaration ∷ []) }
-{
-    if !repository.accepts(&declaration)? {
-        return Err(NoMemory);
-    }
-    repository.declare(declaration)
-}
-
 /// Declares what the name at a place declares, if anything.
 fn declare_at(
     alloc: Global,
@@ -69,17 +60,19 @@ fn declare_at(
     at: usize,
     thing: &Thing,
 ) -> Result<(), NoMemory>
+    requires { Takes (things_of repository.old) (declared_at (table_of scopes.now) (map thing_of things.now) at (thing_of thing.now)) }
     ensures { OnOk result (things_of repository.new
         ≡ things_of repository.old ++ listed (declared_at (table_of scopes.now) (map thing_of things.now) at (thing_of thing.now))) }
 {
     match declared_at(alloc, scopes, things, at, thing)? {
-        Some(declaration) => declare(repository, declaration),
+        Some(declaration) => repository.declare(declaration),
         None => Ok(()),
     }
 }
 
 /// The repository of what things declare that stand by these places in scopes.
 fn repository_in(alloc: Global, scopes: &Scopes, things: &[Thing]) -> Result<Repository, NoMemory>
+    requires { Each MayDeclare [] (declared_from (table_of scopes.now) (map thing_of things.now) 0 (map thing_of things.now)) }
     ensures { IfOk result (λ r. things_of r ≡ declared_from (table_of scopes.now) (map thing_of things.now) 0 (map thing_of things.now)) }
 {
     let mut repository = Repository::new(alloc);
@@ -92,6 +85,7 @@ fn repository_in(alloc: Global, scopes: &Scopes, things: &[Thing]) -> Result<Rep
 /// The repository of what names declare. Work and memory grow with what is declared, inherited operations counted for each
 /// interface that has them.
 pub(crate) fn repository_of(alloc: Global, names: Names) -> Result<Repository, NoMemory>
+    requires { Each MayDeclare [] (declared (built_of names)) }
     ensures { IfOk result (λ r. things_of r ≡ declared (built_of names)) }
 {
     let (scopes, things) = names.into_parts();

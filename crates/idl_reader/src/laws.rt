@@ -1,5 +1,5 @@
 //! Laws on what texts declare. The bodies are empty: each contract is a law of the definitions.
-ghost use Rattle.idl_reader.specs.Accepted.{HasEarlierBases, HasInheritedFirst, HasLawfulTypes, HasLeavesLeft, HasNamesApart, HasOperationsApart, HasParamsApart, HasSmallTypes, IsNew, TextsGive};
+ghost use Rattle.idl_reader.specs.Accepted.{HasEarlierBases, HasInheritedFirst, HasLawfulTypes, HasLeavesLeft, HasNamesApart, HasOperationsApart, HasParamsApart, HasSmallTypes, IsNew, MayDeclare, TextsGive};
 
 /// Each thing that a text declares has an id that none before it has, case aside, and none is in the built-in module.
 pub fn texts_give_new_ids()
@@ -45,4 +45,9 @@ pub fn texts_inherit_first()
 /// With each thing that a text declares the file has at most 1,048,576 leaves.
 pub fn texts_leave_room()
     ensures { TextsGive HasLeavesLeft }
+{}
+
+/// A repository takes each thing that a text declares behind those before it: all of the above, and nothing else is asked.
+pub fn repositories_take_texts()
+    ensures { TextsGive MayDeclare }
 {}

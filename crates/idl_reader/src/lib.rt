@@ -12,9 +12,9 @@ mod laws;
 mod reader;
 
 pub use laws::{
-    texts_give_apart_names, texts_give_apart_operations, texts_give_apart_params,
-    texts_give_earlier_bases, texts_give_lawful_types, texts_give_new_ids, texts_give_small_types,
-    texts_inherit_first, texts_leave_room,
+    repositories_take_texts, texts_give_apart_names, texts_give_apart_operations,
+    texts_give_apart_params, texts_give_earlier_bases, texts_give_lawful_types, texts_give_new_ids,
+    texts_give_small_types, texts_inherit_first, texts_leave_room,
 };
 pub use reader::read_idl;
 

@@ -26,9 +26,8 @@ fn read_text(alloc: Global, text: &[u8]) -> Result<Repository, ReadError<IdlFaul
 }
 
 /// The repository of what a text of IDL of at most 1,048,576 bytes declares, or its first token at fault with its cause, its
-/// line and its column. At most 64 brackets may be open at once. Want of memory is told also where the repository would not
-/// take a declaration; the names of a text give none such, which is tested and not proved. One pass over the text and one
-/// over what it declares; each interface gets copies of all its operations.
+/// line and its column. At most 64 brackets may be open at once. One pass over the text and one over what it declares; each
+/// interface gets copies of all its operations.
 pub fn read_idl(alloc: Global, text: &[u8]) -> Result<Repository, ReadError<IdlFault>>
     requires { length text.now ≤ MAX_TEXT }
     // it is what reading by the grammar, label by label, gives
