@@ -13,7 +13,7 @@ use Rattle.idl_types.specs.Inherited.{inherits_in}
 use Rattle.idl_types.specs.Names.{operation_names}
 use Rattle.idl_types.specs.Sound.{is_sound_type, is_sound_result, is_sound_operation, is_sound_thing, is_reserved, ping_id, is_own, has_bases_in, counted_leaves, file_leaves, most_leaves, most_levels, most_file_leaves}
 use Rattle.idl_types.specs.Things.{OperationView, ParamView, Thing, constant, named, exception, interface, id_of}
-use Rattle.idl_reader.specs.Accepted.{Each, TextsGive, IsNew, HasEarlierBases, is_small, is_small_result, has_small_types, HasSmallTypes, has_params_apart, HasParamsApart, is_result_so, has_types_so, HasNamesApart, HasLawfulTypes, HasOperationsApart, HasInheritedFirst, HasLeavesLeft, MayDeclare, Takes}
+use Rattle.idl_reader.specs.Accepted.{Each, TextsGive, IsNew, HasEarlierBases, is_small, is_small_kind, HasSmallTypes, has_params_apart, HasParamsApart, is_result_so, has_types_so, HasNamesApart, HasLawfulTypes, HasOperationsApart, HasInheritedFirst, HasLeavesLeft, MayDeclare, Takes}
 use Rattle.idl_scopes.specs.Table.{Table}
 use Rattle.idl_names.specs.State as names
 use Rattle.idl_names.specs.Views.{thing_of}
@@ -35,7 +35,7 @@ sound_type k a b c =
     and_from (is_lawful k) (is_told_apart k && (nat_le (leaves_of k) most_leaves && nat_le (levels_of k) most_levels)) a
     (and_from (is_told_apart k) (nat_le (leaves_of k) most_leaves && nat_le (levels_of k) most_levels) b c)
 
-sound_result : (o : Option Kind) → is_result_so is_lawful o ≡ true → is_result_so is_told_apart o ≡ true → is_small_result o ≡ true → is_sound_result o ≡ true
+sound_result : (o : Option Kind) → is_result_so is_lawful o ≡ true → is_result_so is_told_apart o ≡ true → is_result_so is_small_kind o ≡ true → is_sound_result o ≡ true
 sound_result None a b c = refl
 sound_result (Some k) a b c = sound_type k a b c
 
@@ -48,17 +48,17 @@ sound_params (p ∷ ps) a b c =
     let z = and_parts (is_small (leaves_of p.kind) (levels_of p.kind)) (list_all (λ q. is_small (leaves_of q.kind) (levels_of q.kind)) ps) c in
     and_from (is_sound_type p.kind) (list_all (λ q. is_sound_type q.kind) ps) (sound_type p.kind x.0 y.0 z.0) (sound_params ps x.1 y.1 z.1)
 
-sound_operations : (os : List OperationView) → list_all (has_types_so is_lawful) os ≡ true → list_all (has_types_so is_told_apart) os ≡ true → list_all has_small_types os ≡ true → list_all has_params_apart os ≡ true
+sound_operations : (os : List OperationView) → list_all (has_types_so is_lawful) os ≡ true → list_all (has_types_so is_told_apart) os ≡ true → list_all (has_types_so is_small_kind) os ≡ true → list_all has_params_apart os ≡ true
     → list_all is_sound_operation os ≡ true
 sound_operations [] a b c d = refl
 sound_operations (o ∷ os) a b c d =
     let x = and_parts (has_types_so is_lawful o) (list_all (has_types_so is_lawful) os) a in
     let y = and_parts (has_types_so is_told_apart o) (list_all (has_types_so is_told_apart) os) b in
-    let z = and_parts (has_small_types o) (list_all has_small_types os) c in
+    let z = and_parts (has_types_so is_small_kind o) (list_all (has_types_so is_small_kind) os) c in
     let w = and_parts (has_params_apart o) (list_all has_params_apart os) d in
     let x' = and_parts (is_result_so is_lawful o.result) (list_all (λ p. is_lawful p.kind) o.params) x.0 in
     let y' = and_parts (is_result_so is_told_apart o.result) (list_all (λ p. is_told_apart p.kind) o.params) y.0 in
-    let z' = and_parts (is_small_result o.result) (list_all (λ p. is_small (leaves_of p.kind) (levels_of p.kind)) o.params) z.0 in
+    let z' = and_parts (is_result_so is_small_kind o.result) (list_all (λ p. is_small (leaves_of p.kind) (levels_of p.kind)) o.params) z.0 in
     and_from (is_sound_operation o) (list_all is_sound_operation os)
     (and_from (is_sound_result o.result) (list_all (λ p. is_sound_type p.kind) o.params && are_apart (map (λ p. p.name) o.params)) (sound_result o.result x'.0 y'.0 z'.0)
     (and_from (list_all (λ p. is_sound_type p.kind) o.params) (are_apart (map (λ p. p.name) o.params)) (sound_params o.params x'.1 y'.1 z'.1) w.0))

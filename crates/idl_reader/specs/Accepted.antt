@@ -30,35 +30,6 @@ IsNew before t = (is_new before t ≡ true) × (is_reserved (id_of t) ≡ false)
 abbrev pub HasEarlierBases : List Thing → Thing → Type 0
 HasEarlierBases before t = has_bases_in before t ≡ true
 
--- no more leaves and levels than a type may have
-abbrev pub is_small : ℕ → ℕ → Bool
-is_small leaves levels = nat_le leaves most_leaves && nat_le levels most_levels
-
--- a result, where there is one
-abbrev pub is_small_result : Option Kind → Bool
-is_small_result None = true
-is_small_result (Some k) = is_small (leaves_of k) (levels_of k)
-
--- the result and the parameters of an operation
-abbrev pub has_small_types : OperationView → Bool
-has_small_types o = is_small_result o.result && list_all (λ p. is_small (leaves_of p.kind) (levels_of p.kind)) o.params
-
--- the type of a constant, a named type and the types of operations have no more than they may, and so do the members of an
--- exception
-abbrev pub HasSmallTypes : List Thing → Thing → Type 0
-HasSmallTypes before (constant c) = is_small (leaves_of c.kind) (levels_of c.kind) ≡ true
-HasSmallTypes before (named t) = is_small (leaves_of t.kind) (levels_of t.kind) ≡ true
-HasSmallTypes before (exception e) = is_small (leaves_of_members (members_of e.members)) (levels_of_members (members_of e.members)) ≡ true
-HasSmallTypes before (interface i) = list_all has_small_types i.operations ≡ true
-
--- the parameters of an operation are told apart, case aside
-abbrev pub has_params_apart : OperationView → Bool
-has_params_apart o = are_apart (map (λ p. p.name) o.params)
-
--- so of each of its operations
-abbrev pub HasParamsApart : List Thing → Thing → Type 0
-HasParamsApart before t = list_all has_params_apart (operations_of t) ≡ true
-
 -- so of a result, where there is one
 abbrev pub is_result_so : (Kind → Bool) → Option Kind → Bool
 is_result_so so None = true
@@ -74,6 +45,29 @@ HasTypes so are_so before (constant c) = so c.kind ≡ true
 HasTypes so are_so before (named t) = so t.kind ≡ true
 HasTypes so are_so before (exception e) = are_so e.members ≡ true
 HasTypes so are_so before (interface i) = list_all (has_types_so so) i.operations ≡ true
+
+-- no more leaves and levels than a type may have
+abbrev pub is_small : ℕ → ℕ → Bool
+is_small leaves levels = nat_le leaves most_leaves && nat_le levels most_levels
+
+-- so of a type, and of the members of an exception
+abbrev pub is_small_kind : Kind → Bool
+is_small_kind k = is_small (leaves_of k) (levels_of k)
+
+abbrev pub are_small_members : List (Name × Kind) → Bool
+are_small_members ms = is_small (leaves_of_members (members_of ms)) (levels_of_members (members_of ms))
+
+-- each of its types has no more than it may
+abbrev pub HasSmallTypes : List Thing → Thing → Type 0
+HasSmallTypes = HasTypes is_small_kind are_small_members
+
+-- the parameters of an operation are told apart, case aside
+abbrev pub has_params_apart : OperationView → Bool
+has_params_apart o = are_apart (map (λ p. p.name) o.params)
+
+-- so of each of its operations
+abbrev pub HasParamsApart : List Thing → Thing → Type 0
+HasParamsApart before t = list_all has_params_apart (operations_of t) ≡ true
 
 -- the names in each of its types are told apart, case aside
 abbrev pub HasNamesApart : List Thing → Thing → Type 0
