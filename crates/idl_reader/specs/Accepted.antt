@@ -50,14 +50,15 @@ HasTypes so are_so before (interface i) = list_all (has_types_so so) i.operation
 abbrev pub is_small : ℕ → ℕ → Bool
 is_small leaves levels = nat_le leaves most_leaves && nat_le levels most_levels
 
--- so of a type, and of the members of an exception
+-- a type has no more than it may
 abbrev pub is_small_kind : Kind → Bool
 is_small_kind k = is_small (leaves_of k) (levels_of k)
 
+-- and the members of an exception have no more
 abbrev pub are_small_members : List (Name × Kind) → Bool
 are_small_members ms = is_small (leaves_of_members (members_of ms)) (levels_of_members (members_of ms))
 
--- each of its types has no more than it may
+-- each of its types is so small
 abbrev pub HasSmallTypes : List Thing → Thing → Type 0
 HasSmallTypes = HasTypes is_small_kind are_small_members
 
