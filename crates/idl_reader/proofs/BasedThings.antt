@@ -21,8 +21,9 @@ use Rattle.idl_reader.proofs.Ids.{InOrder, same_id}
 use Rattle.idl_reader.proofs.Tables.{in_order, get_behind}
 use Rattle.idl_reader.proofs.ThingLists.{get_before, get_last}
 use Rattle.idl_reader.proofs.NewIds.{id_declared}
+use Rattle.idl_reader.proofs.KeptOperations.{based_text}
 use Rattle.idl_reader.proofs.Standing.{orderly_text}
-use Rattle.idl_reader.proofs.EarlierBases.{AreBases, AreEarlier, AreBased, IsBase, based_text}
+use Rattle.idl_reader.proofs.EarlierBases.{AreBases, AreEarlier, AreBased, IsBase}
 
 module _ (table : Table) (o : InOrder table) (all : List Thing) (based : AreBased all) (paired : length all ≡ length table.declared) where
   -- what the name at a place declares

@@ -2,7 +2,7 @@
 use Rattle.std.proofs.Common.{◌≡◌, inl, inr, ℕ, ◌+◌, ◌-◌, ◌<◌, ◌≤◌, arith, Bool, true, false, List, [], ◌∷◌, ◌++◌, length, set, Option, Some, None, Ok, refl, sym, ap, subst, ◌∙◌}
 use Rattle.std.specs.Prelude.{slice_get, ◌==◌}
 use Rattle.std.specs.List.{list_any}
-use Rattle.std.proofs.lemmas.Bool.{cond_both}
+use Rattle.std.proofs.lemmas.Bool.{cases_eq, cond_both}
 use Rattle.std.proofs.lemmas.Option.{none-some, same_Some}
 use Rattle.grammar.specs.Language.{Placed}
 use Rattle.grammar.proofs.Basics.{ok_is}
@@ -17,18 +17,25 @@ use Rattle.idl_names.specs.Sizes.{Sized, most, plus, leaf}
 use Rattle.idl_names.specs.State.{Thing, nothing, interface, type, exception, constant, enumerator, operations, Parts, Built, nothing_built}
 use Rattle.idl_names.specs.Changes.{Done, leave, newest, opened, thing_in, place_at}
 use Rattle.idl_names.specs.Bodies as bodies
-use Rattle.idl_names.specs.Interfaces.{operations_in, operations_from, inherited, leaves_from, operation_leaves, attribute_of}
+use Rattle.idl_names.specs.Interfaces.{operations_in, operations_from, inherited, leaves_from, operation_leaves, attribute_of, and_operation}
 use Rattle.idl_names.specs.Labels.{act, judge}
 use Rattle.idl_names.specs.Whole.{Declares}
-use Rattle.idl_reader.proofs.ThingLists.{get_last, set_there}
+use Rattle.idl_reader.proofs.ThingLists.{get_last, set_elsewhere, set_there}
 use Rattle.idl_reader.proofs.QuietLabels.{Counts, same_leaves, Same, itself, counted_counts, quiet_act, quiet_judge}
 use Rattle.idl_reader.proofs.Shapes.{gained, declare_adds, open_opens, enumerate_adds, param_adds, typedef_sets, member_sets, case_member_sets, end_const_sets, type_ends, exception_ends, attribute_adds, operation_ends, interface_opens, base_adds, module_opens}
 use Rattle.idl_reader.proofs.Places.{Spot, outside, heading, based, named, inside, part, goes, goes_alone}
-use Rattle.idl_reader.proofs.Standing.{Stands, standing_keeps}
-use Rattle.idl_reader.proofs.EarlierBases.{gained_nothing, newest_there}
+use Rattle.idl_reader.proofs.Standing.{Stands, standing_keeps, newest_there}
 use Rattle.idl_reader.proofs.SizedTypes.{AtMost}
 use Rattle.idl_reader.proofs.Measured.{IsMeasuredThing, IsMeasured, measured_at, measured_alone, attribute_measured, nothing_measured}
 use Rattle.idl_reader.proofs.FileLeaves.{own_leaves, held_leaves, declared_leaves, all_leaves, IsHeld, AreHeld, HasHeld, AllHeld, HeldSame, are_held_same, are_held_more, held_leaves_same, all_same, all_held_same, all_set, all_held_set, held_in, nothing_free, set_same, leaves_added, held_added, leaves_set, held_set, gained_same, leaves_gained, held_gained}
+
+-- what stands for nothing goes on to, where an interface has one operation more
+gained_nothing : (ts : List Thing) (n at i : ℕ) → slice_get ts i ≡ Some nothing → slice_get (gained n at ts) i ≡ Some nothing
+gained_nothing ts n at i e = elim (cases_eq n i) [
+  | inl p ↦ subst (λ (k : ℕ). slice_get (gained k at ts) i ≡ Some nothing) (sym p)
+      (ap (λ (o : Option Thing). slice_get (set ts i (and_operation at (thing_in o))) i) e ∙ set_there ts i nothing nothing e)
+  | inr p ↦ set_elsewhere ts n i _ p ∙ e
+]
 
 -- what an interface inherits are operations
 and_new_held : (ts : List Thing) (is : List ℕ) (i : ℕ) → AreHeld ts is → IsHeld ts i → AreHeld ts (and_new is i)
@@ -296,7 +303,7 @@ counted_at l.Interface outside n e t s c w h a k =
 counted_at l.Interface m n e t s c w h a k = absurd (none-some n e)
 counted_at l.OpenInterface based n e t s c w h a k =
     let d = interface_opens s c a in
-    subst (λ (z : Spot). CountedAt z c) (same_Some outside n e) (interface_counted (newest s) s c d.things d.counts (newest_there s w.0 w.1.there) k h)
+    subst (λ (z : Spot). CountedAt z c) (same_Some outside n e) (interface_counted (newest s) s c d.things d.counts (newest_there s w.0 w.1) k h)
 counted_at l.OpenInterface m n e t s c w h a k = absurd (none-some n e)
 counted_at l.Declare outside n e t s c w h a k =
     let d = declare_adds t s c a in
@@ -359,22 +366,22 @@ counted_alone l.Inherit heading n e s c w h a k =
 counted_alone l.Inherit m n e s c w h a k = absurd (none-some n e)
 counted_alone l.Typedef named n e s c w h a k =
     let d = typedef_sets s c a in
-    subst (λ (z : Spot). CountedAt z c) (same_Some outside n e) (type_counted (newest s) s c (bodies.declared_type s) d.things d.counts (newest_there s w.0 w.1.there) k h)
+    subst (λ (z : Spot). CountedAt z c) (same_Some outside n e) (type_counted (newest s) s c (bodies.declared_type s) d.things d.counts (newest_there s w.0 w.1) k h)
 counted_alone l.Typedef m n e s c w h a k = absurd (none-some n e)
 counted_alone l.Member part n e s c w h a k =
     let d = member_sets s c a in
     subst (λ (z : Spot). CountedAt z c) (same_Some inside n e)
-    (counted_set 0 (newest s) s c nothing d.things d.counts (newest_there s w.0.0 w.1.0.there) tt (λ q. omega arith) k h)
+    (counted_set 0 (newest s) s c nothing d.things d.counts (newest_there s w.0.0 w.1.0) tt (λ q. omega arith) k h)
 counted_alone l.Member m n e s c w h a k = absurd (none-some n e)
 counted_alone l.CaseMember part n e s c w h a k =
     let d = case_member_sets s c a in
     subst (λ (z : Spot). CountedAt z c) (same_Some inside n e)
-    (counted_set 0 (newest s) s c nothing d.things d.counts (newest_there s w.0.0 w.1.0.there) tt (λ q. omega arith) k h)
+    (counted_set 0 (newest s) s c nothing d.things d.counts (newest_there s w.0.0 w.1.0) tt (λ q. omega arith) k h)
 counted_alone l.CaseMember m n e s c w h a k = absurd (none-some n e)
 counted_alone l.EndConst named n e s c w h a k =
     let d = end_const_sets s c a in
     subst (λ (z : Spot). CountedAt z c) (same_Some outside n e)
-    (counted_set 1 (newest s) s c (constant d.kind d.value) d.sets.things d.sets.counts (newest_there s w.0 w.1.there) tt (λ q. omega arith) k h)
+    (counted_set 1 (newest s) s c (constant d.kind d.value) d.sets.things d.sets.counts (newest_there s w.0 w.1) tt (λ q. omega arith) k h)
 counted_alone l.EndConst m n e s c w h a k = absurd (none-some n e)
 counted_alone l.EndOperation inside n e s c w h a k =
     let d = operation_ends s c a in

@@ -24,11 +24,11 @@ use Rattle.idl_names.specs.Interfaces.{operations_in, operations_from}
 use Rattle.idl_reader.specs.Declared.{ids_at, declared_at, declared_from}
 use Rattle.idl_reader.specs.Accepted.{Each, TextsGive, HasOperationsApart, HasInheritedFirst}
 use Rattle.idl_reader.proofs.BasedThings.{AreFrom, base_named, each_from}
-use Rattle.idl_reader.proofs.EarlierBases.{IsBase, AreBases, AreEarlier, AreBased, based_text}
+use Rattle.idl_reader.proofs.EarlierBases.{IsBase, AreBases, AreEarlier, AreBased}
 use Rattle.idl_reader.proofs.FirstNames.{IsAmong}
 use Rattle.idl_reader.proofs.HeldOperations.{IsHeld, IsInterface, AreInterfaces}
 use Rattle.idl_reader.proofs.Ids.{InOrder}
-use Rattle.idl_reader.proofs.KeptOperations.{interfaces_text}
+use Rattle.idl_reader.proofs.KeptOperations.{interfaces_text, based_text}
 use Rattle.idl_reader.proofs.OperationNames.{IsIn, with_all, with_front, with_each, distinct_differ, all_names, names_both, among_left, each_left, among_held, all_distinct, names_each}
 use Rattle.idl_reader.proofs.Standing.{orderly_text}
 use Rattle.idl_reader.proofs.Tables.{known_in, AreInOrder, in_order}

@@ -38,7 +38,7 @@ use Rattle.idl_names.specs.Labels.{act, judge}
 use Rattle.idl_names.specs.Whole.{Declares}
 use Rattle.idl_reader.proofs.ApartBodies.{Body, NamesAt, names_at, names_alone}
 use Rattle.idl_reader.proofs.DeclaredNames.{declared_is, known_scope, scope_by_known, outer_added, outer_finished}
-use Rattle.idl_reader.proofs.EarlierBases.{IsBase}
+use Rattle.idl_reader.proofs.EarlierBases.{IsBase, AreBased}
 use Rattle.idl_reader.proofs.FirstNames.{IsAmong, AreRead, first_known, placed}
 use Rattle.idl_reader.proofs.HeldOperations.{AreNamesOf, IsHeld, AreHeld, IsScopeOf, AreScopes, IsInterface, AreInterfaces, IsModuleAt, is_container, IsClear, IsOpenAt, AreMerged, none_merged, module_kept, keeps_added, keeps_set, sort_old, sort_new, scope_new, sort_there, sort_elsewhere, among_scope, interfaces_added, interfaces_set, interfaces_opened, interfaces_gained}
 use Rattle.idl_reader.proofs.HeldSpots.{HeldSpot, IsNameText, holds_at, holds_alone, held_text}
@@ -49,7 +49,7 @@ use Rattle.idl_reader.proofs.NameTokens.{begins_low}
 use Rattle.idl_reader.proofs.Places.{Spot, outside, heading, based, named, inside, part, goes, goes_alone}
 use Rattle.idl_reader.proofs.QuietLabels.{Same, itself, leaves_then, leaves_unless, leaves_counted, leaves_measured, leaves_fitting, quiet_act, quiet_judge}
 use Rattle.idl_reader.proofs.Shapes.{gained, newest_same, opened_same}
-use Rattle.idl_reader.proofs.Standing.{Stands, IsFresh, IsOpened, stands_same, stands_at, stands_alone, nothing_orderly}
+use Rattle.idl_reader.proofs.Standing.{Stands, IsFresh, IsOpened, stands_same, stands_at, stands_alone, nothing_orderly, newest_there}
 use Rattle.idl_reader.proofs.Steps.{Gives, gives_ok, gives_then}
 use Rattle.idl_reader.proofs.Tables.{known, known_in, key_of, AreInOrder, in_order, any_there, get_behind, same_known, known_added}
 use Rattle.idl_reader.proofs.ThingLists.{get_before, get_last, set_elsewhere, set_there, get_set}
@@ -347,9 +347,6 @@ exception_closes s =
     (λ x h. gives_ok (Closes s) (ended table.other (exception s.parts.members) x) (close_ended (exception s.parts.members) s x refl h))
 
 -- what is known at a spot: the scopes in order, and the operations of interfaces
-newest_thing : (s : Built) → IsOrderly s → IsFresh s → slice_get s.things (newest s) ≡ Some nothing
-newest_thing s o f = ap (λ (n : ℕ). slice_get s.things (n - 1)) (sym o.paired) ∙ f.there
-
 newest_within : (s : Built) → IsOrderly s → IsFresh s → newest s < length s.scopes.declared
 newest_within s o f = let p = o.paired in let q = f.some in omega arith
 
@@ -358,7 +355,7 @@ opened_within s o f = let p = o.paired in let q = slice_get_within s.things (ope
 
 named_finished : (b : Bool) (s c : Built) → Stands named s → Held named b s → Finishes (newest s) s c → Held outside b c
 named_finished b s c w h f =
-    let there = newest_thing s w.0 w.1 in
+    let there = newest_there s w.0 w.1 in
     let less = newest_within s w.0 w.1 in
     let un = h.scopes.1.all.0 in
     let i = newest s in
@@ -372,7 +369,7 @@ named_finished b s c w h f =
 
 part_finished : (b : Bool) (s c : Built) → Stands part s → Held part b s → Finishes (newest s) s c → Held inside b c
 part_finished b s c w h f =
-    let there = newest_thing s w.0.0 w.1.0 in
+    let there = newest_there s w.0.0 w.1.0 in
     let less = newest_within s w.0.0 w.1.0 in
     let un = h.scopes.1.all.0 in
     let i = newest s in
@@ -583,7 +580,7 @@ interface_opened s c w h e =
     let sort = table.interface s.parts.given in
     let os = interfaces.inherited s in
     let x = interface s.parts.bases os in
-    let there = newest_thing s w.0 w.1 in
+    let there = newest_there s w.0 w.1 in
     let less = newest_within s w.0 w.1 in
     let un = h.scopes.0.1.all.0 in
     let u = finished s.scopes i sort in
@@ -654,7 +651,7 @@ base_read s c w h e =
     let is = interface_is (names.meaning s) (not-false (is_interface (names.meaning s)) u.0) in
     let there = some_thing s.things b (slice_get s.things b) is.0 is.1 refl is.2 in
     let less = slice_get_within s.things b (interface is.0 is.1) there in
-    let fresh = newest_thing s w.0 w.1 in
+    let fresh = newest_there s w.0 w.1 in
     let apart : b ≡ newest s → ⊥ = λ p. no_interface nothing is.0 is.1 refl (same_Some nothing _ (sym fresh ∙ ap (λ (j : ℕ). slice_get s.things j) (sym p) ∙ there)) in
     let paired = w.0.paired in
     let before : b < newest s = elim (cases_eq b (newest s)) [ inl p ↦ absurd (apart p) | inr p ↦ omega arith ] in
@@ -909,3 +906,7 @@ interfaces_text text new w =
     (λ label m n b d e f t p s c h a. ((stands_at label m n e t (λ q. (p q).0) s c h.0.0 a, names_at label m n e t s c h.0.0 h.0.1 a), held_at label m n b d e f t p s c h.0.0 h.0.1 h.1 a))
     (λ label m n b d e f s c h a. ((stands_alone label m n e s c h.0.0 a, names_alone label m n e s c h.0.0 h.0.1 a), held_alone label m n b d e f s c h.0.0 h.1 a))
     ((nothing_orderly, refl), nothing_held) text new w).1.interfaces
+
+-- and their bases
+pub based_text : (text : List ℕ) (new : Built) → Declares text new → AreBased new.things
+based_text text new w i bases os e = let d = (interfaces_text text new w).each i bases os e in (d.stand, d.earlier)

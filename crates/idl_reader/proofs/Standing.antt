@@ -47,6 +47,10 @@ in_order_at named s h = h.0
 in_order_at inside s h = h.0
 in_order_at part s h = h.0.0
 
+-- so the newest name stands for nothing
+pub newest_there : (s : Built) → IsOrderly s → IsFresh s → slice_get s.things (newest s) ≡ Some nothing
+newest_there s o f = ap (λ (n : ℕ). slice_get s.things (n - 1)) (sym o.paired) ∙ f.there
+
 fresh_same : (s c : Built) → s.things ≡ c.things → IsFresh s → IsFresh c
 fresh_same s c e h = record {
   some = subst (λ (ts : List Thing). 0 < length ts) e h.some;
