@@ -45,7 +45,7 @@ use Rattle.idl_names.specs.Interfaces as interfaces
 use Rattle.idl_names.specs.Labels.{act, judge}
 use Rattle.idl_names.specs.Declaring.{idl}
 use Rattle.idl_names.specs.Whole.{Declares}
-use Rattle.idl_reader.proofs.Marks.{EachToken}
+use Rattle.idl_reader.proofs.EachToken.{EachToken}
 use Rattle.idl_reader.proofs.NameTokens.{IsPlainName, plain_names}
 use Rattle.idl_reader.proofs.Modes.{Modes, after, rule_leads, inner_leads}
 use Rattle.idl_reader.proofs.Steps.{Gives, gives_ok, gives_err, gives_then, gives_unless}

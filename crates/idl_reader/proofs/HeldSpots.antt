@@ -19,7 +19,7 @@ use Rattle.idl_names.specs.Declaring.{idl}
 use Rattle.idl_names.specs.Whole.{Declares}
 use Rattle.idl_reader.proofs.CutNames.{has_slash}
 use Rattle.idl_reader.proofs.KeptLabels.{declares}
-use Rattle.idl_reader.proofs.Marks.{EachToken}
+use Rattle.idl_reader.proofs.EachToken.{EachToken}
 use Rattle.idl_reader.proofs.Modes.{Modes, after, rule_leads, inner_leads}
 use Rattle.idl_reader.proofs.NameTokens.{begins_low, is_name, IsPlainName, plain_names}
 use Rattle.idl_reader.proofs.Places.{Spot, outside, heading, based, named, inside, part, same_spot, spot_is, goes, goes_alone, goes_within}

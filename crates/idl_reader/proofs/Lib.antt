@@ -1,7 +1,7 @@
 pub mod OneMore
 pub mod WholeThings
 pub mod CutNames
-pub mod Marks
+pub mod EachToken
 pub mod Triples
 pub mod NameTokens
 pub mod Ids

@@ -15,7 +15,7 @@ use Rattle.idl_tokens.specs.Words.{Table, mark_at, idl_marks}
 use Rattle.idl_tokens.specs.Lexing.{byte_at, named, underscored, numbered, quoted, character, comment, slashed, lex}
 use Rattle.idl_tokens.specs.Cutting.{cut, text_tokens, line_after, column_after}
 use Rattle.idl_reader.proofs.CutNames.{is_slash, has_slash}
-use Rattle.idl_reader.proofs.Marks.{EachToken}
+use Rattle.idl_reader.proofs.EachToken.{EachToken}
 
 -- a kind of tokens is that of names
 abbrev pub is_name : Kind → Bool

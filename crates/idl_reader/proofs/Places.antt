@@ -16,7 +16,7 @@ use Rattle.idl_names.specs.State.{Built, nothing_built}
 use Rattle.idl_names.specs.Labels.{act, judge}
 use Rattle.idl_names.specs.Declaring.{idl}
 use Rattle.idl_names.specs.Whole.{Declares}
-use Rattle.idl_reader.proofs.Marks.{EachToken}
+use Rattle.idl_reader.proofs.EachToken.{EachToken}
 use Rattle.idl_reader.proofs.CutNames.{has_slash}
 use Rattle.idl_reader.proofs.Triples.{LeadsAt}
 use Rattle.idl_reader.proofs.NameTokens.{is_name, IsPlainName, plain_names}

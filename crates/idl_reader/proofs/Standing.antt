@@ -39,14 +39,6 @@ Stands named s = IsOrderly s × IsFresh s
 Stands inside s = IsOrderly s × IsOpened s
 Stands part s = (IsOrderly s × IsOpened s) × (IsFresh s × (s.here < length s.things))
 
-pub in_order_at : (m : Spot) (s : Built) → Stands m s → IsOrderly s
-in_order_at outside s h = h
-in_order_at heading s h = h.0
-in_order_at based s h = h.0
-in_order_at named s h = h.0
-in_order_at inside s h = h.0
-in_order_at part s h = h.0.0
-
 -- so the newest name stands for nothing
 pub newest_there : (s : Built) → IsOrderly s → IsFresh s → slice_get s.things (newest s) ≡ Some nothing
 newest_there s o f = ap (λ (n : ℕ). slice_get s.things (n - 1)) (sym o.paired) ∙ f.there

@@ -4,7 +4,7 @@ use Rattle.grammar.specs.Rules.{one, does, ◌then◌, ◌or◌, maybe, many, ch
 use Rattle.grammar.specs.Language.{Placed, Language, RuleOf}
 use Rattle.grammar.specs.Grammar.{took, did, MarkOf, Parts, Spelled, tokens_of, acts}
 use Rattle.grammar.proofs.Basics.{ok_is, tokens_append, acts_one, acts_split}
-use Rattle.idl_reader.proofs.Marks.{Allowed, AreAllowed, are_allowed, spelled_allowed, EachToken, kept_along}
+use Rattle.idl_reader.proofs.EachToken.{EachToken}
 
 pub each_first : {K : Type 0} (T : Placed K → Type 0) (x y : List (Placed K)) → EachToken T (x ++ y) → EachToken T x
 each_first T [] y h = tt
@@ -85,11 +85,3 @@ module _ (g : Language) (T : Placed g.Kind → Type 0) where
         i s.2 s.5 (such_second s.1 (took l s.2 ∷ []) us.1).0 last.0 c
         (h s.1 s.4 (such_first s.1 (took l s.2 ∷ []) us.1) first.0 last.0 (f s.0 s.3 us.0 b first.0 p (sym (acts_one g (g.act o s.0 b)) ∙ first.1)) last.1)
         (sym (acts_one g (g.act l s.2 last.0)) ∙ last.2)
-
-    -- what each mark keeps that may stand in a rule is kept along the rule
-    pub allowed_leads : (same_is : (a b : g.Kind) → g.same a b ≡ true → a ≡ b) (ok : Allowed g) (P : g.Built → Type 0)
-        → ((r : g.Inner) → ok.within r ≡ true → (ms : List (MarkOf g)) → inner r ms → AreAllowed g ok ms)
-        → ((l : g.Label) (t : Placed g.Kind) (b c : g.Built) → ok.at t.kind l ≡ true → T t → P b → g.act l t b ≡ Ok c → P c)
-        → ((l : g.Label) (b c : g.Built) → ok.alone l ≡ true → P b → g.judge l b ≡ Ok c → P c)
-        → (r : RuleOf g) → are_allowed g ok r ≡ true → Leads g T P (Spelled g inner r) P
-    allowed_leads same_is ok P inside f h r a ms s ts b c p e = kept_along g ok T P f h ms (spelled_allowed g same_is ok inner inside r a ms s) ts b c p e
