@@ -1,0 +1,3 @@
+pub mod ZeroParts
+pub mod Eighths
+pub mod Beginnings

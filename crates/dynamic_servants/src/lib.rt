@@ -1,0 +1,6 @@
+//! Servants whose methods are scripts: what they answer to requests (own profile).
+#![tactic(auto)]
+
+mod arguments;
+mod body;
+mod zeros;
