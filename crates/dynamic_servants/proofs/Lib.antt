@@ -1,3 +1,4 @@
 pub mod ZeroParts
 pub mod Eighths
 pub mod Beginnings
+pub mod Ancestors

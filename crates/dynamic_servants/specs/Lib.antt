@@ -1,3 +1,4 @@
 pub mod Zeros
 pub mod Arguments
 pub mod Beginning
+pub mod Kin

@@ -3,4 +3,5 @@
 
 mod arguments;
 mod body;
+mod kin;
 mod zeros;

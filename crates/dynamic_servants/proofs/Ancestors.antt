@@ -1,0 +1,118 @@
+-- The test of kin tells what bases lead to, since they stand before what is derived from them.
+use Rattle.std.proofs.Common.{◌≡◌, ℕ, ◌<◌, ◌≤◌, suc, zero, Bool, true, false, ◌&&◌, ◌||◌, List, [], ◌∷◌, length, Option, Some, None, ◌↔◌, inl, inr, refl, sym, ap, ◌∙◌, subst, arith}
+use Rattle.std.specs.Prelude.{◌==◌, slice_get, IsTrue}
+use Rattle.std.specs.Option.{option_map_or, option_and_then}
+use Rattle.std.specs.List.{list_any}
+use Rattle.std.specs.Str.{bytes_eq}
+use Rattle.std.proofs.lemmas.Bool.{and_parts, and_from, or_cases, or_left, or_right, eqb-true, both_ways}
+use Rattle.std.proofs.lemmas.Option.{same_Some, slice_get_within}
+use Rattle.std.proofs.lemmas.Slice.Eq.{bytes_eq-Decides}
+use Rattle.idl_types.specs.Things.{Thing, constant, named, exception, interface, id_of, bases_of}
+use Rattle.idl_types.specs.Finding.{has_id, place_named, thing_named, as_interface, is_interface, bases_named, object_id, Descends, IsA}
+use Rattle.idl_types.specs.Sound.{are_based}
+use Rattle.idl_types.specs.Bases.{is_place, bases_at, is_base_at}
+use Rattle.idl_types.specs.Walk.{Trail, Reached}
+use Rattle.idl_types.proofs.Places.{at_place, found_at, any_among, any_more}
+use Rattle.idl_types.proofs.Descent.{has_place, lower, descends_by_places, no_descent}
+use Rattle.dynamic_servants.specs.Kin.{leads_within, is_one_of}
+
+same_name : (a b : List ℕ) → bytes_eq a b ≡ true → a ≡ b
+same_name a b e = (bytes_eq-Decides a b).0 e
+
+own_name : (a : List ℕ) → bytes_eq a a ≡ true
+own_name a = (bytes_eq-Decides a a).1 refl
+
+-- ---- what the test finds is there
+
+leads_there : (n : ℕ) (ts : List Thing) (id other : List ℕ) → leads_within n ts id other ≡ true → Descends ts id other
+leads_there zero ts id other e = record { path = []; leads = same_name id other e }
+leads_there (suc n) ts id other e =
+    elim (or_cases (bytes_eq id other) (list_any (λ next. leads_within n ts next other) (bases_named ts id)) e) [
+      | inl h ↦ record { path = []; leads = same_name id other h }
+      | inr h ↦
+          let b = any_among bytes_eq (λ next. leads_within n ts next other) own_name (bases_named ts id) h in
+          let d = leads_there n ts b.0 other b.1 in
+          record { path = b.0 ∷ d.path; leads = (b.2, d.leads) }
+    ]
+
+-- ---- what is there is found
+
+bases_seen : (o : Option Thing) → option_map_or (λ i. i.bases) (option_and_then as_interface o) [] ≡ option_map_or bases_of o []
+bases_seen None = refl
+bases_seen (Some (constant c)) = refl
+bases_seen (Some (named t)) = refl
+bases_seen (Some (exception e)) = refl
+bases_seen (Some (interface i)) = refl
+
+bases_placed : (ts : List Thing) (id : List ℕ) (i : ℕ) → place_named ts id ≡ Some i → bases_named ts id ≡ bases_at ts i
+bases_placed ts id i e = bases_seen (thing_named ts id) ∙ ap (λ (o : Option Thing). option_map_or bases_of o []) (found_at (has_id id) ts i e)
+
+asked_place : (ts : List Thing) (k : ℕ) (id : List ℕ) → is_place ts k id ≡ true → place_named ts id ≡ Some k
+asked_place ts k id e = on (place_named ts id) refl
+  where
+    on : (o : Option ℕ) → place_named ts id ≡ o → place_named ts id ≡ Some k
+    on None is = absurd (both_ways false refl (sym (ap (λ (x : Option ℕ). option_map_or (λ i. i == k) x false) is) ∙ e))
+    on (Some i) is = is ∙ ap Some (eqb-true i k (sym (ap (λ (x : Option ℕ). option_map_or (λ j. j == k) x false) is) ∙ e))
+
+-- one place has one id
+one_id : (ts : List Thing) (id other : List ℕ) (a : ℕ) → place_named ts id ≡ Some a → place_named ts other ≡ Some a → id ≡ other
+one_id ts id other a at to =
+    let x = at_place (has_id id) ts a at in
+    let y = at_place (has_id other) ts a to in
+    let same : x.0 ≡ y.0 = same_Some x.0 y.0 (sym x.1 ∙ y.1) in
+    same_name id (id_of x.0) x.2 ∙ ap id_of same ∙ sym (same_name other (id_of y.0) y.2)
+
+here_found : (n : ℕ) (ts : List Thing) (id other : List ℕ) → id ≡ other → leads_within n ts id other ≡ true
+here_found zero ts id other e = ap (bytes_eq id) (sym e) ∙ own_name id
+here_found (suc n) ts id other e = or_left (bytes_eq id other) _ (ap (bytes_eq id) (sym e) ∙ own_name id)
+
+trail_found : (ts : List Thing) (based : are_based [] ts ≡ true) (xs : List ℕ) (n : ℕ) (id other : List ℕ) (a b : ℕ) → place_named ts id ≡ Some a
+    → place_named ts other ≡ Some b → a ≤ n → Trail (is_base_at ts) a xs b → leads_within n ts id other ≡ true
+trail_found ts based [] n id other a b at to le t = here_found n ts id other (one_id ts id other a at (to ∙ ap Some (sym t)))
+trail_found ts based (k ∷ ks) zero id other a b at to le t = let lt = lower ts based a k t.0 in absurd (omega arith)
+trail_found ts based (k ∷ ks) (suc n) id other a b at to le t =
+    let lt = lower ts based a k t.0 in
+    let on : (next : List ℕ) → is_place ts k next ≡ true → leads_within n ts next other ≡ true =
+    λ next is. trail_found ts based ks n next other k b (asked_place ts k next is) to (omega arith) t.1 in
+    or_right (bytes_eq id other) (list_any (λ next. leads_within n ts next other) (bases_named ts id))
+    (ap (λ (bs : List (List ℕ)). list_any (λ next. leads_within n ts next other) bs) (bases_placed ts id a at)
+    ∙ any_more (is_place ts k) (λ next. leads_within n ts next other) (bases_at ts a) on t.0)
+
+descent_found : (ts : List Thing) (based : are_based [] ts ≡ true) (id other : List ℕ) (a : ℕ) → place_named ts id ≡ Some a → Descends ts id other
+    → leads_within (length ts) ts id other ≡ true
+descent_found ts based id other a at d = on (place_named ts other) refl
+  where
+    on : (o : Option ℕ) → place_named ts other ≡ o → leads_within (length ts) ts id other ≡ true
+    on None e = absurd (no_descent ts based id other a at e d)
+    on (Some b) e =
+        let r = (descends_by_places ts based id other a b at e).1 d in
+        let x = at_place (has_id id) ts a at in
+        let w = slice_get_within ts a x.0 x.1 in
+        trail_found ts based r.path (length ts) id other a b at e (omega arith) r.trail
+
+-- ---- the whole test
+
+tested : (ts : List Thing) (id other : List ℕ) → is_one_of ts id other ≡ true → IsA ts id other
+tested ts id other e =
+    let h = and_parts (is_interface ts id) (bytes_eq other object_id || leads_within (length ts) ts id other) e in
+    elim (or_cases (bytes_eq other object_id) (leads_within (length ts) ts id other) h.1) [
+      | inl o ↦ record { declared = h.0; kin = inl (same_name other object_id o) }
+      | inr l ↦ record { declared = h.0; kin = inr (leads_there (length ts) ts id other l) }
+    ]
+
+passes : (ts : List Thing) (based : are_based [] ts ≡ true) (id other : List ℕ) → IsA ts id other → is_one_of ts id other ≡ true
+passes ts based id other a =
+    let p = has_place ts id a.declared in
+    and_from (is_interface ts id) (bytes_eq other object_id || leads_within (length ts) ts id other) a.declared
+    (elim a.kin [
+      | inl o ↦ or_left (bytes_eq other object_id) _ (ap (bytes_eq other) (sym o) ∙ own_name other)
+      | inr d ↦ or_right (bytes_eq other object_id) (leads_within (length ts) ts id other) (descent_found ts based id other p.0 p.1 d)
+    ])
+
+alike : (a b : Bool) → (a ≡ true → b ≡ true) → (b ≡ true → a ≡ true) → a ≡ b
+alike true b h k = sym (h refl)
+alike false true h k = k refl
+alike false false h k = refl
+
+pub told_kin : (ts : List Thing) (based : are_based [] ts ≡ true) (id other : List ℕ) (b : Bool) → IsTrue b ↔ IsA ts id other → b ≡ is_one_of ts id other
+told_kin ts based id other b both = alike b (is_one_of ts id other) (λ e. passes ts based id other (both.0 e)) (λ e. both.1 (tested ts id other e))
