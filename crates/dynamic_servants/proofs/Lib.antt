@@ -2,3 +2,4 @@ pub mod ZeroParts
 pub mod Eighths
 pub mod Beginnings
 pub mod Ancestors
+pub mod Spellings

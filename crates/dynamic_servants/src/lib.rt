@@ -4,4 +4,5 @@
 mod arguments;
 mod body;
 mod kin;
+mod spelling;
 mod zeros;
