@@ -4,8 +4,9 @@ use Rattle.std.specs.Prelude.{is_some, is_none, IsTrue, nat_lt}
 use Rattle.std.proofs.lemmas.Bool.{lt-ltb, le-ltb}
 use Rattle.std.proofs.lemmas.List.{append-nil}
 use Rattle.orb_base.specs.NulFree.{nul_at, HasNoNul}
+use Rattle.orb_base.specs.declared.order.Order.{Order}
 use Rattle.cdr_core.specs.Field.{Field, string_fields}
-use Rattle.cdr_core.specs.Writing.{Page, written}
+use Rattle.cdr_core.specs.Writing.{Page, page, written}
 use Rattle.cdr_core.proofs.CallerLemmas.{written_none, written_both}
 use Rattle.cdr_values.specs.Trees.{Kind, words, Value, text, values_of, list_of}
 use Rattle.cdr_values.specs.Spelling.{fields_of, both, behind, is_text, is_above}
@@ -19,7 +20,7 @@ use Rattle.script_values.specs.Operations.{member_at}
 use Rattle.script_values.specs.declared.limit.Stop.{Stop}
 use Rattle.script_values.specs.declared.limit.Stop.TheVariants as stop
 use Rattle.script_values.specs.declared.limit.Limit.TheVariants.{Misfit}
-use Rattle.dynamic_servants.specs.Replies.{Typed, all_fields, out_of, outs_from, members_from}
+use Rattle.dynamic_servants.specs.Replies.{Typed, all_fields, out_of, outs_from, members_from, spelled, within}
 use Rattle.dynamic_servants.specs.Said.{Spelled, Unsaid, Said}
 
 -- a value of its type has fields, and these were spelled
@@ -112,3 +113,24 @@ pub members_step : (ms more : List Member) (m : Member) (i : ℕ) (vs : List Val
 members_step ms more m i vs is =
     ap (λ (ns : List Member). all_fields (members_from i (members_view ns) vs)) is
     ∙ ap (λ (k : Kind). both (fields_of (member_at vs i) k) (all_fields (members_from (i + 1) (members_view more) vs))) (member_kind m)
+
+-- ---- whole bodies
+
+pub both_said : (start mid new : Page) (first more : Option (List Field)) → Spelled start mid first → Spelled mid new more → Spelled start new (both first more)
+both_said start mid new first more s t = record {
+  fields = s.fields ++ t.fields;
+  are = ap (λ (o : Option (List Field)). both o more) s.are ∙ ap (λ (o : Option (List Field)). behind s.fields o) t.are;
+  page = written_both start mid new s.fields t.fields s.page t.page;
+}
+
+pub one_field_set : (a : Option (List Field)) → both a (Some []) ≡ a
+one_field_set None = refl
+one_field_set (Some fs) = ap Some (append-nil fs)
+
+-- what was put on an empty page is the body
+pub body_is : (order : Order) (start now : Page) (asked : Option (List Field)) → start ≡ page order 24 [] → Spelled start now asked → spelled order asked ≡ within now.bytes
+unfolding written
+body_is order start now asked empty s =
+    ap (spelled order) s.are
+    ∙ ap (λ (p : Page). within (written p s.fields).bytes) (sym empty)
+    ∙ ap (λ (p : Page). within p.bytes) (sym s.page)

@@ -4,3 +4,6 @@ pub mod Beginning
 pub mod Kin
 pub mod Replies
 pub mod Said
+pub mod Exceptions
+pub mod Ending
+pub mod Gives

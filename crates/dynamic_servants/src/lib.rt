@@ -4,5 +4,7 @@
 mod arguments;
 mod body;
 mod kin;
+mod replies;
 mod spelling;
+mod system;
 mod zeros;

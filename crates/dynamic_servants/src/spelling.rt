@@ -3,7 +3,7 @@ ghost use Rattle.std.specs.Prelude.{◌≡◌, map, slice_get};
 ghost use Rattle.std.specs.Option.{option_copied, option_map};
 ghost use Rattle.cdr_values.specs.Kinds.{kind_of, members_view};
 ghost use Rattle.cdr_values.specs.Spelling.{fields_of};
-ghost use Rattle.cdr_values.specs.Trees.{words, text};
+ghost use Rattle.cdr_values.specs.Trees.{scalar, boolean, words, text, truth};
 ghost use Rattle.cdr_values.specs.Values.{value_of, values_view};
 ghost use Rattle.idl_types.specs.Views.{param_of};
 ghost use Rattle.script_values.specs.Operations.{member_at, as_items};
@@ -29,6 +29,13 @@ pub(crate) fn put(kind: &IdlType, value: &IdlValue, writer: &mut Writer) -> Resu
     }
     encode(kind, value, writer)?;
     Ok(())
+}
+
+/// Puts a truth.
+pub(crate) fn put_truth(holds: bool, writer: &mut Writer) -> Result<(), Stop>
+    ensures { Said result writer.old writer.new (fields_of (truth holds) (scalar boolean)) }
+{
+    put(&IdlType::Boolean, &IdlValue::Boolean(holds), writer)
 }
 
 /// The value at an index.
