@@ -3,3 +3,5 @@ pub mod Eighths
 pub mod Beginnings
 pub mod Ancestors
 pub mod Spellings
+pub mod Forms
+pub mod Fine

@@ -6,4 +6,7 @@ pub mod Replies
 pub mod Said
 pub mod Exceptions
 pub mod Ending
+pub mod BuiltInServant
+pub mod Outcome
+pub mod Served
 pub mod Gives
