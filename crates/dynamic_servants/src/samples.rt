@@ -2,18 +2,16 @@
 
 use crate::Servants;
 use cdr_values::{Case, IdlType, Member};
-use idl_types::{
-    Declaration, Exception, Interface, NamedType, Operation, Param, Repository, Way,
-};
-use orb_base::{
-    ConnId, Due, Job, List, Order, Outcome, Priority, Serving, Sys, Text,
-};
+use idl_types::{Declaration, Exception, Interface, NamedType, Operation, Param, Repository, Way};
+use orb_base::{ConnId, Due, Job, List, Order, Outcome, Priority, Serving, Sys, Text};
 use servant_scripts::{Script, read_script};
 use std::alloc::Global;
 use std::test::*;
 
 pub const BASE: &str = "IDL:M/B:1.0";
+
 pub const DERIVED: &str = "IDL:M/D:1.0";
+
 pub const PING: &str = "IDL:Orb/Ping:1.0";
 
 /// What the servants do.
@@ -95,6 +93,7 @@ fn put_types(repository: &mut Repository, alloc: Global) -> Result<(), Fail> {
 }
 
 /// The parameters that are put into operations, one behind the other.
+#[derive(Drop)]
 struct Params {
     alloc: Global,
     params: Vec<Param>,
@@ -117,11 +116,11 @@ impl Params {
         Ok(self)
     }
 
-    fn of(self, name: &str, result: Option<IdlType>, raises: &[&str]) -> Result<Operation, Fail> {
+    fn of(self, name: &str, kind: Option<IdlType>, raises: &[&str]) -> Result<Operation, Fail> {
         Ok(Operation {
             name: text(self.alloc, name)?,
             oneway: false,
-            result,
+            result: kind,
             params: List::from_vec(self.params),
             raises: texts(self.alloc, raises)?,
         })
@@ -163,7 +162,13 @@ fn many(alloc: Global) -> Result<Operation, Fail> {
 }
 
 /// A union with one case.
-fn union(alloc: Global, id: &str, tag: IdlType, label: i128, kind: IdlType) -> Result<IdlType, Fail> {
+fn union(
+    alloc: Global,
+    id: &str,
+    tag: IdlType,
+    label: i128,
+    kind: IdlType,
+) -> Result<IdlType, Fail> {
     let mut cases = Vec::new(alloc);
     let mut labels = Vec::new(alloc);
     labels.push(label)?;
@@ -177,7 +182,10 @@ fn union(alloc: Global, id: &str, tag: IdlType, label: i128, kind: IdlType) -> R
 
 fn zeros(alloc: Global) -> Result<Operation, Fail> {
     let longs = IdlType::Seq(Box::new(alloc, IdlType::Long)?, 0);
-    let color = IdlType::Enum(text(alloc, "IDL:M/Color:1.0")?, texts(alloc, &["RED", "GREEN"])?);
+    let color = IdlType::Enum(
+        text(alloc, "IDL:M/Color:1.0")?,
+        texts(alloc, &["RED", "GREEN"])?,
+    );
     let shorts = IdlType::Array(Box::new(alloc, IdlType::Short)?, 2);
     let with = union(alloc, "IDL:M/U:1.0", IdlType::Long, 0, IdlType::Octet)?;
     let without = union(alloc, "IDL:M/V:1.0", IdlType::Boolean, 1, IdlType::Long)?;

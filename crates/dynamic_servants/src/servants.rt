@@ -135,12 +135,7 @@ impl Servants {
     }
 
     /// What an operation comes to on the parameters of a job.
-    fn carry(
-        &self,
-        operation: &Operation,
-        work: Work<'_>,
-        job: &Job,
-    ) -> Result<Outcome, NoMemory>
+    fn carry(&self, operation: &Operation, work: Work<'_>, job: &Job) -> Result<Outcome, NoMemory>
         ensures { Answers result (Spec.carried (things_of self.now.repository) (operation_of operation.now)
             (work_view (things_of self.now.repository) work.entry) job.now
             (Begin.arguments (operation_of operation.now).params [] (Spec.body_at job.now))) }

@@ -88,7 +88,11 @@ fn put_out(param: &Param, slots: &[IdlValue], at: usize, writer: &mut Writer) ->
 }
 
 /// Puts the parameters that come out, in order.
-pub(crate) fn put_outs(params: &[Param], slots: &[IdlValue], writer: &mut Writer) -> Result<(), Stop>
+pub(crate) fn put_outs(
+    params: &[Param],
+    slots: &[IdlValue],
+    writer: &mut Writer,
+) -> Result<(), Stop>
     ensures { Said result writer.old writer.new (Spec.all_fields (Spec.outs_from 0 (map param_of params.now) (values_view slots.now))) }
 {
     for (at, param) in params.iter().enumerate() {
@@ -98,7 +102,11 @@ pub(crate) fn put_outs(params: &[Param], slots: &[IdlValue], writer: &mut Writer
 }
 
 /// Puts the members of an exception, in order.
-pub(crate) fn put_members(members: &[Member], values: &[IdlValue], writer: &mut Writer) -> Result<(), Stop>
+pub(crate) fn put_members(
+    members: &[Member],
+    values: &[IdlValue],
+    writer: &mut Writer,
+) -> Result<(), Stop>
     ensures { Said result writer.old writer.new (Spec.all_fields (Spec.members_from 0 (members_view members.now) (values_view values.now))) }
 {
     for (at, member) in members.iter().enumerate() {
