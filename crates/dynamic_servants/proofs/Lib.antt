@@ -5,3 +5,4 @@ pub mod Ancestors
 pub mod Spellings
 pub mod Forms
 pub mod Fine
+pub mod Refusing

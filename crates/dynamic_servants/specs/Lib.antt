@@ -10,3 +10,4 @@ pub mod BuiltInServant
 pub mod Outcome
 pub mod Served
 pub mod Gives
+pub mod Laws

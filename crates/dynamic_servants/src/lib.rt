@@ -11,6 +11,7 @@ mod body;
 mod built_in;
 mod finding;
 mod kin;
+mod laws;
 mod replies;
 mod servants;
 mod spelling;
@@ -18,6 +19,7 @@ mod system;
 mod target;
 mod zeros;
 
+pub use laws::{refuses_unknown_operations, refuses_unread_parameters};
 pub use servants::Servants;
 
 #[cfg(test)]

@@ -92,73 +92,83 @@ fn put_types(repository: &mut Repository, alloc: Global) -> Result<(), Fail> {
     put(repository, Declaration::Exception(bad))
 }
 
-/// The parameters that are put into operations, one behind the other.
-#[derive(Drop)]
-struct Params {
+/// Puts a parameter behind the others.
+fn add(
+    params: &mut Vec<Param>,
     alloc: Global,
-    params: Vec<Param>,
+    way: Way,
+    name: &str,
+    kind: IdlType,
+) -> Result<(), Fail> {
+    params.push(Param {
+        way,
+        name: text(alloc, name)?,
+        kind,
+    })?;
+    Ok(())
 }
 
-impl Params {
-    fn new(alloc: Global) -> Params {
-        Params {
-            alloc,
-            params: Vec::new(alloc),
-        }
-    }
+fn operation(
+    alloc: Global,
+    name: &str,
+    kind: Option<IdlType>,
+    params: Vec<Param>,
+    raises: &[&str],
+) -> Result<Operation, Fail> {
+    Ok(Operation {
+        name: text(alloc, name)?,
+        oneway: false,
+        result: kind,
+        params: List::from_vec(params),
+        raises: texts(alloc, raises)?,
+    })
+}
 
-    fn and(mut self, way: Way, name: &str, kind: IdlType) -> Result<Params, Fail> {
-        self.params.push(Param {
-            way,
-            name: text(self.alloc, name)?,
-            kind,
-        })?;
-        Ok(self)
-    }
+fn longs(alloc: Global) -> Result<IdlType, Fail> {
+    Ok(IdlType::Seq(Box::new(alloc, IdlType::Long)?, 0))
+}
 
-    fn of(self, name: &str, kind: Option<IdlType>, raises: &[&str]) -> Result<Operation, Fail> {
-        Ok(Operation {
-            name: text(self.alloc, name)?,
-            oneway: false,
-            result: kind,
-            params: List::from_vec(self.params),
-            raises: texts(self.alloc, raises)?,
-        })
-    }
+/// An operation of one long parameter.
+fn of_long(
+    alloc: Global,
+    name: &str,
+    param: &str,
+    kind: Option<IdlType>,
+    raises: &[&str],
+) -> Result<Operation, Fail> {
+    let mut params = Vec::new(alloc);
+    add(&mut params, alloc, Way::Input, param, IdlType::Long)?;
+    operation(alloc, name, kind, params, raises)
 }
 
 fn twice(alloc: Global) -> Result<Operation, Fail> {
-    Params::new(alloc)
-        .and(Way::Input, "x", IdlType::Long)?
-        .of("twice", Some(IdlType::Long), &[])
+    of_long(alloc, "twice", "x", Some(IdlType::Long), &[])
 }
 
 fn mix(alloc: Global) -> Result<Operation, Fail> {
-    Params::new(alloc)
-        .and(Way::Input, "x", IdlType::Long)?
-        .and(Way::Output, "y", IdlType::Long)?
-        .and(Way::Both, "s", IdlType::Words(0))?
-        .and(Way::Output, "p", pair(alloc)?)?
-        .of("mix", Some(IdlType::Boolean), &[])
+    let mut params = Vec::new(alloc);
+    add(&mut params, alloc, Way::Input, "x", IdlType::Long)?;
+    add(&mut params, alloc, Way::Output, "y", IdlType::Long)?;
+    add(&mut params, alloc, Way::Both, "s", IdlType::Words(0))?;
+    add(&mut params, alloc, Way::Output, "p", pair(alloc)?)?;
+    operation(alloc, "mix", Some(IdlType::Boolean), params, &[])
 }
 
 fn limit(alloc: Global) -> Result<Operation, Fail> {
-    let longs = IdlType::Seq(Box::new(alloc, IdlType::Long)?, 0);
-    Params::new(alloc)
-        .and(Way::Input, "which", IdlType::Long)?
-        .and(Way::Input, "s", IdlType::Words(0))?
-        .and(Way::Input, "l", longs)?
-        .of("limit", Some(IdlType::Long), &[])
+    let mut params = Vec::new(alloc);
+    add(&mut params, alloc, Way::Input, "which", IdlType::Long)?;
+    add(&mut params, alloc, Way::Input, "s", IdlType::Words(0))?;
+    add(&mut params, alloc, Way::Input, "l", longs(alloc)?)?;
+    operation(alloc, "limit", Some(IdlType::Long), params, &[])
 }
 
 fn many(alloc: Global) -> Result<Operation, Fail> {
-    Params::new(alloc)
-        .and(Way::Input, "s", IdlType::Words(0))?
-        .and(Way::Output, "a", IdlType::Words(0))?
-        .and(Way::Output, "b", IdlType::Words(0))?
-        .and(Way::Output, "c", IdlType::Words(0))?
-        .and(Way::Output, "d", IdlType::Words(0))?
-        .of("many", Some(IdlType::Words(0)), &[])
+    let mut params = Vec::new(alloc);
+    add(&mut params, alloc, Way::Input, "s", IdlType::Words(0))?;
+    for name in ["a", "b", "c", "d"] {
+        add(&mut params, alloc, Way::Output, name, IdlType::Words(0))?;
+    }
+    operation(alloc, "many", Some(IdlType::Words(0)), params, &[])
 }
 
 /// A union with one case.
@@ -169,35 +179,45 @@ fn union(
     label: i128,
     kind: IdlType,
 ) -> Result<IdlType, Fail> {
-    let mut cases = Vec::new(alloc);
-    let mut labels = Vec::new(alloc);
-    labels.push(label)?;
-    cases.push(Case {
-        labels: List::from_vec(labels),
+    let case = Case {
+        labels: List::from_vec(Vec::from_slice(alloc, &[label])?),
         is_default: false,
         member: member(alloc, "m", kind)?,
-    })?;
+    };
+    let mut cases = Vec::new(alloc);
+    cases.push(case)?;
     Ok(IdlType::Union(text(alloc, id)?, Box::new(alloc, tag)?, cases))
 }
 
-fn zeros(alloc: Global) -> Result<Operation, Fail> {
-    let longs = IdlType::Seq(Box::new(alloc, IdlType::Long)?, 0);
-    let color = IdlType::Enum(
-        text(alloc, "IDL:M/Color:1.0")?,
-        texts(alloc, &["RED", "GREEN"])?,
-    );
-    let shorts = IdlType::Array(Box::new(alloc, IdlType::Short)?, 2);
+fn color(alloc: Global) -> Result<IdlType, Fail> {
+    let labels = texts(alloc, &["RED", "GREEN"])?;
+    Ok(IdlType::Enum(text(alloc, "IDL:M/Color:1.0")?, labels))
+}
+
+fn shorts(alloc: Global) -> Result<IdlType, Fail> {
+    Ok(IdlType::Array(Box::new(alloc, IdlType::Short)?, 2))
+}
+
+fn add_plain(params: &mut Vec<Param>, alloc: Global) -> Result<(), Fail> {
+    add(params, alloc, Way::Output, "b", IdlType::Boolean)?;
+    add(params, alloc, Way::Output, "c", IdlType::Char)?;
+    add(params, alloc, Way::Output, "l", longs(alloc)?)?;
+    add(params, alloc, Way::Output, "e", color(alloc)?)
+}
+
+fn add_built(params: &mut Vec<Param>, alloc: Global) -> Result<(), Fail> {
+    add(params, alloc, Way::Output, "a", shorts(alloc)?)?;
     let with = union(alloc, "IDL:M/U:1.0", IdlType::Long, 0, IdlType::Octet)?;
+    add(params, alloc, Way::Output, "u", with)?;
     let without = union(alloc, "IDL:M/V:1.0", IdlType::Boolean, 1, IdlType::Long)?;
-    Params::new(alloc)
-        .and(Way::Output, "b", IdlType::Boolean)?
-        .and(Way::Output, "c", IdlType::Char)?
-        .and(Way::Output, "l", longs)?
-        .and(Way::Output, "e", color)?
-        .and(Way::Output, "a", shorts)?
-        .and(Way::Output, "u", with)?
-        .and(Way::Output, "v", without)?
-        .of("zeros", None, &[])
+    add(params, alloc, Way::Output, "v", without)
+}
+
+fn zeros(alloc: Global) -> Result<Operation, Fail> {
+    let mut params = Vec::new(alloc);
+    add_plain(&mut params, alloc)?;
+    add_built(&mut params, alloc)?;
+    operation(alloc, "zeros", None, params, &[])
 }
 
 fn put_interface(
@@ -221,18 +241,27 @@ fn put_base(repository: &mut Repository, alloc: Global) -> Result<(), Fail> {
     put_interface(repository, alloc, BASE, &[], operations)
 }
 
-fn put_derived(repository: &mut Repository, alloc: Global) -> Result<(), Fail> {
-    let mut operations = Vec::new(alloc);
-    operations.push(twice(alloc)?)?;
-    operations.push(Params::new(alloc).of("_get_a", Some(IdlType::Long), &[])?)?;
-    let a = Params::new(alloc).and(Way::Input, "a", IdlType::Long)?;
-    operations.push(a.of("_set_a", None, &["IDL:M/Bad:1.0"])?)?;
+fn add_attribute(operations: &mut Vec<Operation>, alloc: Global) -> Result<(), Fail> {
+    let kind = Some(IdlType::Long);
+    operations.push(operation(alloc, "_get_a", kind, Vec::new(alloc), &[])?)?;
+    operations.push(of_long(alloc, "_set_a", "a", None, &["IDL:M/Bad:1.0"])?)?;
+    Ok(())
+}
+
+fn add_others(operations: &mut Vec<Operation>, alloc: Global) -> Result<(), Fail> {
     operations.push(mix(alloc)?)?;
-    let why = Params::new(alloc).and(Way::Input, "why", IdlType::Long)?;
-    operations.push(why.of("fail", None, &["IDL:M/Bad:1.0"])?)?;
+    operations.push(of_long(alloc, "fail", "why", None, &["IDL:M/Bad:1.0"])?)?;
     operations.push(limit(alloc)?)?;
     operations.push(many(alloc)?)?;
     operations.push(zeros(alloc)?)?;
+    Ok(())
+}
+
+fn put_derived(repository: &mut Repository, alloc: Global) -> Result<(), Fail> {
+    let mut operations = Vec::new(alloc);
+    operations.push(twice(alloc)?)?;
+    add_attribute(&mut operations, alloc)?;
+    add_others(&mut operations, alloc)?;
     put_interface(repository, alloc, DERIVED, &[BASE], operations)
 }
 

@@ -161,13 +161,11 @@ impl Servants {
             (methods.find_operation 0 (target_view (things_of self.now.repository) target.entry).0.operations job.now.operation) ≡ base.bad_operation → ⊥) }
     {
         let operations = target.interface.operations.as_slice();
-        match find_operation(operations, job.operation.as_slice()) {
-            Some(asked) => {
-                let work = work_at(target.servant.methods.as_slice(), asked.at);
-                self.carry(asked.operation, work, job)
-            }
-            None => Ok(bad_operation()),
-        }
+        let Some(asked) = find_operation(operations, job.operation.as_slice()) else {
+            return Ok(bad_operation());
+        };
+        let work = work_at(target.servant.methods.as_slice(), asked.at);
+        self.carry(asked.operation, work, job)
     }
 
     /// Whether the interface is one of the id that the body has.
