@@ -1,6 +1,6 @@
 -- The test of kin tells what bases lead to, since they stand before what is derived from them.
-use Rattle.std.proofs.Common.{◌≡◌, ℕ, ◌<◌, ◌≤◌, suc, zero, Bool, true, false, ◌&&◌, ◌||◌, List, [], ◌∷◌, length, Option, Some, None, ◌↔◌, inl, inr, refl, sym, ap, ◌∙◌, subst, arith}
-use Rattle.std.specs.Prelude.{◌==◌, slice_get, IsTrue}
+use Rattle.std.proofs.Common.{◌≡◌, ℕ, ◌≤◌, suc, zero, Bool, true, false, ◌||◌, List, [], ◌∷◌, length, Option, Some, None, ◌↔◌, inl, inr, refl, sym, ap, ◌∙◌, arith}
+use Rattle.std.specs.Prelude.{◌==◌, IsTrue}
 use Rattle.std.specs.Option.{option_map_or, option_and_then}
 use Rattle.std.specs.List.{list_any}
 use Rattle.std.specs.Str.{bytes_eq}
@@ -11,7 +11,7 @@ use Rattle.idl_types.specs.Things.{Thing, constant, named, exception, interface,
 use Rattle.idl_types.specs.Finding.{has_id, place_named, thing_named, as_interface, is_interface, bases_named, object_id, Descends, IsA}
 use Rattle.idl_types.specs.Sound.{are_based}
 use Rattle.idl_types.specs.Bases.{is_place, bases_at, is_base_at}
-use Rattle.idl_types.specs.Walk.{Trail, Reached}
+use Rattle.idl_types.specs.Walk.{Trail}
 use Rattle.idl_types.proofs.Places.{at_place, found_at, any_among, any_more}
 use Rattle.idl_types.proofs.Descent.{has_place, lower, descends_by_places, no_descent}
 use Rattle.dynamic_servants.specs.Kin.{leads_within, is_one_of}

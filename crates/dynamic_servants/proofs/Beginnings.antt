@@ -1,6 +1,5 @@
 -- A value that is taken at a place modulo 8 is that of the reading at the place.
-use Rattle.std.proofs.Common.{◌≡◌, ℕ, ◌+◌, ◌%◌, List, drop, Result, Ok, Err, refl, sym, ap, ◌∙◌, subst, arith}
-use Rattle.orb_base.specs.declared.order.Order.{Order}
+use Rattle.std.proofs.Common.{◌≡◌, ℕ, ◌+◌, ◌%◌, drop, Ok, Err, refl, sym, ap, ◌∙◌, arith}
 use Rattle.cdr_core.specs.declared.fault.CdrFault.{CdrFault}
 use Rattle.cdr_core.specs.Cursor.{Cursor, cursor, Reads}
 use Rattle.cdr_core.proofs.CallerLemmas.{ok_is}

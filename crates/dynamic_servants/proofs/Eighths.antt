@@ -1,14 +1,14 @@
 -- What is read asks of a place only what it is modulo 8: a value is aligned on 8 bytes at most.
-use Rattle.std.proofs.Common.{◌≡◌, ℕ, ℤ, zero, suc, pos, ◌+◌, ◌-◌, ◌%◌, Bool, true, false, cond, ltb, eqb, List, [], ◌∷◌, ◌++◌, length, take, drop, Option, Some, None, Result, Ok, Err, refl, sym, ap, ◌∙◌, subst, arith}
-use Rattle.std.specs.Int.{Width, w8, w16, w32, w64, byte_len}
+use Rattle.std.proofs.Common.{◌≡◌, ℕ, zero, suc, ◌+◌, ◌%◌, Bool, true, false, cond, ltb, eqb, List, [], ◌∷◌, ◌++◌, length, take, drop, Option, Some, None, Ok, Err, refl, sym, subst, arith}
+use Rattle.std.specs.Int.{Width, w8, w32, byte_len}
 use Rattle.cdr_core.specs.Alignment.{pad_len}
 use Rattle.cdr_core.specs.declared.fault.CdrFault.{CdrFault}
 use Rattle.cdr_core.specs.Cursor.{Cursor, cursor, Reads, ahead}
 use Rattle.cdr_core.specs.Sequence.{◌>>=◌}
-use Rattle.cdr_core.specs.Reading.{piece_at, number_of, number_at, bool_at, count_at, octets_at, string_at, as_text, text_before_nul}
-use Rattle.cdr_values.specs.Trees.{Size, size1, size2, size4, size8, wide, Scalar, boolean, char, unsigned, signed, enumeration, Kind, scalar, words, sequence, array, structure, union, Members, no_members, member, Cases, no_cases, case, Value, text, items, chosen, Values, no_values, value, values_of}
+use Rattle.cdr_core.specs.Reading.{piece_at, number_at, bool_at, count_at, octets_at, string_at, as_text, text_before_nul}
+use Rattle.cdr_values.specs.Trees.{Size, size1, size2, size4, size8, wide, Scalar, boolean, char, unsigned, signed, enumeration, Kind, scalar, words, sequence, array, structure, union, Members, no_members, member, Cases, no_cases, case, Value, text, items, chosen, no_values, value, values_of}
 use Rattle.cdr_values.specs.Choice.{choose}
-use Rattle.cdr_values.specs.Reading.{as_read, label_at, scalar_at, value_at, tag_at, text_at, bounded_count_at, with_front, then_values, times, counted, as_items, then_member, read, read_members, read_chosen}
+use Rattle.cdr_values.specs.Reading.{as_read, label_at, scalar_at, value_at, tag_at, text_at, bounded_count_at, then_values, times, counted, then_member, read, read_members, read_chosen}
 
 -- the cursor at another place
 abbrev pub moved : ℕ → Cursor → Cursor

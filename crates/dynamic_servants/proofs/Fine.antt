@@ -1,5 +1,5 @@
 -- What objects never answer to an operation that they have: BAD_OPERATION, and a body that a reply has no room for.
-use Rattle.std.proofs.Common.{◌≡◌, ◌≤◌, ℕ, Bool, true, false, cond, refl, ap, List, [], ◌∷◌, ◌++◌, length, replicate, Option, Some, None, Result, Ok, Err, arith}
+use Rattle.std.proofs.Common.{◌≡◌, ◌≤◌, ℕ, Bool, true, false, cond, refl, ap, List, [], ◌∷◌, ◌++◌, length, replicate, Option, Some, None, Ok, Err, arith}
 use Rattle.std.specs.Prelude.{nat_lt, codes}
 use Rattle.std.specs.Str.{bytes_eq}
 use Rattle.std.proofs.lemmas.Bool.{ltb-false}
@@ -19,7 +19,7 @@ use Rattle.cdr_values.specs.Trees.{Name, scalar, boolean, Value, truth}
 use Rattle.idl_types.specs.Things.{Thing, OperationView, ExceptionView}
 use Rattle.script_values.specs.declared.limit.Limit.{Limit}
 use Rattle.script_values.specs.declared.limit.Limit.TheVariants.{TooLarge, Misfit}
-use Rattle.script_values.specs.Operations.{Comes, ◌>>=◌, blank}
+use Rattle.script_values.specs.Operations.{◌>>=◌, blank}
 use Rattle.script_values.specs.Running.{End, next, returned, gone, raised, Ran, run}
 use Rattle.script_checks.specs.Methods.{find_operation}
 use Rattle.script_checks.specs.Servants.{ServantView}

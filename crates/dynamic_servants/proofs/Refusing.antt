@@ -15,7 +15,7 @@ use Rattle.script_checks.specs.Servants.{ServantView}
 use Rattle.dynamic_servants.specs.Arguments.{arguments}
 use Rattle.dynamic_servants.specs.Kin.{is_one_of}
 use Rattle.dynamic_servants.specs.Exceptions.{marshal}
-use Rattle.dynamic_servants.specs.Outcome.{Served, Target, Work, work_at, carried, body_at, asked, told, told_kin, answered, target_of, outcome_of}
+use Rattle.dynamic_servants.specs.Outcome.{Target, Work, work_at, carried, body_at, asked, told, told_kin, answered, target_of, outcome_of}
 use Rattle.dynamic_servants.specs.Laws.{has_operation, has_parameters, is_read, are_read, RefusesUnknown, RefusesUnread}
 use Rattle.dynamic_servants.proofs.Fine.{carried_out_fine, carried_other, told_fine, told_kin_other, bad_is_read}
 

@@ -1,15 +1,15 @@
 -- Values of types, spelled one behind the other.
-use Rattle.std.proofs.Common.{◌≡◌, ℕ, ◌+◌, ◌<◌, ◌≤◌, ◌^◌, Bool, true, false, ◌&&◌, not, cond, List, [], ◌∷◌, ◌++◌, map, length, Option, Some, None, Result, Ok, Err, refl, sym, ap, ◌∙◌, subst, append_assoc, arith}
-use Rattle.std.specs.Prelude.{is_some, is_none, IsTrue, nat_lt}
+use Rattle.std.proofs.Common.{◌≡◌, ℕ, ◌+◌, ◌<◌, ◌≤◌, ◌^◌, Bool, true, false, ◌&&◌, cond, List, [], ◌∷◌, ◌++◌, map, length, Option, Some, None, Ok, refl, sym, ap, ◌∙◌, subst, append_assoc, arith}
+use Rattle.std.specs.Prelude.{is_some, is_none}
 use Rattle.std.proofs.lemmas.Bool.{lt-ltb, le-ltb}
 use Rattle.std.proofs.lemmas.List.{append-nil}
-use Rattle.orb_base.specs.NulFree.{nul_at, HasNoNul}
+use Rattle.orb_base.specs.NulFree.{nul_at}
 use Rattle.orb_base.specs.declared.order.Order.{Order}
 use Rattle.cdr_core.specs.Field.{Field, string_fields}
 use Rattle.cdr_core.specs.Writing.{Page, page, written}
 use Rattle.cdr_core.proofs.CallerLemmas.{written_none, written_both}
 use Rattle.cdr_values.specs.Trees.{Kind, words, Value, text, values_of, list_of}
-use Rattle.cdr_values.specs.Spelling.{fields_of, both, behind, is_text, is_above}
+use Rattle.cdr_values.specs.Spelling.{fields_of, both, behind}
 use Rattle.cdr_values.specs.Writing.{Wrote}
 use Rattle.cdr_values.specs.Kinds.{kind_of, members_view}
 use Rattle.cdr_values.specs.declared.kind.Member.{Member}
@@ -19,9 +19,8 @@ use Rattle.idl_types.specs.declared.param.Param.{Param}
 use Rattle.script_values.specs.Operations.{member_at}
 use Rattle.script_values.specs.declared.limit.Stop.{Stop}
 use Rattle.script_values.specs.declared.limit.Stop.TheVariants as stop
-use Rattle.script_values.specs.declared.limit.Limit.TheVariants.{Misfit}
 use Rattle.dynamic_servants.specs.Replies.{Typed, all_fields, out_of, outs_from, members_from, spelled, within}
-use Rattle.dynamic_servants.specs.Said.{Spelled, Unsaid, Said}
+use Rattle.dynamic_servants.specs.Said.{Spelled, Unsaid}
 
 -- a value of its type has fields, and these were spelled
 pub put_said : (old new : Page) (asked : Option (List Field)) → is_some asked ≡ true → Wrote (Ok tt) old new asked → Spelled old new asked

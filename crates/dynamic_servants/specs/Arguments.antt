@@ -1,6 +1,6 @@
 -- The variables that an operation begins with: its parameters in order, read from a request's body (CORBA 3.0.3, section 15.3) or
 -- with the zero of their type.
-use Rattle.std.specs.Prelude.{ℕ, List, [], ◌∷◌, ◌++◌, Ok}
+use Rattle.std.specs.Prelude.{List, [], ◌∷◌, ◌++◌, Ok}
 use Rattle.cdr_core.specs.Cursor.{Cursor, Reads}
 use Rattle.cdr_core.specs.Sequence.{◌>>=◌}
 use Rattle.cdr_values.specs.Trees.{Kind, Value}

@@ -1,5 +1,5 @@
 -- Where arguments are taken from, and what taking them answers.
-use Rattle.std.specs.Prelude.{◌≡◌, ℕ, ◌%◌, List, Result, Ok, Err, Vec}
+use Rattle.std.specs.Prelude.{◌≡◌, ◌%◌, List, Result, Ok, Err, Vec}
 use Rattle.std.specs.declared.alloc.Global.{Global}
 use Rattle.cdr_core.specs.declared.fault.CdrFault.{CdrFault}
 use Rattle.cdr_core.specs.Cursor.{Cursor, Reads}

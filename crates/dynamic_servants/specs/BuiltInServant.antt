@@ -3,7 +3,7 @@
 use Rattle.std.specs.Prelude.{ℕ, List, [], ◌∷◌, Option, Some, None}
 use Rattle.idl_types.specs.Things.{Thing}
 use Rattle.idl_types.specs.References.{kind_at}
-use Rattle.script_values.specs.Trees.{Term, priority, slot, Steps, no_steps, step, give}
+use Rattle.script_values.specs.Trees.{Term, priority, slot, no_steps, step, give}
 use Rattle.script_checks.specs.Dues.{result_due}
 use Rattle.script_checks.specs.Methods.{MethodView}
 use Rattle.script_checks.specs.Servants.{ServantView}

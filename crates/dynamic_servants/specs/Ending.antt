@@ -1,4 +1,4 @@
--- How an operation ends: CORBA 3.0.3, section 15.4.3. It returns its result, and then the parameters that come out, in order; or it
+-- How an operation ends: CORBA 3.0.3, section 15.4. It returns its result, and then the parameters that come out, in order; or it
 -- raises one of its exceptions.
 use Rattle.std.specs.Prelude.{ℕ, ◌++◌, List, slice_get, Ok, Err, Option, Some, None}
 use Rattle.std.specs.Option.{option_and_then}

@@ -1,4 +1,4 @@
--- Which interfaces an interface is one of, as a test: CORBA 3.0.3, section 4.3.4.
+-- Which interfaces an interface is one of, as a test: CORBA 3.0.3, chapter 4, object reference operations.
 use Rattle.std.specs.Prelude.{ℕ, zero, suc, ◌&&◌, ◌||◌, Bool, List, length}
 use Rattle.std.specs.List.{list_any}
 use Rattle.std.specs.Str.{bytes_eq}

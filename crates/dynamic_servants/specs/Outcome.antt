@@ -4,7 +4,6 @@ use Rattle.std.specs.Option.{option_and_then}
 use Rattle.std.specs.Str.{bytes_eq}
 use Rattle.orb_base.specs.JobRecord.{JobRecord}
 use Rattle.orb_base.specs.Outcomes.{bad_operation}
-use Rattle.orb_base.specs.declared.order.Order.{Order}
 use Rattle.orb_base.specs.declared.outcome.Outcome.{Outcome}
 use Rattle.cdr_core.specs.Cursor.{Cursor, cursor, Reads}
 use Rattle.cdr_core.specs.Reading.{string_at}

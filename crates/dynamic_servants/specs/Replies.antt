@@ -1,4 +1,4 @@
--- The bodies of replies: values of types, one after the other (CORBA 3.0.3, sections 15.3 and 15.4.3).
+-- The bodies of replies: values of types, one after the other (CORBA 3.0.3, sections 15.3 and 15.4).
 use Rattle.std.specs.Prelude.{ℕ, ◌+◌, List, [], ◌∷◌, ◌++◌, length, nat_lt, Ok, Err, Option, Some, None, if◌then◌else◌}
 use Rattle.orb_base.specs.declared.order.Order.{Order}
 use Rattle.orb_base.specs.declared.limits.TheConstants.{MAX_BODY}

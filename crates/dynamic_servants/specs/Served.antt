@@ -10,7 +10,7 @@ use Rattle.script_values.specs.Trees.{steps_of}
 use Rattle.script_values.specs.Views.{steps_view}
 use Rattle.script_checks.specs.Done.{servant_view}
 use Rattle.script_checks.specs.Scene.{Checks, ◌>>=◌}
-use Rattle.script_checks.specs.Servants.{ServantView, checked}
+use Rattle.script_checks.specs.Servants.{checked}
 use Rattle.dynamic_servants.specs.Outcome as Spec
 use Rattle.dynamic_servants.specs.BuiltInServant.{built_in}
 use Rattle.dynamic_servants.specs.declared.servants.Servants.{Servants}

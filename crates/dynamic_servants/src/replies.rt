@@ -1,5 +1,5 @@
 //! The bodies of replies.
-ghost use Rattle.std.specs.Prelude.{◌≡◌, [], ◌∷◌, ◌++◌, Ok, map};
+ghost use Rattle.std.specs.Prelude.{◌≡◌, [], ◌∷◌, ◌++◌, Ok};
 ghost use Rattle.std.specs.Option.{option_copied, option_map};
 ghost use Rattle.orb_base.specs.declared.outcome.Outcome.TheVariants.{Returned, User};
 ghost use Rattle.cdr_values.specs.Trees.{scalar, boolean, truth};

@@ -6,11 +6,10 @@ ghost use Rattle.cdr_core.specs.Reading.{string_at};
 ghost use Rattle.cdr_values.specs.Values.{values_view};
 ghost use Rattle.idl_types.specs.BuiltIn.{with_ping};
 ghost use Rattle.idl_types.specs.Contents.{things_of};
-ghost use Rattle.idl_types.specs.Views.{operation_of, interface_of};
+ghost use Rattle.idl_types.specs.Views.{operation_of};
 ghost use Rattle.servant_scripts.specs.Views.{script_of};
 ghost use Rattle.script_values.specs.Operations.{blank};
 ghost use Rattle.script_values.specs.Gives as run;
-ghost use Rattle.script_checks.specs.Done.{servant_view};
 ghost use Rattle.script_checks.specs.Gives as check;
 ghost use Rattle.script_checks.specs.Methods as methods;
 ghost use Rattle.dynamic_servants.specs.Arguments as Begin;
@@ -34,6 +33,11 @@ use servant_scripts::Script;
 use std::alloc::Global;
 
 /// Servants of the interfaces of a repository, the built-in one among them.
+///
+/// A request costs a hash for its interface, a comparison of numbers for each servant, one of names for each operation up to
+/// its own, and one of numbers for each method; then its parameters are read, its method is run and its reply is spelled,
+/// at the cost of their sizes. No other name is compared. For `_is_a` the bases are followed, none of them twice. The stack
+/// grows with the depth of types and of brackets.
 #[derive(Drop)]
 pub struct Servants {
     alloc: Global,

@@ -272,13 +272,10 @@ fn scripts_with_a_fault_have_no_servants(rt: HostRuntime) -> Result<(), Fail> {
     Ok(())
 }
 
-fn may_go<T: Send + Sync>(_x: &T) {}
-
 #[test]
 fn interfaces_with_a_servant_are_served(rt: HostRuntime) -> Result<(), Fail> {
     let alloc = rt.alloc();
     let servants = servants(alloc)?;
-    may_go(&servants);
     for served in [BASE, DERIVED, PING] {
         assert!(&rt; servants.serves(served.as_bytes()));
     }

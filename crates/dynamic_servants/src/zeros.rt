@@ -1,6 +1,5 @@
 //! Zeros of types.
 ghost use Rattle.std.specs.Prelude.{◌≡◌, IfOk, [], Some, pos, position, replicate};
-ghost use Rattle.std.specs.Option.{option_or};
 ghost use Rattle.cdr_values.specs.Choice.{choose, has_label};
 ghost use Rattle.cdr_values.specs.Kinds.{kind_of, members_view, cases_view};
 ghost use Rattle.cdr_values.specs.Trees.{items, chosen, value, no_values, text, values_of, members_of, cases_of};

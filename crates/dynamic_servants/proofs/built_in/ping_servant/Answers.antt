@@ -1,7 +1,5 @@
-use Rattle.std.proofs.Common.{◌≡◌, ◌++◌, List, [], ◌∷◌, map, refl}
+use Rattle.std.proofs.Common.{◌≡◌, ◌++◌, List, [], ◌∷◌, refl}
 use Rattle.script_checks.specs.declared.checked.CheckedMethod.{CheckedMethod}
-use Rattle.script_checks.specs.Done.{method_view}
-use Rattle.script_checks.specs.Methods.{MethodView}
 use Rattle.dynamic_servants.proofs.Forms.{three}
 use Rattle.dynamic_servants.proofs.built_in.ping_servant.Goals as goal
 

@@ -1,11 +1,11 @@
-use Rattle.std.proofs.Common.{◌≡◌, sym, ap, ◌∙◌, subst}
+use Rattle.std.proofs.Common.{sym, subst}
 use Rattle.cdr_values.specs.Kinds.{members_view}
 use Rattle.cdr_values.specs.Spelling.{fields_of}
 use Rattle.cdr_values.specs.Trees.{words, text}
 use Rattle.cdr_values.specs.Values.{value_of}
 use Rattle.script_values.specs.Gives.{Gives}
 use Rattle.script_values.specs.Operations.{as_items}
-use Rattle.dynamic_servants.specs.Replies.{members_from, all_fields, spelled}
+use Rattle.dynamic_servants.specs.Replies.{members_from, all_fields}
 use Rattle.dynamic_servants.proofs.Spellings.{both_said, body_is}
 use Rattle.dynamic_servants.proofs.replies.raised_body.Goals as goal
 

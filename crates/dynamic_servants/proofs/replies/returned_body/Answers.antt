@@ -1,4 +1,4 @@
-use Rattle.std.proofs.Common.{◌≡◌, ◌++◌, sym, ap, ◌∙◌, subst, map}
+use Rattle.std.proofs.Common.{sym, ap, ◌∙◌, subst, map}
 use Rattle.std.specs.Option.{option_copied, option_map}
 use Rattle.cdr_values.specs.Kinds.{kind_of}
 use Rattle.cdr_values.specs.Values.{value_of, values_view}

@@ -1,4 +1,4 @@
-use Rattle.std.proofs.Common.{◌≡◌, sym, ap, ◌∙◌, subst}
+use Rattle.std.proofs.Common.{sym, ap, ◌∙◌, subst}
 use Rattle.cdr_values.specs.Spelling.{fields_of}
 use Rattle.cdr_values.specs.Trees.{scalar, boolean, truth}
 use Rattle.script_values.specs.Gives.{Gives}

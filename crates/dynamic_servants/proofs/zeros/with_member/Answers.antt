@@ -1,5 +1,5 @@
-use Rattle.std.proofs.Common.{◌≡◌, pos, ap, ◌∙◌}
-use Rattle.cdr_values.specs.Trees.{Value, chosen, value, no_values}
+use Rattle.std.proofs.Common.{pos, ap, ◌∙◌}
+use Rattle.cdr_values.specs.Trees.{chosen, value, no_values}
 use Rattle.cdr_values.specs.Values.{value_of}
 use Rattle.cdr_values.specs.declared.value.IdlValue.{IdlValue}
 use Rattle.cdr_values.proofs.OneMember.{one_member}
