@@ -112,18 +112,18 @@ fn ping_servant(place: usize, alloc: Global) -> Result<CheckedServant, NoMemory>
     })
 }
 
-/// Servants, and behind them that of the built-in interface.
+/// The servant of the built-in interface, and behind it the others.
 pub(crate) fn with_built_in(
     mut servants: Vec<CheckedServant>,
     repository: &Repository,
     alloc: Global,
 ) -> Result<Vec<CheckedServant>, NoMemory>
     ensures { IfOk result (λ v. map (servant_view (things_of repository.now)) v.items
-        ≡ map (servant_view (things_of repository.now)) servants.items
-        ++ Spec.built_in (things_of repository.now) (place_named (things_of repository.now) ping_id)) }
+        ≡ Spec.built_in (things_of repository.now) (place_named (things_of repository.now) ping_id)
+        ++ map (servant_view (things_of repository.now)) servants.items) }
 {
     if let Some(place) = repository.place_of(PING_ID) {
-        servants.push(ping_servant(place, alloc)?)?;
+        servants.insert(0, ping_servant(place, alloc)?)?;
     }
     Ok(servants)
 }

@@ -58,9 +58,9 @@ fn extended(mut slots: Vec<IdlValue>, n: usize) -> Result<Vec<IdlValue>, NoMemor
 impl Servants {
     ghost use Rattle.dynamic_servants.specs.Served.{served_of, served_by, target_view, work_view};
 
-    /// The servants that a script gives the interfaces of a repository, and that of the built-in module, which is put behind
-    /// the others where it isn't there yet; or the first fault of the script in the order of the text. Works as the check of
-    /// the script does.
+    /// The servants that a script gives the interfaces of a repository, and that of the built-in module, which is put into
+    /// the repository where it isn't there yet; or the first fault of the script in the order of the text. Works as the
+    /// check of the script does.
     pub fn check(
         alloc: Global,
         repository: Repository,
