@@ -6,3 +6,4 @@ pub mod Spellings
 pub mod Forms
 pub mod Fine
 pub mod Refusing
+pub mod Current

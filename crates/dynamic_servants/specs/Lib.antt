@@ -11,3 +11,4 @@ pub mod Outcome
 pub mod Served
 pub mod Gives
 pub mod Laws
+pub mod PingLaw

@@ -19,7 +19,10 @@ mod system;
 mod target;
 mod zeros;
 
-pub use laws::{refuses_unknown_operations, refuses_unread_parameters};
+pub use laws::{
+    current_tells_the_priority, ping_is_served, refuses_unknown_operations,
+    refuses_unread_parameters,
+};
 pub use servants::Servants;
 
 #[cfg(test)]
