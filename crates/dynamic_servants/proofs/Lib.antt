@@ -7,3 +7,4 @@ pub mod Forms
 pub mod Fine
 pub mod Refusing
 pub mod Current
+pub mod Threads

@@ -14,6 +14,7 @@ mod kin;
 mod laws;
 mod replies;
 mod servants;
+mod sharing;
 mod spelling;
 mod system;
 mod target;
