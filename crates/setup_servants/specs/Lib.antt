@@ -1,0 +1,5 @@
+pub mod Texts
+pub mod Interfaces
+pub mod Scripts
+pub mod Serving
+pub mod Servants

@@ -1,0 +1,16 @@
+//! The servants of a setup: what its file of interfaces declares and its file of scripts says is checked, and each of its
+//! objects must be served. Without files the built-in interface alone is.
+#![tactic(auto)]
+
+mod fault;
+mod interfaces;
+mod scripts;
+mod servants;
+mod serving;
+mod texts;
+
+pub use fault::{ServingFault, TextRole};
+pub use servants::servants_of;
+
+#[cfg(test)]
+mod tests;
