@@ -19,11 +19,7 @@ use servant_scripts::Script;
 use std::alloc::Global;
 
 /// Servants, where each object of a setup is served.
-fn judge_objects(
-    alloc: Global,
-    setup: &Setup,
-    servants: Servants,
-) -> Result<Servants, ServingFault>
+fn judge_objects(alloc: Global, setup: &Setup, servants: Servants) -> Result<Servants, ServingFault>
     ensures { JudgesObjects result setup.now (served_of servants) }
 {
     match judge_served(alloc, setup, &servants) {

@@ -8,7 +8,7 @@ use Rattle.setup_servants.proofs.serving.first_unserved.Given as goal
 abbrev pub invariant-loop-object : goal.invariant-loop-object
 invariant-loop-object l = (l.n ≤ length l.setup.objects)
     × (position_from (is_unserved (served_of l.servants)) l.n (drop l.n l.setup.objects)
-        ≡ position_from (is_unserved (served_of l.servants)) 0 l.setup.objects)
+    ≡ position_from (is_unserved (served_of l.servants)) 0 l.setup.objects)
 
 abbrev pub decreases-loop-object : goal.decreases-loop-object
 decreases-loop-object l = length l.setup.objects - l.n
