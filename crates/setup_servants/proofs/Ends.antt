@@ -11,7 +11,7 @@ use Rattle.servant_scripts.specs.declared.line.Script.{Script}
 use Rattle.servant_scripts.specs.Trees.{ServantSaid}
 use Rattle.servant_scripts.specs.Views.{script_of}
 use Rattle.dynamic_servants.specs.Outcome.{Served}
-use Rattle.dynamic_servants.specs.Served.{served_by, served_of}
+use Rattle.dynamic_servants.specs.Served.{served_by}
 use Rattle.dynamic_servants.specs.declared.servants.Servants.{Servants}
 use Rattle.setup_servants.specs.Interfaces.{ReadsInterfaces}
 use Rattle.setup_servants.specs.Scripts.{ReadsScripts}

@@ -6,7 +6,6 @@ use Rattle.config_tables.specs.Fault.{Fault, fault_of}
 use Rattle.adapter_policies.specs.SetupData.{SetupData}
 use Rattle.idl_types.specs.BuiltIn.{with_ping}
 use Rattle.idl_types.specs.Things.{Thing}
-use Rattle.script_checks.specs.Scene.{Checks}
 use Rattle.servant_scripts.specs.Trees.{ServantSaid}
 use Rattle.dynamic_servants.specs.Outcome.{Served}
 use Rattle.dynamic_servants.specs.Served.{served_by, served_of}

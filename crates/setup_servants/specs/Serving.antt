@@ -9,7 +9,7 @@ use Rattle.adapter_policies.specs.declared.object_spec.ObjectSpec.{ObjectSpec}
 use Rattle.dynamic_servants.specs.Outcome.{Served, target_of}
 
 -- there is no servant of an object's interface
-abbrev pub is_unserved : Served → ObjectSpec → Bool
+unfoldable pub is_unserved : Served → ObjectSpec → Bool
 is_unserved served o = not (is_some (target_of served o.interface))
 
 -- the first object that no servant serves, as a fault at its interface

@@ -11,6 +11,7 @@ use dynamic_servants::Servants;
 use std::alloc::Global;
 
 /// Whether no servant serves the interface of an object.
+#[tactic(auto, unfolding(crate::specs::Serving::is_unserved))]
 fn is_unserved(servants: &Servants, object: &ObjectSpec) -> bool
     ensures { result ≡ Spec.is_unserved (served_of servants.now) object.now }
 {
