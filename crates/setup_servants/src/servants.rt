@@ -46,10 +46,10 @@ fn check_script(
     }
 }
 
-/// The servants of a setup: those that its scripts give its interfaces, and that of the built-in interface. The files that the
-/// setup names are of at most 1,048,576 bytes each, and where it names none the text is empty. Each of its objects is served. The
-/// first fault is told in the order of work: of the interfaces, of the scripts, of their check, of the objects. Work and memory grow
-/// with the texts, and with what they declare.
+/// The servants of a setup: those that its scripts give its interfaces, and that of the built-in interface. Each text is that of
+/// the file that the setup names, of at most 1,048,576 bytes, or the empty one where it names none; and each object of the setup
+/// is of an interface that they serve. The first fault is told in the order of work, as `ServingFault` has it. Work and memory
+/// grow with the texts and with what they declare, and each object costs a look-up and a comparison of numbers for each servant.
 #[tactic(auto, using(crate::proofs::Ends::both_read, crate::proofs::Ends::scripts_not, crate::proofs::Ends::interfaces_not))]
 pub fn servants_of<F: Files>(
     alloc: Global,
