@@ -1,0 +1,3 @@
+pub mod HeardSoFar
+pub mod Hearers
+pub mod Laws
