@@ -1,3 +1,9 @@
 pub mod Streams
 pub mod Growth
 pub mod Feeds
+pub mod Inputs
+pub mod HeardCalls
+pub mod TwoReads
+pub mod PieceRuns
+pub mod ReadRuns
+pub mod StreamRuns

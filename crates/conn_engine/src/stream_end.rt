@@ -1,0 +1,15 @@
+//! How the run of a stream came out.
+
+use crate::read_end::ReadEnd;
+
+/// How the run of a stream came out.
+#[derive(Clone, Copy, Debug, PartialEq, Eq)]
+pub enum StreamEnd {
+    /// Each call of what was read was made and everything owed was written: the reading came out so.
+    Ended(ReadEnd),
+    /// A limit of the run was met, behind which nothing was read: the later calls were dropped, and CloseConnection was written at
+    /// the end.
+    Closed,
+    /// A write failed, behind which nothing was read.
+    WriteFault,
+}
