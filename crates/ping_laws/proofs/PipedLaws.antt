@@ -26,7 +26,6 @@ use Rattle.thread_borrowing.specs.declared.doing.Doing.TheVariants.{Free}
 use Rattle.lane_machine.specs.State.{State}
 use Rattle.lane_machine.specs.Machine.{step, is_over}
 use Rattle.lane_machine.specs.Readiness.{owed}
-use Rattle.turn_cell.specs.declared.entry.Entry.{Entry}
 use Rattle.lane_machine.specs.Histories.{History, replay, IsLegal}
 use Rattle.ping_laws.specs.declared.laws.TheConstants.{MAX_PINGS}
 use Rattle.ping_laws.specs.Setup.{IsKnown, IsRunnable, opened}
@@ -43,13 +42,10 @@ use Rattle.text_streams.specs.Streams.{Gave, GaveFew, WroteText, WroteSome}
 use Rattle.text_streams.proofs.CallerLemmas.{wrote_start, wrote_nothing, wrote_behind}
 use Rattle.ping_laws.proofs.CanOpen.{opens_free}
 use Rattle.ping_laws.proofs.HearingLaws.{jobs_of}
-use Rattle.lane_driver.specs.Driving.{run_at as at}
+use Rattle.lane_driver.specs.Driving.{run_at as at, entry}
 use Rattle.ping_laws.proofs.PipeRuns.{idle, Grouped}
 
 -- ---- the end of the connection
-
-abbrev entry : LaneCall → LaneReply → Entry State LaneCall LaneReply
-entry call answer = record { caller = 0; call = call; reply = answer }
 
 abbrev settled : State → ℕ → ℕ → Bool → State
 settled base c b closing = record (with_thread base Free c b) { closing = closing }
