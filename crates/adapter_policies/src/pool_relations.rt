@@ -1,5 +1,6 @@
 //! What holds within the pool and the server of a configuration.
-ghost use Rattle.std.specs.Prelude.{◌≡◌, ◌+◌, ◌*◌, ◌/◌, ◌&&◌, ◌==◌, ◌≤◌, nat_lt, not, None, map, position, sum_by};
+ghost use Rattle.std.specs.Prelude.{◌≡◌, ◌+◌, ◌*◌, ◌/◌, ◌&&◌, ◌==◌, ◌≤◌, ◌↔◌, IsTrue, nat_lt, not, None, map, position, sum_by};
+ghost use Rattle.orb_base.specs.Pool.{HasSlots};
 ghost use Rattle.config_tables.specs.Fault.{Judged};
 ghost use Rattle.adapter_policies.specs.PoolRelations.{is_above, out_of_order, is_idle, pool_threads, slots_of, per_slot_of, lane_order_fault, no_thread_fault, thread_count_fault, slot_limit_fault, borrowing_fault};
 
@@ -9,6 +10,7 @@ use crate::refusals::{refuse_entry, refuse_entry_key, refuse_where};
 use crate::server::ServerTable;
 use config_tables::{ConfigCause, SetupError};
 use orb_base::Priority;
+use orb_base::limits::{MAX_CONNECTIONS, MAX_SLOTS};
 use std::alloc::Global;
 
 /// Judges that each lane's priority is above that of the lane before it.
@@ -177,4 +179,14 @@ fn share_of(slots: u8) -> u8
         0 => 0,
         _ => 128 / slots,
     }
+}
+
+/// Whether a run may open with so many slots, and so many connections in each.
+pub fn are_slots(slots: u8, per_slot: u8) -> bool
+    ensures { IsTrue result ↔ HasSlots slots per_slot }
+{
+    1 <= slots
+        && slots <= MAX_SLOTS
+        && 1 <= per_slot
+        && u16::from(slots) * u16::from(per_slot) <= MAX_CONNECTIONS
 }

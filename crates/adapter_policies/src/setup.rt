@@ -1,7 +1,7 @@
 //! Setups.
 ghost use Rattle.std.specs.Prelude.{◌≡◌, ◌<◌, ◌≤◌, ◌+◌, ◌^◌, ◌∷◌, [], IfOk, length, slice_get};
 ghost use Rattle.std.specs.Option.{option_copied};
-ghost use Rattle.orb_base.specs.Pool.{IsWellFormed};
+ghost use Rattle.orb_base.specs.Pool.{IsWellFormed, HasSlots};
 ghost use Rattle.adapter_policies.specs.BuiltIn.{built_in};
 ghost use Rattle.adapter_policies.specs.Index.{number_from};
 ghost use Rattle.adapter_policies.specs.MapRelations.{priority_map};
@@ -14,7 +14,7 @@ use crate::document::Document;
 use crate::index::indexed;
 use crate::making::{adapters_made, objects_made, pool_made};
 use crate::object_spec::ObjectSpec;
-use crate::pool_relations::{per_slot_of, slots_of};
+use crate::pool_relations::{are_slots, per_slot_of, slots_of};
 use crate::publishing::reference_of;
 use object_refs::Ior;
 use orb_base::{NoMemory, PoolSpec, Text};
@@ -41,7 +41,7 @@ pub struct Setup {
 
 impl Model for Setup {
     ghost use Rattle.std.specs.Prelude.{◌≤◌, length};
-    ghost use Rattle.orb_base.specs.Pool.{IsWellFormed};
+    ghost use Rattle.orb_base.specs.Pool.{IsWellFormed, HasSlots};
     ghost use Rattle.adapter_policies.specs.Index.{IsIndexed};
     ghost use Rattle.adapter_policies.specs.SetupData.{SetupData};
 
@@ -58,7 +58,7 @@ impl Model for Setup {
       objects = s.objects.items;
     } };
 
-    ghost invariant = { λ s. IsIndexed s.numbers 0 s.objects.items × (length s.objects.items ≤ 1024) × IsWellFormed s.pool };
+    ghost invariant = { λ s. IsIndexed s.numbers 0 s.objects.items × (length s.objects.items ≤ 1024) × IsWellFormed s.pool × HasSlots s.slots s.per_slot };
 }
 
 impl Setup {
@@ -129,14 +129,16 @@ impl Setup {
 
     /// How many slots serve connections, 1 to 16.
     pub fn slots(&self) -> u8
-        ensures { result ≡ self.now.slots }
+        ensures value { result ≡ self.now.slots }
+        ensures open { HasSlots result self.now.per_slot }
     {
         self.slots
     }
 
-    /// How many connections each slot serves, 1 to 128.
+    /// How many connections each slot serves: at least 1, and with all slots together at most 128.
     pub fn per_slot(&self) -> u8
-        ensures { result ≡ self.now.per_slot }
+        ensures value { result ≡ self.now.per_slot }
+        ensures open { HasSlots self.now.slots result }
     {
         self.per_slot
     }
@@ -174,7 +176,8 @@ impl Setup {
     }
 }
 
-/// The setup that a document describes, with the defaults of what it doesn't say.
+/// The setup that a document describes, with the defaults of what it doesn't say. That its pool and its slots can be opened
+/// is tested once more.
 pub fn setup_made(alloc: Global, document: Document, mapping: Map) -> Result<Setup, NoMemory>
     requires { mapping ≡ priority_map document.mapping }
     ensures { IfOk result (λ s. s ≡ setup_of document) }
@@ -189,14 +192,19 @@ pub fn setup_made(alloc: Global, document: Document, mapping: Map) -> Result<Set
         document.adapters.as_slice(),
         document.objects.as_slice(),
     )?;
+    let slots = slots_of(document.server);
+    let per_slot = per_slot_of(document.server);
+    if !are_slots(slots, per_slot) {
+        return Err(NoMemory);
+    }
     let numbers = indexed(alloc, objects.as_slice())?;
     Ok(Setup {
         idl: document.idl,
         scripts: document.scripts,
         mapping,
         pool,
-        slots: slots_of(document.server),
-        per_slot: per_slot_of(document.server),
+        slots,
+        per_slot,
         adapters,
         objects,
         numbers,

@@ -5,11 +5,10 @@ use Rattle.std.proofs.lemmas.Option.{same_Some}
 use Rattle.orb_base.specs.Span.{Span}
 use Rattle.orb_base.specs.declared.conn_id.ConnId.{ConnId}
 use Rattle.orb_base.specs.declared.limits.TheConstants.{MAX_MESSAGE}
+use Rattle.giop_frames.proofs.Grows.{nothing_said}
 use Rattle.giop_frames.specs.Feeds.{Feed, said, Tells, Adds}
 use Rattle.giop_frames.specs.Messages as Frames
-use Rattle.giop_frames.specs.Pieces.{cut}
-use Rattle.giop_frames.specs.Messages.{unfinished}
-use Rattle.giop_frames.specs.Stream.{Said, stream, said_behind, rest_with, tail_rest}
+use Rattle.giop_frames.specs.Stream.{Said, stream}
 use Rattle.giop_frames.specs.declared.fault.FeedFault.{FeedFault}
 use Rattle.giop_frames.specs.declared.fault.FeedFault.TheVariants as feed
 use Rattle.giop_frames.specs.declared.fault.FrameFault.{FrameFault}
@@ -118,14 +117,10 @@ frames_if (Err e) result f f' whole whole' is going same none tells = tt
 
 -- ---- the first byte is still to come
 
-nothing_said : stream MAX_MESSAGE [] ≡ record { messages = []; rest = None; bad = None }
-unfolding stream cut said_behind unfinished rest_with tail_rest
-nothing_said = refl
-
 pub new_hearing : (h : Hearer) → h.framer ≡ record { limit = MAX_MESSAGE; fed = []; lacked = false; kept = 0 } → h.band ≡ None → h.made ≡ 0 → h.calls ≡ [] → IsNew h.setup h.conn h
 new_hearing h framer band made given =
     let none : h.framer.fed ≡ [] = ap (λ (f : Feed). f.fed) framer in
-    let says : stream MAX_MESSAGE h.framer.fed ≡ record { messages = []; rest = None; bad = None } = ap (stream MAX_MESSAGE) none ∙ nothing_said in
+    let says : stream MAX_MESSAGE h.framer.fed ≡ record { messages = []; rest = None; bad = None } = ap (stream MAX_MESSAGE) none ∙ nothing_said MAX_MESSAGE in
     record {
       setup_is = refl;
       conn_is = refl;

@@ -13,7 +13,7 @@ use Rattle.heard_calls.specs.declared.ending.Ending.{Ending}
 use Rattle.heard_calls.proofs.OneMeaning.{hears_one, goes_on}
 use Rattle.conn_engine.specs.HeardSoFar.{decided}
 use Rattle.conn_engine.specs.Laws.{GrowsBy, HeardIsOne, HearingGrows}
-use Rattle.conn_engine.proofs.Streams.{Grows, stream_grows}
+use Rattle.giop_frames.proofs.Grows.{Grows, stream_grows}
 
 pub heard_is_one : HeardIsOne
 heard_is_one setup conn bytes a b first second h k =

@@ -1,9 +1,7 @@
-pub mod Streams
 pub mod Growth
 pub mod Feeds
 pub mod Inputs
 pub mod HeardCalls
-pub mod TwoReads
 pub mod PieceRuns
 pub mod ReadRuns
 pub mod StreamRuns

@@ -1,6 +1,6 @@
 -- All reads of a run, from the first one to the one with which it stops.
 use Rattle.std.proofs.Common.{◌≡◌, inl, inr, ℕ, ◌+◌, ◌≤◌, ◌<◌, Bool, true, false, List, [], ◌++◌, length, take, Option, Some, None, Ok, Err, refl, sym, ap, ◌∙◌, subst, arith, append-nil, length-append, length-take}
-use Rattle.std.specs.Prelude.{◌==◌, if◌then◌else◌, option_map, IfSome}
+use Rattle.std.specs.Prelude.{◌==◌, option_map, IfSome}
 use Rattle.std.proofs.lemmas.Bool.Decides.{nat_tests}
 use Rattle.std.proofs.lemmas.List.{take-append-le}
 use Rattle.orb_base.specs.Outside.{Told, SourceState, SinkState, Rose}
@@ -11,7 +11,7 @@ use Rattle.orb_base.specs.declared.no_memory.NoMemory.{NoMemory}
 use Rattle.lane_machine.specs.declared.call.LaneCall.{LaneCall}
 use Rattle.lane_machine.specs.Histories.{History}
 use Rattle.lane_machine.specs.State.{State}
-use Rattle.text_streams.specs.Streams.{Gave}
+use Rattle.text_streams.specs.Streams.{Gave, MeetsEnd}
 use Rattle.text_streams.proofs.CallerLemmas.{gave_start, gave_step, gave_same}
 use Rattle.adapter_policies.specs.SetupData.{SetupData}
 use Rattle.pipe_laws.specs.Groups.{Group}
@@ -28,13 +28,13 @@ use Rattle.conn_engine.specs.HeardSoFar.{HeardSoFar}
 use Rattle.conn_engine.specs.Hearers.{Hearer, IsGoing, IsNew, FeedsOn}
 use Rattle.conn_engine.specs.Ends.{read_end}
 use Rattle.conn_engine.specs.Pieces.{RunsPiece}
-use Rattle.conn_engine.specs.Reads.{MeetsEnd, Takes, ReadsOn, RanReads, BegunReads, ReadsBytes, ReadsStream}
+use Rattle.conn_engine.specs.Reads.{Takes, ReadsOn, RanReads, BegunReads, ReadsBytes, ReadsStream}
 use Rattle.conn_engine.specs.declared.read_end.ReadEnd.{ReadEnd}
 use Rattle.conn_engine.specs.declared.read_end.ReadEnd.TheVariants as read
 use Rattle.conn_engine.specs.declared.read_end.TheConstants.{MAX_TAKEN, READ_LEN}
 use Rattle.conn_engine.specs.declared.reading.Reading.{Reading}
 use Rattle.conn_engine.specs.declared.reading.Reading.TheVariants.{Over, Closing, Stopped}
-use Rattle.conn_engine.proofs.TwoReads.{fed_both, stopped_both, began_both}
+use Rattle.lane_driver.proofs.TwoReads.{fed_both, stopped_both, began_both}
 
 -- the reading goes on: what was taken was heard, and its calls were made, of which none met a limit of the run
 pub record ReadSoFar (setup : SetupData) (batch : ℕ) (outcome : Servant) (h : Hearer) (count : ℕ) (s s' : State) (room room' : ℕ) (old new : SourceState)

@@ -3,14 +3,14 @@ use Rattle.std.proofs.Common.{◌≡◌, inl, inr, ℕ, Bool, true, false, List,
 use Rattle.std.specs.Prelude.{◌⊎◌}
 use Rattle.orb_base.specs.JobRecord.{JobRecord}
 use Rattle.orb_base.specs.Outside.{SourceState, SinkState, Rose}
-use Rattle.orb_base.specs.Pool.{IsWellFormed}
+use Rattle.orb_base.specs.Pool.{IsWellFormed, HasSlots}
 use Rattle.orb_base.specs.declared.outcome.Outcome.{Outcome}
 use Rattle.orb_base.specs.declared.no_memory.NoMemory.{NoMemory}
 use Rattle.lane_machine.specs.declared.call.How.{How}
 use Rattle.lane_machine.specs.declared.call.How.TheVariants.{Shut}
 use Rattle.lane_machine.specs.declared.call.LaneCall.{LaneCall}
 use Rattle.lane_machine.specs.Histories.{History}
-use Rattle.lane_machine.specs.State.{State, HasSlots, opening}
+use Rattle.lane_machine.specs.State.{State, opening}
 use Rattle.text_streams.specs.Faults.{NoneFailed}
 use Rattle.text_streams.proofs.CallerLemmas.{gave_start}
 use Rattle.adapter_policies.specs.SetupData.{SetupData}

@@ -1,11 +1,11 @@
 -- What becomes of all reads of a run: own profile.
-use Rattle.std.specs.Prelude.{◌≡◌, ◌⊎◌, ◌≤◌, ◌++◌, ℕ, Bool, true, false, List, [], length, Option, None, IfSome, Result, Ok, Err}
-use Rattle.orb_base.specs.Outside.{SourceState, SinkState, Rose}
+use Rattle.std.specs.Prelude.{◌≡◌, ◌⊎◌, ◌≤◌, ◌++◌, ℕ, Bool, true, false, List, [], length, Option, None, Result, Ok, Err}
+use Rattle.orb_base.specs.Outside.{SourceState, SinkState}
 use Rattle.orb_base.specs.declared.no_memory.NoMemory.{NoMemory}
 use Rattle.lane_machine.specs.declared.call.LaneCall.{LaneCall}
 use Rattle.lane_machine.specs.Histories.{History}
 use Rattle.lane_machine.specs.State.{State}
-use Rattle.text_streams.specs.Streams.{Gave}
+use Rattle.text_streams.specs.Streams.{Gave, MeetsEnd}
 use Rattle.text_streams.specs.Faults.{NoneFailed, ReadFailed, WriteFailed}
 use Rattle.adapter_policies.specs.SetupData.{SetupData}
 use Rattle.pipe_laws.specs.Groups.{folded}
@@ -20,11 +20,6 @@ use Rattle.conn_engine.specs.declared.read_end.ReadEnd.TheVariants as read
 use Rattle.conn_engine.specs.declared.read_end.TheConstants.{MAX_TAKEN, READ_LEN}
 use Rattle.conn_engine.specs.declared.reading.Reading.{Reading}
 use Rattle.conn_engine.specs.declared.reading.Reading.TheVariants.{Over, Closing, Stopped}
-
--- a read has answered the end of the input, behind which nothing is left, or none has
-abbrev pub MeetsEnd : Bool → SourceState → SourceState → Type 0
-MeetsEnd true old new = Rose old.ends new.ends × IfSome new.left (λ rest. rest ≡ [])
-MeetsEnd false old new = new.ends ≡ old.ends
 
 -- these bytes were taken, those of the last read behind the earlier ones
 pub record Takes (old new : SourceState) (earlier bytes : List ℕ) (ended : Bool) : Type 0 where

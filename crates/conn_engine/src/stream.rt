@@ -1,6 +1,5 @@
 //! The run of a stream.
 ghost use Rattle.std.specs.Prelude.{◌≡◌, ◌≤◌, []};
-ghost use Rattle.lane_machine.specs.State.{HasSlots};
 ghost use Rattle.pipe_laws.specs.Lacking.{served};
 ghost use Rattle.lane_driver.specs.Driving.{IsBetween, Drives};
 ghost use Rattle.conn_engine.specs.Ends.{finishing};
@@ -62,7 +61,6 @@ pub fn run_stream<I: Source, O: Sink, S: Serving>(
     source: &mut I,
     sink: &mut O,
 ) -> Result<StreamEnd, NoMemory>
-    requires slots { HasSlots setup.now.slots setup.now.per_slot }
     requires batch { 1 ≤ batch }
     ensures { Spec.RunsStream result setup.now (S.outcome servants.now) batch (I.state source.old) (I.state source.new)
         log.old log.new (O.state sink.old) (O.state sink.new) }

@@ -1,26 +1,18 @@
 -- The test of kin tells what bases lead to, since they stand before what is derived from them.
 use Rattle.std.proofs.Common.{◌≡◌, ℕ, ◌≤◌, suc, zero, Bool, true, false, ◌||◌, List, [], ◌∷◌, length, Option, Some, None, ◌↔◌, inl, inr, refl, sym, ap, ◌∙◌, arith}
-use Rattle.std.specs.Prelude.{◌==◌, IsTrue}
-use Rattle.std.specs.Option.{option_map_or, option_and_then}
+use Rattle.std.specs.Prelude.{IsTrue}
 use Rattle.std.specs.List.{list_any}
 use Rattle.std.specs.Str.{bytes_eq}
-use Rattle.std.proofs.lemmas.Bool.{and_parts, and_from, or_cases, or_left, or_right, eqb-true, both_ways}
+use Rattle.std.proofs.lemmas.Bool.{and_parts, and_from, or_cases, or_left, or_right}
 use Rattle.std.proofs.lemmas.Option.{same_Some, slice_get_within}
-use Rattle.std.proofs.lemmas.Slice.Eq.{bytes_eq-Decides}
-use Rattle.idl_types.specs.Things.{Thing, constant, named, exception, interface, id_of, bases_of}
-use Rattle.idl_types.specs.Finding.{has_id, place_named, thing_named, as_interface, is_interface, bases_named, object_id, Descends, IsA}
+use Rattle.idl_types.specs.Things.{Thing, id_of}
+use Rattle.idl_types.specs.Finding.{has_id, place_named, is_interface, bases_named, object_id, Descends, IsA}
 use Rattle.idl_types.specs.Sound.{are_based}
 use Rattle.idl_types.specs.Bases.{is_place, bases_at, is_base_at}
 use Rattle.idl_types.specs.Walk.{Trail}
-use Rattle.idl_types.proofs.Places.{at_place, found_at, any_among, any_more}
-use Rattle.idl_types.proofs.Descent.{has_place, lower, descends_by_places, no_descent}
+use Rattle.idl_types.proofs.Places.{at_place, any_among, any_more}
+use Rattle.idl_types.proofs.Descent.{same_name, own_name, bases_placed, has_place, asked_place, lower, descends_by_places, no_descent}
 use Rattle.dynamic_servants.specs.Kin.{leads_within, is_one_of}
-
-same_name : (a b : List ℕ) → bytes_eq a b ≡ true → a ≡ b
-same_name a b e = (bytes_eq-Decides a b).0 e
-
-own_name : (a : List ℕ) → bytes_eq a a ≡ true
-own_name a = (bytes_eq-Decides a a).1 refl
 
 -- ---- what the test finds is there
 
@@ -36,23 +28,6 @@ leads_there (suc n) ts id other e =
     ]
 
 -- ---- what is there is found
-
-bases_seen : (o : Option Thing) → option_map_or (λ i. i.bases) (option_and_then as_interface o) [] ≡ option_map_or bases_of o []
-bases_seen None = refl
-bases_seen (Some (constant c)) = refl
-bases_seen (Some (named t)) = refl
-bases_seen (Some (exception e)) = refl
-bases_seen (Some (interface i)) = refl
-
-bases_placed : (ts : List Thing) (id : List ℕ) (i : ℕ) → place_named ts id ≡ Some i → bases_named ts id ≡ bases_at ts i
-bases_placed ts id i e = bases_seen (thing_named ts id) ∙ ap (λ (o : Option Thing). option_map_or bases_of o []) (found_at (has_id id) ts i e)
-
-asked_place : (ts : List Thing) (k : ℕ) (id : List ℕ) → is_place ts k id ≡ true → place_named ts id ≡ Some k
-asked_place ts k id e = on (place_named ts id) refl
-  where
-    on : (o : Option ℕ) → place_named ts id ≡ o → place_named ts id ≡ Some k
-    on None is = absurd (both_ways false refl (sym (ap (λ (x : Option ℕ). option_map_or (λ i. i == k) x false) is) ∙ e))
-    on (Some i) is = is ∙ ap Some (eqb-true i k (sym (ap (λ (x : Option ℕ). option_map_or (λ j. j == k) x false) is) ∙ e))
 
 -- one place has one id
 one_id : (ts : List Thing) (id other : List ℕ) (a : ℕ) → place_named ts id ≡ Some a → place_named ts other ≡ Some a → id ≡ other

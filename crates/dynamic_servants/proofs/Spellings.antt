@@ -8,7 +8,7 @@ use Rattle.orb_base.specs.declared.order.Order.{Order}
 use Rattle.cdr_core.specs.Field.{Field, string_fields}
 use Rattle.cdr_core.specs.Writing.{Page, page, written}
 use Rattle.cdr_core.proofs.CallerLemmas.{written_none, written_both}
-use Rattle.cdr_values.specs.Trees.{Kind, words, Value, text, values_of, list_of}
+use Rattle.cdr_values.specs.Trees.{Kind, words, Value, text}
 use Rattle.cdr_values.specs.Spelling.{fields_of, both, behind}
 use Rattle.cdr_values.specs.Writing.{Wrote}
 use Rattle.cdr_values.specs.Kinds.{kind_of, members_view}
@@ -30,10 +30,6 @@ put_said old new None some h = absurd cc
 pub put_unsaid : (asked : Option (List Field)) → is_some asked ≡ false → asked ≡ None
 put_unsaid None none = refl
 put_unsaid (Some fs) none = absurd cc
-
-pub list_of_values : (vs : List Value) → list_of (values_of vs) ≡ vs
-list_of_values [] = refl
-list_of_values (v ∷ vs) = ap (λ ws. v ∷ ws) (list_of_values vs)
 
 -- ---- ids
 

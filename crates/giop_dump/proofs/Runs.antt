@@ -5,9 +5,8 @@ use Rattle.std.proofs.lemmas.Bool.Decides.{nat_tests}
 use Rattle.orb_base.specs.Outside.{Told, SourceState, SinkState, Rose}
 use Rattle.orb_base.specs.declared.no_memory.NoMemory.{NoMemory}
 use Rattle.orb_base.specs.declared.limits.TheConstants.{MAX_MESSAGE}
-use Rattle.giop_frames.specs.Pieces.{cut}
-use Rattle.giop_frames.specs.Messages.{unfinished}
-use Rattle.giop_frames.specs.Stream.{stream, said_behind, tail_rest, rest_with}
+use Rattle.giop_frames.proofs.Grows.{nothing_said}
+use Rattle.giop_frames.specs.Stream.{stream}
 use Rattle.giop_frames.specs.Feeds.{Feed, said}
 use Rattle.giop_dump.specs.declared.refusal.Refusal.{Refusal}
 use Rattle.giop_dump.specs.declared.dump_end.DumpEnd.{DumpEnd}
@@ -31,18 +30,13 @@ pub record DumpsSoFar (f : Feed) (count : ℕ) (s s' : SourceState) (o o' : Sink
   pub no_end : s'.ends ≡ s.ends
   pub writes : o'.faults ≡ o.faults
 
--- nothing was said of no bytes
-nothing_said : stream MAX_MESSAGE [] ≡ record { messages = []; rest = None; bad = None }
-unfolding stream cut said_behind unfinished rest_with tail_rest
-nothing_said = refl
-
 first_text : dump_text [] ≡ []
 unfolding dump_text lines_before
-first_text = ap (λ s. lines_before s.messages) nothing_said
+first_text = ap (λ s. lines_before s.messages) (nothing_said MAX_MESSAGE)
 
 first_sound : refusal_of (dumped []) ≡ None
 unfolding first_refusal
-first_sound = ap refusal_of nothing_said
+first_sound = ap refusal_of (nothing_said MAX_MESSAGE)
 
 pub dump_start : (f : Feed) (s : SourceState) (o : SinkState) → f ≡ record { limit = MAX_MESSAGE; fed = []; lacked = false; kept = 0 } → DumpsSoFar f 0 s s o o
 dump_start f s o is =

@@ -1,18 +1,13 @@
 -- What a dump reads and writes.
-use Rattle.std.specs.Prelude.{◌≡◌, ◌≤◌, ℕ, Bool, true, false, List, [], ◌++◌, Option, Some, None, length, IfSome, Result, Ok, Err}
-use Rattle.orb_base.specs.Outside.{SourceState, SinkState, Rose}
+use Rattle.std.specs.Prelude.{◌≡◌, ◌≤◌, ℕ, Bool, List, ◌++◌, Option, Some, None, length, Result, Ok, Err}
+use Rattle.orb_base.specs.Outside.{SourceState, SinkState}
 use Rattle.orb_base.specs.declared.no_memory.NoMemory.{NoMemory}
 use Rattle.giop_dump.specs.declared.dump_end.DumpEnd.{DumpEnd}
 use Rattle.giop_dump.specs.declared.dump_end.DumpEnd.TheVariants.{Done, Refused, Spent, ReadFault, WriteFault}
 use Rattle.giop_dump.specs.declared.dump_end.TheConstants.{MAX_DUMPED, READ_LEN}
 use Rattle.giop_dump.specs.Ending.{refusal_of, dumped, dump_text, dump_ending}
-use Rattle.text_streams.specs.Streams.{Gave, WroteText}
+use Rattle.text_streams.specs.Streams.{Gave, WroteText, MeetsEnd}
 use Rattle.text_streams.specs.Faults.{NoneFailed, ReadFailed, WriteFailed}
-
--- a read has answered the end, behind which nothing is left, or none has
-abbrev pub MeetsEnd : Bool → SourceState → SourceState → Type 0
-MeetsEnd true old new = Rose old.ends new.ends × IfSome new.left (λ rest. rest ≡ [])
-MeetsEnd false old new = new.ends ≡ old.ends
 
 -- a dump of these bytes ends so, or goes on to read, and all of its text was written
 abbrev pub Ends : Option DumpEnd → List ℕ → Bool → SinkState → SinkState → Type 0

@@ -2,6 +2,7 @@ pub mod Growing
 pub mod Places
 pub mod Heads
 pub mod Ahead
+pub mod Grows
 pub mod Effects
 pub mod Deeds
 pub mod Sealing

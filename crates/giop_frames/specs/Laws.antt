@@ -29,7 +29,7 @@ abbrev pub BeginFrom : ℕ → List Partial → Type 0
 BeginFrom at [] = Unit {0}
 BeginFrom at (u ∷ us) = (at ≤ u.at) × BeginFrom at us
 
--- the rest is the smallest offset at which an unfinished message of these pieces, or what has come of the next one, begins
+-- no unfinished message of these pieces, nor what has come of the next one, begins before the rest
 abbrev pub RestIsLeast : Type 0
 RestIsLeast =
     (at : ℕ) (ps : List Piece) (tail : Piece) (r : ℕ) → ArePieces at ps tail.at → rest_with (unfinished ps) tail ≡ Some r

@@ -36,24 +36,33 @@ has_place ts id there = on (place_named ts id) refl
     on None e = absurd (both_ways false refl (sym (ap (λ (x : Option Thing). is_some (option_and_then as_interface x)) (not_found (has_id id) ts e)) ∙ there))
     on (Some i) e = (i, e)
 
-bases_seen : (o : Option Thing) → option_map_or (λ i. i.bases) (option_and_then as_interface o) [] ≡ option_map_or bases_of o []
+pub bases_seen : (o : Option Thing) → option_map_or (λ i. i.bases) (option_and_then as_interface o) [] ≡ option_map_or bases_of o []
 bases_seen None = refl
 bases_seen (Some (constant c)) = refl
 bases_seen (Some (named t)) = refl
 bases_seen (Some (exception e)) = refl
 bases_seen (Some (interface i)) = refl
 
-bases_placed : (ts : List Thing) (id : List ℕ) (i : ℕ) → place_named ts id ≡ Some i → bases_named ts id ≡ bases_at ts i
+-- the bases that an id names, by its place
+pub bases_placed : (ts : List Thing) (id : List ℕ) (i : ℕ) → place_named ts id ≡ Some i → bases_named ts id ≡ bases_at ts i
 bases_placed ts id i e = bases_seen (thing_named ts id) ∙ ap (λ (o : Option Thing). option_map_or bases_of o []) (found_at (has_id id) ts i e)
 
-same_name : (a b : List ℕ) → bytes_eq a b ≡ true → a ≡ b
+pub same_name : (a b : List ℕ) → bytes_eq a b ≡ true → a ≡ b
 same_name a b e = (bytes_eq-Decides a b).0 e
 
-own_name : (a : List ℕ) → bytes_eq a a ≡ true
+pub own_name : (a : List ℕ) → bytes_eq a a ≡ true
 own_name a = (bytes_eq-Decides a a).1 refl
 
 placed_within : (ts : List Thing) (id : List ℕ) (i : ℕ) → place_named ts id ≡ Some i → i < length ts
 placed_within ts id i e = let h = at_place (has_id id) ts i e in slice_get_within ts i h.0 h.1
+
+-- the place that is asked for
+pub asked_place : (ts : List Thing) (k : ℕ) (id : List ℕ) → is_place ts k id ≡ true → place_named ts id ≡ Some k
+asked_place ts k id e = on (place_named ts id) refl
+  where
+    on : (o : Option ℕ) → place_named ts id ≡ o → place_named ts id ≡ Some k
+    on None is = absurd (both_ways false refl (sym (ap (λ (x : Option ℕ). option_map_or (λ i. i == k) x false) is) ∙ e))
+    on (Some i) is = is ∙ ap Some (eqb-true i k (sym (ap (λ (x : Option ℕ). option_map_or (λ j. j == k) x false) is) ∙ e))
 
 module _ (ts : List Thing) (based : are_based [] ts ≡ true) where
   -- all bases of the thing at a place are interfaces before it
@@ -71,20 +80,12 @@ module _ (ts : List Thing) (based : are_based [] ts ≡ true) where
       let w = placed_within (take a ts) id h.0 h.1 in
       (h.0, ap (λ (xs : List Thing). place_named xs id) (sym (take-append-drop a ts)) ∙ position_front (has_id id) (take a ts) (drop a ts) h.0 h.1, omega (arith, w, length-take a ts))
 
-  -- the place that is asked for
-  asked_place : (k : ℕ) (id : List ℕ) → is_place ts k id ≡ true → place_named ts id ≡ Some k
-  asked_place k id e = on (place_named ts id) refl
-    where
-      on : (o : Option ℕ) → place_named ts id ≡ o → place_named ts id ≡ Some k
-      on None is = absurd (both_ways false refl (sym (ap (λ (x : Option ℕ). option_map_or (λ i. i == k) x false) is) ∙ e))
-      on (Some i) is = is ∙ ap Some (eqb-true i k (sym (ap (λ (x : Option ℕ). option_map_or (λ j. j == k) x false) is) ∙ e))
-
   -- bases go to lower places
   pub lower : (a k : ℕ) → is_base_at ts a k ≡ true → k < a
   lower a k e =
       let h = any_all (is_place ts k) (is_interface (take a ts)) (bases_at ts a) e (all_before a) in
       let p = placed_before a h.0 h.2 in
-      let s : p.0 ≡ k = same_Some p.0 k (sym p.1 ∙ asked_place k h.0 h.1) in
+      let s : p.0 ≡ k = same_Some p.0 k (sym p.1 ∙ asked_place ts k h.0 h.1) in
       omega (arith, s, p.2)
 
   -- a base by its id has a place, and is a base by that
@@ -116,7 +117,7 @@ module _ (ts : List Thing) (based : are_based [] ts ≡ true) where
       record { path = []; leads = same_name id (id_of x.0) x.2 ∙ ap id_of same ∙ sym (same_name other (id_of y.0) y.2) }
   path_of (k ∷ ks) id other a b at to t =
       let h = any_among bytes_eq (is_place ts k) own_name (bases_at ts a) t.0 in
-      let r = path_of ks h.0 other k b (asked_place k h.0 h.1) to t.1 in
+      let r = path_of ks h.0 other k b (asked_place ts k h.0 h.1) to t.1 in
       record { path = h.0 ∷ r.path; leads = (ap (λ (bs : List (List ℕ)). list_any (bytes_eq h.0) bs) (bases_placed ts id a at) ∙ h.2, r.leads) }
 
   pub descends_by_places : (id other : List ℕ) (a b : ℕ) → place_named ts id ≡ Some a → place_named ts other ≡ Some b → Reached (is_base_at ts) a b ↔ Descends ts id other

@@ -1,8 +1,9 @@
 //! Interfaces and what they inherit.
 
 use super::*;
-use crate::samples::{plain_interface, with};
-use orb_base::NoMemory;
+use crate::samples::{interface, longs, of_one, operation, plain_interface, with, word, word_of};
+use cdr_values::IdlType;
+use orb_base::{List, NoMemory};
 use std::alloc::Global;
 use std::test::Fail;
 
@@ -75,6 +76,28 @@ fn bases_lead_along_both_arms_of_a_diamond(rt: HostRuntime) -> Result<(), Fail> 
     Ok(())
 }
 
+/// Whether the operation at an index of an interface has this name.
+fn stands_at(all: &Repository, id: &[u8], at: usize, name: &[u8]) -> bool {
+    match all.interface(id) {
+        Some(interface) => match interface.operations.get(at) {
+            Some(operation) => operation.name.as_slice() == name,
+            None => false,
+        },
+        None => false,
+    }
+}
+
+#[test]
+fn inherited_operations_come_first(rt: HostRuntime) -> Result<(), Fail> {
+    let all = diamond(rt.alloc())?;
+    let names: [&[u8]; 4] = [b"hear", b"left", b"right", b"low"];
+    for (at, name) in names.iter().enumerate() {
+        assert!(rt; stands_at(&all, BOTTOM, at, name), "{at}");
+    }
+    assert!(rt; !stands_at(&all, BOTTOM, 4, b"low"));
+    Ok(())
+}
+
 /// Whether an interface of these bases and operations is taken behind both arms.
 fn takes(alloc: Global, bases: &[&[u8]], names: &[&[u8]]) -> Result<bool, NoMemory> {
     let declaration = plain_interface(alloc, BOTTOM, bases, names)?;
@@ -137,5 +160,47 @@ fn operations_are_found_by_their_names_alone(rt: HostRuntime) -> Result<(), Fail
     }
     let found = all.find_operation(BOTTOM, b"right").ok_or("none")?;
     assert_eq!(rt; found.name.as_slice(), b"right".as_slice());
+    Ok(())
+}
+
+/// `void _set_a(in long a)`
+fn setter(alloc: Global) -> Result<Operation, NoMemory> {
+    let params = longs(alloc, &[b"a"])?;
+    operation(alloc, b"_set_a", None, params)
+}
+
+fn getter(alloc: Global, name: &[u8], kind: IdlType) -> Result<Operation, NoMemory> {
+    operation(alloc, name, Some(kind), List::new(alloc))
+}
+
+/// `attribute long a; readonly attribute octet b;`
+fn attributes(alloc: Global) -> Result<List<Operation>, NoMemory> {
+    let mut list = Vec::new(alloc);
+    list.push(getter(alloc, b"_get_a", IdlType::Long)?)?;
+    list.push(setter(alloc)?)?;
+    list.push(getter(alloc, b"_get_b", IdlType::Octet)?)?;
+    Ok(List::from_vec(list))
+}
+
+fn with_attributes(alloc: Global) -> Result<Repository, NoMemory> {
+    let operations = attributes(alloc)?;
+    of_one(alloc, interface(alloc, ALONE, &[], operations)?)
+}
+
+#[test]
+fn attributes_are_read_and_set(rt: HostRuntime) -> Result<(), Fail> {
+    let all = with_attributes(rt.alloc())?;
+    let get = all.find_operation(ALONE, b"_get_a").ok_or("get")?;
+    assert_eq!(rt; word_of(get.result.as_ref()), "long");
+    assert!(rt; get.params.is_empty());
+    let set = all.find_operation(ALONE, b"_set_a").ok_or("set")?;
+    assert!(rt; set.result.is_none());
+    let param = set.params.get(0).ok_or("param")?;
+    assert_eq!(rt; param.name.as_slice(), b"a".as_slice());
+    assert_eq!(rt; param.way, Way::Input);
+    assert_eq!(rt; word(&param.kind), "long");
+    // The readonly one is only read.
+    assert!(rt; all.find_operation(ALONE, b"_get_b").is_some());
+    assert!(rt; all.find_operation(ALONE, b"_set_b").is_none());
     Ok(())
 }

@@ -210,8 +210,8 @@ impl Repository {
     /// Whether a file may declare this behind what is declared: its types are lawful and no larger than they may be, the
     /// names in them and its id are told apart from all others there, case aside, the id isn't in the module Orb, its
     /// operations have different names, its bases are interfaces that are declared, its operations begin with those that
-    /// these give, and the file's leaves stay within their limit. Work grows with the size of the declaration and of its
-    /// bases.
+    /// these give, and the file's leaves stay within their limit. It is asked before `declare` by who makes declarations
+    /// by hand. Work grows with the size of the declaration and of its bases.
     pub fn accepts(&self, declaration: &Declaration) -> Result<bool, NoMemory>
         ensures { IfOk result (λ b. b ≡ may_declare (things_of self.now) (thing_of declaration.now)) }
     {

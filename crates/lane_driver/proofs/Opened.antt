@@ -1,7 +1,7 @@
 -- A setup opens in a state between two turns.
 use Rattle.std.proofs.Common.{◌≡◌, ℕ, [], refl, sym, subst}
-use Rattle.orb_base.specs.Pool.{Pool, IsWellFormed}
-use Rattle.lane_machine.specs.State.{State, HasSlots, CanOpen, Opens, opening}
+use Rattle.orb_base.specs.Pool.{Pool, IsWellFormed, HasSlots}
+use Rattle.lane_machine.specs.State.{State, CanOpen, Opens, opening}
 use Rattle.pipe_laws.proofs.Standing.{stands_first, reached}
 use Rattle.lane_driver.specs.Driving.{IsBetween}
 

@@ -10,7 +10,7 @@ use Rattle.object_lines.specs.Setups.{GivesSetup}
 use Rattle.object_lines.specs.declared.at_end.AtEnd.{AtEnd}
 use Rattle.object_lines.specs.declared.at_end.AtEnd.TheVariants as end
 use Rattle.orb_base.specs.declared.no_memory.NoMemory.{NoMemory}
-use Rattle.lane_machine.specs.State.{HasSlots}
+use Rattle.orb_base.specs.Pool.{HasSlots}
 use Rattle.lane_machine.specs.Histories.{History}
 use Rattle.heard_calls.specs.declared.ending.Ending.TheVariants.{Ended, Cut, Broken}
 use Rattle.pipe_runs.specs.Pipe.{Pipes, PipesBytes, ReadsWhole, ShowsRun}

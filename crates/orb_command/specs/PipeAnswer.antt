@@ -4,7 +4,7 @@ use Rattle.orb_base.specs.Filing.{FilesState}
 use Rattle.orb_base.specs.Outside.{SourceState, SinkState}
 use Rattle.orb_base.specs.declared.no_memory.NoMemory.{NoMemory}
 use Rattle.giop_messages.specs.declared.refused.Fault.TheVariants as fault
-use Rattle.lane_machine.specs.State.{HasSlots}
+use Rattle.orb_base.specs.Pool.{HasSlots}
 use Rattle.adapter_policies.specs.SetupData.{SetupData}
 use Rattle.object_lines.specs.Serving.{IsWhole, JudgesWhole}
 use Rattle.object_lines.specs.Setups.{GivesSetup}

@@ -1,6 +1,6 @@
 //! What the pipe asks of a setup.
 ghost use Rattle.std.specs.Prelude.{◌↔◌, IsTrue};
-ghost use Rattle.lane_machine.specs.State.{HasSlots};
+ghost use Rattle.orb_base.specs.Pool.{HasSlots};
 
 use orb_base::limits::{MAX_CONNECTIONS, MAX_SLOTS};
 

@@ -1,9 +1,9 @@
 -- The setups that the pipe runs may open, and open with one free thread.
 use Rattle.std.proofs.Common.{◌≡◌, ℕ, Bool, List, [], ◌∷◌, refl, sym, ap, subst, lit≤}
-use Rattle.orb_base.specs.Pool.{Pool, IsWellFormed}
+use Rattle.orb_base.specs.Pool.{Pool, IsWellFormed, HasSlots}
 use Rattle.orb_base.specs.declared.lane_spec.LaneSpec.{LaneSpec}
 use Rattle.thread_borrowing.specs.declared.doing.Doing.TheVariants.{Free}
-use Rattle.lane_machine.specs.State.{HasSlots, State, CanOpen, opening}
+use Rattle.lane_machine.specs.State.{State, CanOpen, opening}
 use Rattle.adapter_policies.specs.BuiltIn.{built_in}
 use Rattle.adapter_policies.specs.SetupData.{SetupData}
 use Rattle.ping_laws.specs.Setup.{HasOneThread, IsSingle, IsRunnable, opened}

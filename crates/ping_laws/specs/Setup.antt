@@ -1,13 +1,13 @@
 -- What the pipe asks of a setup.
 use Rattle.std.specs.Prelude.{◌≡◌, ◌≤◌, ◌*◌, ℕ, false, List, [], ◌∷◌, Option, None, Some, IsSome, slice_get}
 use Rattle.std.specs.Option.{option_map, option_and_then}
-use Rattle.orb_base.specs.Pool.{Pool}
+use Rattle.orb_base.specs.Pool.{Pool, HasSlots}
 use Rattle.orb_base.specs.Priorities.{mandated}
 use Rattle.orb_base.specs.declared.lane_spec.LaneSpec.{LaneSpec}
 use Rattle.adapter_policies.specs.Index.{number_from}
 use Rattle.adapter_policies.specs.SetupData.{AdapterData, SetupData}
 use Rattle.adapter_policies.specs.declared.object_spec.ObjectSpec.{ObjectSpec}
-use Rattle.lane_machine.specs.State.{HasSlots, State, opening}
+use Rattle.lane_machine.specs.State.{State, opening}
 use Rattle.ping_laws.specs.declared.place.Place.{Place}
 use Rattle.priority_maps.specs.Maps.{to_native}
 

@@ -2,12 +2,12 @@
 use Rattle.std.proofs.Common.{◌≡◌, ℕ, Bool, true, false, List, Option, Result, Ok, Err, sym, ap, subst}
 use Rattle.orb_base.specs.JobRecord.{JobRecord}
 use Rattle.orb_base.specs.Outside.{SinkState, Rose}
-use Rattle.orb_base.specs.Pool.{IsWellFormed}
+use Rattle.orb_base.specs.Pool.{IsWellFormed, HasSlots}
 use Rattle.orb_base.specs.declared.outcome.Outcome.{Outcome}
 use Rattle.lane_machine.specs.declared.call.How.{How}
 use Rattle.lane_machine.specs.declared.call.LaneCall.{LaneCall}
 use Rattle.lane_machine.specs.Histories.{History}
-use Rattle.lane_machine.specs.State.{State, HasSlots, opening}
+use Rattle.lane_machine.specs.State.{State, opening}
 use Rattle.adapter_policies.specs.SetupData.{SetupData}
 use Rattle.pipe_laws.specs.Lacking.{served}
 use Rattle.pipe_laws.specs.Legality.{AreHeardCalls}

@@ -1,6 +1,5 @@
 //! The pipe: one connection, read from a source and answered to a sink.
 ghost use Rattle.std.specs.Prelude.{◌≡◌, ◌≤◌, ◌<◌, ◌^◌, [], length, unwrap_or, IfOk, OnErr};
-ghost use Rattle.lane_machine.specs.State.{HasSlots};
 ghost use Rattle.history_lines.specs.Lines.{history_text as history_text_of};
 ghost use Rattle.text_streams.specs.Streams.{WritesAll};
 ghost use Rattle.pipe_runs.specs.Pipe as Spec;
@@ -50,7 +49,6 @@ fn run_as_bytes<O: Sink, S: Serving>(
     sink: &mut O,
     input: &[u8],
 ) -> Result<Piped, NoMemory>
-    requires slots { HasSlots setup.now.slots setup.now.per_slot }
     requires batch { 1 ≤ batch }
     requires few { length input.now < 2 ^ 32 }
     ensures { Spec.Shows result Bytes setup.now (S.outcome servants.now) batch input.now (O.state sink.old) (O.state sink.new) }
@@ -70,7 +68,6 @@ fn run_as_text<O: Sink, S: Serving>(
     sink: &mut O,
     input: &[u8],
 ) -> Result<Piped, NoMemory>
-    requires slots { HasSlots setup.now.slots setup.now.per_slot }
     requires batch { 1 ≤ batch }
     requires few { length input.now < 2 ^ 32 }
     ensures { Spec.Shows result Text setup.now (S.outcome servants.now) batch input.now (O.state sink.old) (O.state sink.new) }
@@ -98,7 +95,6 @@ fn run_shown<O: Sink, S: Serving>(
     sink: &mut O,
     input: &[u8],
 ) -> Result<Piped, NoMemory>
-    requires slots { HasSlots setup.now.slots setup.now.per_slot }
     requires batch { 1 ≤ batch }
     requires few { length input.now < 2 ^ 32 }
     ensures { Spec.Shows result shown setup.now (S.outcome servants.now) batch input.now (O.state sink.old) (O.state sink.new) }
@@ -122,7 +118,6 @@ pub fn pipe_run<I: Source, O: Sink, S: Serving>(
     source: &mut I,
     sink: &mut O,
 ) -> Result<PipeEnd, NoMemory>
-    requires slots { HasSlots setup.now.slots setup.now.per_slot }
     ensures { Spec.Pipes result shown setup.now (S.outcome servants.now) batch (I.state source.old) (I.state source.new)
         (O.state sink.old) (O.state sink.new) }
 {

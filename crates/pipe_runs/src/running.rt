@@ -1,6 +1,5 @@
 //! The run of a whole input.
 ghost use Rattle.std.specs.Prelude.{◌≡◌, ◌≤◌, ◌<◌, ◌^◌, [], length};
-ghost use Rattle.lane_machine.specs.State.{HasSlots};
 ghost use Rattle.pipe_runs.specs.Runs as Spec;
 
 use crate::input_end::{InputEnd, how_of};
@@ -35,7 +34,6 @@ pub fn run_input<O: Sink, S: Serving>(
     sink: &mut O,
     input: &[u8],
 ) -> Result<InputEnd, NoMemory>
-    requires slots { HasSlots setup.now.slots setup.now.per_slot }
     requires batch { 1 ≤ batch }
     requires few { length input.now < 2 ^ 32 }
     ensures { Spec.Runs result setup.now (S.outcome servants.now) batch input.now log.old log.new (O.state sink.old) (O.state sink.new) }

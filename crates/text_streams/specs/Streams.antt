@@ -1,5 +1,5 @@
 -- What a whole read and a whole write do to what a source and a sink tell.
-use Rattle.std.specs.Prelude.{◌≡◌, ◌≤◌, ◌<◌, ◌+◌, ℕ, List, [], ◌++◌, length, option_map, IfSome}
+use Rattle.std.specs.Prelude.{◌≡◌, ◌≤◌, ◌<◌, ◌+◌, ℕ, Bool, true, false, List, [], ◌++◌, length, option_map, IfSome}
 use Rattle.orb_base.specs.Outside.{Told, SourceState, SinkState, Rose}
 use Rattle.text_streams.specs.declared.reading.ReadAll.{ReadAll}
 use Rattle.text_streams.specs.declared.reading.ReadAll.TheVariants as read
@@ -26,6 +26,11 @@ pub record WroteSome (bytes rest : List ℕ) (old new : SinkState) : Type 0 wher
 -- a read has answered the end, behind which nothing is left
 abbrev pub AtEnd : SourceState → SourceState → Type 0
 AtEnd old new = Rose old.ends new.ends × IfSome new.left (λ rest. rest ≡ [])
+
+-- a read has answered the end, or none has
+abbrev pub MeetsEnd : Bool → SourceState → SourceState → Type 0
+MeetsEnd true old new = AtEnd old new
+MeetsEnd false old new = new.ends ≡ old.ends
 
 -- a whole input of at most `limit` bytes was read to its end, or one more than that, or some before a fault
 abbrev pub ReadsAll : ℕ → ReadAll → SourceState → SourceState → Type 0

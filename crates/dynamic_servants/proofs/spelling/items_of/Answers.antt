@@ -2,7 +2,7 @@ use Rattle.std.proofs.Common.{◌≡◌, sym, ap, ◌∙◌}
 use Rattle.cdr_values.specs.Trees.{items, values_of}
 use Rattle.cdr_values.specs.Values.{value_of, values_view}
 use Rattle.script_values.proofs.Trees.{value_of-Items}
-use Rattle.dynamic_servants.proofs.Spellings.{list_of_values}
+use Rattle.script_values.proofs.Lists.{list_of_values}
 use Rattle.dynamic_servants.proofs.spelling.items_of.Goals as goal
 
 pub returns-in-Items : goal.returns-in-Items

@@ -21,7 +21,7 @@ returns-in_err-run_calls g c =
     let p = err_from_is_err_and c.from_residual-in_err-run_calls.result c.from_residual-in_err-run_calls.ensures.1 in
     let d = driven (Err c.in_err-run_calls.field-0.0) c.args.setup.now (g.S.Serving.outcome c.args.servants.now) c.args.batch c.args.input.now c.in_ok-heard.heard.calls.items c.as_slice-calls.result.now
     c.in_ok-heard.heard.ending c.how_of.result c.in_ok-lanes.lanes c.run_calls.new.lanes c.args.log.now c.run_calls.new.log (g.O.Sink.state c.args.sink.now) (g.O.Sink.state c.run_calls.new.sink)
-    c.open.ensures.well_formed c.requires.slots c.in_ok-heard.ensures c.as_slice-calls.ensures c.how_of.ensures c.in_ok-lanes.ensures.value c.in_err-run_calls.ensures
+    c.open.ensures.well_formed c.open.ensures.slots c.in_ok-heard.ensures c.as_slice-calls.ensures c.how_of.ensures c.in_ok-lanes.ensures.value c.in_err-run_calls.ensures
     in
     rw p.1 (inr d)
 
@@ -29,7 +29,7 @@ pub returns-in-Whole : goal.returns-in-Whole
 returns-in-Whole g c =
     let d = driven {E = ⊥} (Ok c.in_ok-run_calls.field-0) c.args.setup.now (g.S.Serving.outcome c.args.servants.now) c.args.batch c.args.input.now c.in_ok-heard.heard.calls.items c.as_slice-calls.result.now
     c.in_ok-heard.heard.ending c.how_of.result c.in_ok-lanes.lanes c.run_calls.new.lanes c.args.log.now c.run_calls.new.log (g.O.Sink.state c.args.sink.now) (g.O.Sink.state c.run_calls.new.sink)
-    c.open.ensures.well_formed c.requires.slots c.in_ok-heard.ensures c.as_slice-calls.ensures c.how_of.ensures c.in_ok-lanes.ensures.value c.in_ok-run_calls.ensures
+    c.open.ensures.well_formed c.open.ensures.slots c.in_ok-heard.ensures c.as_slice-calls.ensures c.how_of.ensures c.in_ok-lanes.ensures.value c.in_ok-run_calls.ensures
     in
     let whole = subst (λ (x : Course). Driven {E = ⊥} (Ok x) c.args.setup.now (g.S.Serving.outcome c.args.servants.now) c.args.batch c.args.input.now c.in_ok-heard.heard.ending c.run_calls.new.lanes
     c.args.log.now c.run_calls.new.log (g.O.Sink.state c.args.sink.now) (g.O.Sink.state c.run_calls.new.sink)) c.in-Whole.is d
@@ -41,7 +41,7 @@ pub returns : goal.returns
 returns g c =
     let d = driven {E = ⊥} (Ok c.in_ok-run_calls.field-0) c.args.setup.now (g.S.Serving.outcome c.args.servants.now) c.args.batch c.args.input.now c.in_ok-heard.heard.calls.items c.as_slice-calls.result.now
     c.in_ok-heard.heard.ending c.how_of.result c.in_ok-lanes.lanes c.run_calls.new.lanes c.args.log.now c.run_calls.new.log (g.O.Sink.state c.args.sink.now) (g.O.Sink.state c.run_calls.new.sink)
-    c.open.ensures.well_formed c.requires.slots c.in_ok-heard.ensures c.as_slice-calls.ensures c.how_of.ensures c.in_ok-lanes.ensures.value c.in_ok-run_calls.ensures
+    c.open.ensures.well_formed c.open.ensures.slots c.in_ok-heard.ensures c.as_slice-calls.ensures c.how_of.ensures c.in_ok-lanes.ensures.value c.in_ok-run_calls.ensures
     in
     subst (λ (x : Course). Driven {E = ⊥} (Ok x) c.args.setup.now (g.S.Serving.outcome c.args.servants.now) c.args.batch c.args.input.now c.in_ok-heard.heard.ending c.run_calls.new.lanes
     c.args.log.now c.run_calls.new.log (g.O.Sink.state c.args.sink.now) (g.O.Sink.state c.run_calls.new.sink)) c.in-Stopped.is d

@@ -1,14 +1,19 @@
--- What a stream says when further bytes follow. These lemmas are those of the dump, under any limit.
+-- What a stream says when further bytes follow, and before the first byte.
 use Rattle.std.proofs.Common.{◌≡◌, ℕ, zero, suc, ◌+◌, ◌-◌, ◌≤◌, Bool, true, false, List, [], ◌++◌, length, take, drop, Option, Some, None, refl, sym, ap, ◌∙◌, subst, cond, arith, append_assoc, append-nil, take-append-drop, length-drop, length-take-le}
 use Rattle.std.specs.Prelude.{nat_le, option_to_list}
 use Rattle.giop_frames.specs.declared.fault.FrameCause.{FrameCause}
 use Rattle.giop_frames.specs.declared.fault.FrameFault.{FrameFault}
-use Rattle.giop_frames.specs.Pieces.{Piece, piece_len, is_whole}
-use Rattle.giop_frames.specs.Messages.{Message, Partial, completed}
-use Rattle.giop_frames.specs.Stream.{Said, header_cause, tail_cause, cause_of, at_end, stopped, or_stopped, with_front, stream}
+use Rattle.giop_frames.specs.Pieces.{Piece, cut, piece_len, is_whole}
+use Rattle.giop_frames.specs.Messages.{Message, Partial, completed, unfinished}
+use Rattle.giop_frames.specs.Stream.{Said, header_cause, tail_cause, cause_of, at_end, stopped, or_stopped, with_front, stream, said_behind, rest_with, tail_rest}
 use Rattle.giop_frames.specs.Running.{ahead, stepped}
 use Rattle.giop_frames.proofs.Ahead.{ahead_piece, ahead_part, ahead_bad, whole_long, long_piece, piece_len_front}
 use Rattle.giop_frames.proofs.Growing.{stream_is}
+
+-- nothing is said of no bytes
+pub nothing_said : (limit : ℕ) → stream limit [] ≡ record { messages = []; rest = None; bad = None }
+unfolding stream cut said_behind unfinished rest_with tail_rest
+nothing_said limit = refl
 
 -- the later saying has all messages of the earlier one, and is the same behind a fault
 pub record Grows (s s' : Said) : Type 0 where
