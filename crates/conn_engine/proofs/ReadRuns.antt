@@ -1,6 +1,6 @@
 -- All reads of a run, from the first one to the one with which it stops.
 use Rattle.std.proofs.Common.{◌≡◌, inl, inr, ℕ, ◌+◌, ◌≤◌, ◌<◌, Bool, true, false, List, [], ◌++◌, length, take, Option, Some, None, Ok, Err, refl, sym, ap, ◌∙◌, subst, arith, append-nil, length-append, length-take}
-use Rattle.std.specs.Prelude.{◌==◌, option_map, IfSome}
+use Rattle.std.specs.Prelude.{◌==◌, if◌then◌else◌, option_map, IfSome}
 use Rattle.std.proofs.lemmas.Bool.Decides.{nat_tests}
 use Rattle.std.proofs.lemmas.List.{take-append-le}
 use Rattle.orb_base.specs.Outside.{Told, SourceState, SinkState, Rose}
