@@ -51,7 +51,8 @@ fields_are : (p : ℕ) → p < 2 ^ 15 → fields_of (number (pos p)) short ≡ S
 unfolding short
 fields_are p fits = rw (lt-ltb p 32768 (omega (arith, fits))) refl
 
-target_is : (s : Served) (h : ServesPing s) → target_of s ping_id ≡ Some (record { id = ping_id; bases = []; operations = built.operations }, ping_servant s.things h.place)
+-- the built-in interface has its own servant
+pub target_is : (s : Served) (h : ServesPing s) → target_of s ping_id ≡ Some (record { id = ping_id; bases = []; operations = built.operations }, ping_servant s.things h.place)
 target_is s h = rw (h.placed, h.thing, h.first, same_place h.place) refl
 
 ran : (p : ℕ) (k : Option Kind) → k ≡ Some short → p < 2 ^ 15 → run p (step (give k priority) no_steps) [] ≡ Ok (returned (number (pos p)), [])

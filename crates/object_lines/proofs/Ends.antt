@@ -1,12 +1,13 @@
 -- What comes of a setup, and of a configuration, by what was read and written.
-use Rattle.std.proofs.Common.{◌≡◌, ℕ, List, Option, refl, inl, inr}
+use Rattle.std.proofs.Common.{◌≡◌, ℕ, List, Option, inl, inr}
 use Rattle.std.specs.Prelude.{Result, Ok, Err}
 use Rattle.orb_base.specs.Filing.{FilesState}
 use Rattle.orb_base.specs.Outside.{SinkState}
 use Rattle.adapter_policies.specs.SetupData.{SetupData}
 use Rattle.object_lines.specs.declared.at_end.AtEnd.{AtEnd}
-use Rattle.object_lines.specs.declared.at_end.AtEnd.TheVariants.{Done, Refused, Absent, TooLong, NotBuilt, ReadFault, WriteFault, NoMemory}
-use Rattle.object_lines.specs.Serving.{IsWhole, JudgesWhole}
+use Rattle.object_lines.specs.declared.at_end.AtEnd.TheVariants.{Done, Refused, Absent, TooLong, Unserved, ReadFault, WriteFault, NoMemory}
+use Rattle.dynamic_servants.specs.declared.servants.Servants.{Servants}
+use Rattle.setup_servants.specs.Servants.{GivesServants}
 use Rattle.object_lines.specs.declared.at_end.TheConstants.{MAX_CONFIG}
 use Rattle.text_streams.specs.Files.{IsFile}
 use Rattle.object_lines.specs.Setups.{GivesSetup, ReadsBytes, ReadsConfig}
@@ -21,38 +22,26 @@ config_read (Err NoMemory) name bytes old new file same h = same
 config_read (Err Done) name bytes old new file same h = absurd h
 config_read (Err Absent) name bytes old new file same h = absurd h
 config_read (Err TooLong) name bytes old new file same h = absurd h
-config_read (Err NotBuilt) name bytes old new file same h = absurd h
+config_read (Err (Unserved f)) name bytes old new file same h = absurd h
 config_read (Err ReadFault) name bytes old new file same h = absurd h
 config_read (Err WriteFault) name bytes old new file same h = absurd h
 
--- the lines of a whole setup
-pub comes_of : (end : AtEnd) (setup : SetupData) (host : List ℕ) (port : ℕ) (out out' : SinkState) → IsWhole setup
-    → WritesLines end (lines_text setup host port) out out' → Comes end setup host port out out'
-comes_of Done setup host port out out' whole h = (whole, h)
-comes_of WriteFault setup host port out out' whole h = (whole, h)
-comes_of NoMemory setup host port out out' whole h = h
-comes_of (Refused f) setup host port out out' whole h = absurd h
-comes_of Absent setup host port out out' whole h = absurd h
-comes_of TooLong setup host port out out' whole h = absurd h
-comes_of NotBuilt setup host port out out' whole h = absurd h
-comes_of ReadFault setup host port out out' whole h = absurd h
-
--- nothing comes of a setup that isn't whole
-pub comes_not : (end : AtEnd) (setup : SetupData) (host : List ℕ) (port : ℕ) (out : SinkState) → JudgesWhole {A = ⊥} (Err end) setup
-    → Comes end setup host port out out
-comes_not Done setup host port out h = absurd h
-comes_not WriteFault setup host port out h = absurd h
-comes_not NoMemory setup host port out h = refl
-comes_not (Refused f) setup host port out h = (h.0, h.1, refl)
-comes_not Absent setup host port out h = absurd h
-comes_not TooLong setup host port out h = absurd h
-comes_not NotBuilt setup host port out h = (h, refl)
-comes_not ReadFault setup host port out h = absurd h
+-- the lines of a setup whose objects are served
+pub comes_of : (end : AtEnd) (setup : SetupData) (host : List ℕ) (port : ℕ) (old new : FilesState) (out out' : SinkState) (s : Servants) → GivesServants (Ok s) setup old new
+    → WritesLines end (lines_text setup host port) out out' → Comes end setup host port old new out out'
+comes_of Done setup host port old new out out' s served h = ((s, served), h)
+comes_of WriteFault setup host port old new out out' s served h = ((s, served), h)
+comes_of NoMemory setup host port old new out out' s served h = ((s, served), h)
+comes_of (Refused f) setup host port old new out out' s served h = absurd h
+comes_of Absent setup host port old new out out' s served h = absurd h
+comes_of TooLong setup host port old new out out' s served h = absurd h
+comes_of (Unserved f) setup host port old new out out' s served h = absurd h
+comes_of ReadFault setup host port old new out out' s served h = absurd h
 
 -- a setup is given, and this comes of it
-pub at_setup : (end : AtEnd) (config : Option (List ℕ)) (setup : SetupData) (host : List ℕ) (port : ℕ) (old new : FilesState) (out out' : SinkState)
-    → GivesSetup (Ok setup) config old new → Comes end setup host port out out' → At end config host port old new out out'
-at_setup end config setup host port old new out out' given comes = inl (setup, given, comes)
+pub at_setup : (end : AtEnd) (config : Option (List ℕ)) (setup : SetupData) (host : List ℕ) (port : ℕ) (old behind new : FilesState) (out out' : SinkState)
+    → GivesSetup (Ok setup) config old behind → behind.files ≡ old.files → Comes end setup host port behind new out out' → At end config host port old new out out'
+at_setup end config setup host port old behind new out out' given kept comes = inl (setup, behind, given, kept, comes)
 
 -- no setup is given
 pub at_none : (end : AtEnd) (config : Option (List ℕ)) (host : List ℕ) (port : ℕ) (old new : FilesState) (out out' : SinkState)

@@ -1,4 +1,3 @@
 pub mod Addresses
 pub mod Setups
-pub mod Serving
 pub mod Lines

@@ -1,21 +1,21 @@
 -- The line of each object of a setup, and what writing the lines comes to: own profile.
-use Rattle.std.specs.Prelude.{◌≡◌, ◌⊎◌, ℕ, List, [], ◌++◌, codes, Option, Some, None, Ok, Err, IsSome, slice_get}
+use Rattle.std.specs.Prelude.{◌≡◌, ◌⊎◌, ℕ, List, [], ◌++◌, codes, Option, Ok, Err, slice_get}
 use Rattle.std.specs.List.{flat_map}
 use Rattle.std.specs.Option.{option_map_or}
 use Rattle.orb_base.specs.Filing.{FilesState}
 use Rattle.orb_base.specs.Outside.{SinkState, Rose}
 use Rattle.object_refs.specs.Reference.{Reference}
 use Rattle.object_refs.specs.References.{stringified}
-use Rattle.config_tables.specs.Fault.{fault_of}
 use Rattle.adapter_policies.specs.Publishing.{reference_of}
 use Rattle.adapter_policies.specs.SetupData.{SetupData}
 use Rattle.adapter_policies.specs.declared.object_spec.ObjectSpec.{ObjectSpec}
+use Rattle.dynamic_servants.specs.declared.servants.Servants.{Servants}
+use Rattle.setup_servants.specs.Servants.{GivesServants}
 use Rattle.text_streams.specs.Shown.{shown}
 use Rattle.text_streams.specs.Streams.{WroteText, WroteFrontOf}
-use Rattle.object_lines.specs.Serving.{IsWhole, unserved_fault}
 use Rattle.object_lines.specs.Setups.{GivesSetup}
 use Rattle.object_lines.specs.declared.at_end.AtEnd.{AtEnd}
-use Rattle.object_lines.specs.declared.at_end.AtEnd.TheVariants.{Done, Refused, NotBuilt, WriteFault, NoMemory}
+use Rattle.object_lines.specs.declared.at_end.AtEnd.TheVariants.{Done, Unserved, WriteFault, NoMemory}
 
 -- a key, and the text of a reference
 abbrev pub line_of : List ℕ → Reference → List ℕ
@@ -36,17 +36,21 @@ WritesLines WriteFault text out out' = WroteFrontOf text out out' × Rose out.fa
 WritesLines NoMemory text out out' = out' ≡ out
 WritesLines _ text out out' = ⊥
 
--- what comes of a setup: its lines where it is whole, else why there are none
-abbrev pub Comes : AtEnd → SetupData → List ℕ → ℕ → SinkState → SinkState → Type 0
-Comes Done setup host port out out' = IsWhole setup × WritesLines Done (lines_text setup host port) out out'
-Comes WriteFault setup host port out out' = IsWhole setup × WritesLines WriteFault (lines_text setup host port) out out'
-Comes (Refused f) setup host port out out' = (setup.idl ≡ None) × (unserved_fault setup ≡ Some (fault_of f)) × (out' ≡ out)
-Comes NotBuilt setup host port out out' = IsSome setup.idl × (out' ≡ out)
-Comes NoMemory setup host port out out' = out' ≡ out
-Comes _ setup host port out out' = ⊥
+-- the objects of a setup are served, by the texts that are in these files
+abbrev pub IsServed : SetupData → FilesState → FilesState → Type 0
+IsServed setup old new = (s : Servants) × GivesServants (Ok s) setup old new
+
+-- what comes of a setup: its lines where its objects are served, else why there are none
+abbrev pub Comes : AtEnd → SetupData → List ℕ → ℕ → FilesState → FilesState → SinkState → SinkState → Type 0
+Comes Done setup host port old new out out' = IsServed setup old new × WritesLines Done (lines_text setup host port) out out'
+Comes WriteFault setup host port old new out out' = IsServed setup old new × WritesLines WriteFault (lines_text setup host port) out out'
+Comes (Unserved f) setup host port old new out out' = GivesServants (Err f) setup old new × (out' ≡ out)
+Comes NoMemory setup host port old new out out' = IsServed setup old new × (out' ≡ out)
+Comes _ setup host port old new out out' = ⊥
 
 -- what comes of the configuration of a name, or of the built-in setup: of its setup, or why there is none
 abbrev pub At : AtEnd → Option (List ℕ) → List ℕ → ℕ → FilesState → FilesState → SinkState → SinkState → Type 0
 At end config host port old new out out' =
-    ((setup : SetupData) × GivesSetup (Ok setup) config old new × Comes end setup host port out out')
+    ((setup : SetupData) × (behind : FilesState) × GivesSetup (Ok setup) config old behind × (behind.files ≡ old.files)
+    × Comes end setup host port behind new out out')
     ⊎ (GivesSetup (Err end) config old new × (out' ≡ out))

@@ -1,6 +1,7 @@
 //! How the lines of objects came out.
 
 use adapter_policies::ConfigFault;
+use setup_servants::ServingFault;
 
 /// The most bytes of a configuration that is read: own profile.
 pub const MAX_CONFIG: usize = 1_048_576;
@@ -10,14 +11,14 @@ pub const MAX_CONFIG: usize = 1_048_576;
 pub enum AtEnd {
     /// The line of each object was written.
     Done,
-    /// The configuration has this first fault, or no servant serves an object of it. Nothing was written.
+    /// The configuration has this first fault. Nothing was written.
     Refused(ConfigFault),
     /// There is no configuration of this name. Nothing was written.
     Absent,
     /// The configuration is longer than `MAX_CONFIG` bytes. Nothing was written.
     TooLong,
-    /// The configuration names files of interfaces and scripts, which aren't read yet. Nothing was written.
-    NotBuilt,
+    /// There are no servants for the objects of the configuration, for this reason. Nothing was written.
+    Unserved(ServingFault),
     /// The store of files failed. Nothing was written.
     ReadFault,
     /// The sink failed. A front of the lines was written.

@@ -6,13 +6,11 @@ mod address;
 mod at_end;
 mod lines;
 mod run;
-mod serving;
 mod setups;
 
 pub use address::{Address, read_address};
 pub use at_end::{AtEnd, MAX_CONFIG};
 pub use run::at_run;
-pub use serving::judge_whole;
 pub use setups::setup_of;
 
 #[cfg(test)]

@@ -54,7 +54,7 @@ fn put_line(
 }
 
 /// The lines of all objects, by number.
-#[tactic(auto, using(crate::proofs::Walks::object_there, crate::proofs::Walks::more_lines, crate::proofs::Walks::all_lines))]
+#[tactic(auto, using(setup_servants::proofs::Walks::object_there, crate::proofs::Walks::more_lines, crate::proofs::Walks::all_lines))]
 fn lines_made(alloc: Global, setup: &Setup, host: &Text, port: u16) -> Result<Octets, NoMemory>
     requires { length host.now + 1 < 2 ^ 32 }
     ensures { IfOk result (λ lines. lines.items ≡ lines_text setup.now host.now port) }

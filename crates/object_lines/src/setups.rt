@@ -13,7 +13,10 @@ pub fn setup_of<F: Files>(
     files: &mut F,
     config: Option<&Text>,
 ) -> Result<Setup, AtEnd>
-    ensures { GivesSetup result (option_map (λ name. name.now) config.entry) (F.state files.old) (F.state files.new) }
+    // The setup, or why there is none.
+    ensures gives { GivesSetup result (option_map (λ name. name.now) config.entry) (F.state files.old) (F.state files.new) }
+    // The store tells the same files as before.
+    ensures kept { (F.state files.new).files ≡ (F.state files.old).files }
 {
     match config {
         Some(name) => read_config(alloc, files, name),
@@ -27,7 +30,8 @@ pub fn setup_of<F: Files>(
 /// The setup of the configuration of this name.
 #[tactic(auto, using(crate::proofs::Ends::config_read))]
 fn read_config<F: Files>(alloc: Global, files: &mut F, name: &Text) -> Result<Setup, AtEnd>
-    ensures { ReadsConfig result name.now (F.state files.old) (F.state files.new) }
+    ensures reads { ReadsConfig result name.now (F.state files.old) (F.state files.new) }
+    ensures kept { (F.state files.new).files ≡ (F.state files.old).files }
 {
     let mut bytes = Octets::new(alloc);
     match files.read(name, MAX_CONFIG, &mut bytes) {

@@ -3,6 +3,7 @@
 use super::*;
 use adapter_policies::ConfigCause;
 use orb_base::{List, MemFile, MemFiles, MemSink, Octets, Text};
+use setup_servants::{ServingFault, TextRole};
 use std::alloc::Global;
 use std::test::*;
 
@@ -88,7 +89,8 @@ fn a_configuration_gives_its_objects(rt: HostRuntime) -> Result<(), Fail> {
 /// Whether a configuration is refused with this cause at this path.
 fn tells(end: AtEnd, cause: ConfigCause, path: &str) -> bool {
     match end {
-        AtEnd::Refused(fault) => fault.cause == cause && fault.path.as_slice() == path.as_bytes(),
+        AtEnd::Refused(fault) | AtEnd::Unserved(ServingFault::Object(fault)) => fault.cause == cause
+            && fault.path.as_slice() == path.as_bytes(),
         _ => false,
     }
 }
@@ -111,10 +113,10 @@ fn a_fault_of_the_configuration_is_told(rt: HostRuntime) -> Result<(), Fail> {
 }
 
 #[test]
-fn interfaces_in_files_are_not_built(rt: HostRuntime) -> Result<(), Fail> {
+fn interfaces_are_read_from_their_file(rt: HostRuntime) -> Result<(), Fail> {
     let mut out = sink(rt.alloc());
     let end = ran(rt.alloc(), FILED, &mut out)?;
-    assert!(rt; matches!(end, AtEnd::NotBuilt));
+    assert!(rt; matches!(end, AtEnd::Unserved(ServingFault::Absent(TextRole::Idl))));
     Ok(())
 }
 

@@ -1,5 +1,5 @@
 -- What a setup comes to, by what its texts give.
-use Rattle.std.proofs.Common.{◌≡◌, ℕ, List, Option, refl, ap, subst, ◌∙◌}
+use Rattle.std.proofs.Common.{◌≡◌, ℕ, List, Option, refl, ap, subst, inl, inr, ◌∙◌}
 use Rattle.std.specs.Prelude.{Result, Ok, Err}
 use Rattle.orb_base.specs.Filing.{File, FilesState}
 use Rattle.adapter_policies.specs.SetupData.{SetupData}
@@ -65,7 +65,7 @@ not_here (fault.Absent role.Scripts) setup r old new idl h = (record { things = 
 not_here (fault.TooLong role.Scripts) setup r old new idl h = (record { things = things_of r; interfaces = idl.0 }, h.0, h.1)
 not_here (fault.Absent role.Idl) setup r old new idl h = absurd h
 not_here (fault.TooLong role.Idl) setup r old new idl h = absurd h
-not_here fault.ReadFault setup r old new idl h = h
+not_here fault.ReadFault setup r old new idl h = (inr h.0, h.1)
 not_here fault.NoMemory setup r old new idl h = h
 not_here (fault.Idl f) setup r old new idl h = absurd h
 not_here (fault.Check f) setup r old new idl h = absurd h
@@ -95,7 +95,7 @@ interfaces_not (fault.Absent role.Idl) setup old new h = h
 interfaces_not (fault.TooLong role.Idl) setup old new h = h
 interfaces_not (fault.Absent role.Scripts) setup old new h = absurd h
 interfaces_not (fault.TooLong role.Scripts) setup old new h = absurd h
-interfaces_not fault.ReadFault setup old new h = h
+interfaces_not fault.ReadFault setup old new h = (inl h.0, h.1)
 interfaces_not fault.NoMemory setup old new h = h
 interfaces_not (fault.Script f) setup old new h = absurd h
 interfaces_not (fault.Check f) setup old new h = absurd h

@@ -10,12 +10,12 @@ use Rattle.dynamic_servants.specs.Outcome.{Served}
 use Rattle.setup_servants.specs.Serving.{is_unserved}
 
 -- what is left of a list begins with what stands there
-left_some : {X : Type 0} (xs : List X) (n : ℕ) (x : X) → slice_get xs n ≡ Some x → drop n xs ≡ x ∷ drop (n + 1) xs
+pub left_some : {X : Type 0} (xs : List X) (n : ℕ) (x : X) → slice_get xs n ≡ Some x → drop n xs ≡ x ∷ drop (n + 1) xs
 left_some xs n x at =
     drop_more xs n x (slice_get_within xs n x at) ∙ ap (λ y. y ∷ drop (n + 1) xs) (get_or_from_slice_get xs n x x at)
 
 -- nothing is left behind the end
-left_none : {X : Type 0} (xs : List X) (n : ℕ) → slice_get xs n ≡ None → drop n xs ≡ []
+pub left_none : {X : Type 0} (xs : List X) (n : ℕ) → slice_get xs n ≡ None → drop n xs ≡ []
 left_none [] zero none = refl
 left_none [] (suc n) none = refl
 left_none (x ∷ xs) zero none = absurd (cc)

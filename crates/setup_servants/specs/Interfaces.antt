@@ -1,5 +1,5 @@
 -- What a setup's text of interfaces declares: own profile.
-use Rattle.std.specs.Prelude.{◌≡◌, ℕ, List, Option, Result, Ok, Err}
+use Rattle.std.specs.Prelude.{◌≡◌, ℕ, List, Option, IsSome, Result, Ok, Err}
 use Rattle.orb_base.specs.Filing.{FilesState}
 use Rattle.orb_base.specs.Outside.{Rose}
 use Rattle.idl_grammar.specs.declared.fault.IdlFault.{IdlFault}
@@ -31,6 +31,6 @@ ReadsInterfaces (Ok r) name old new = InterfacesGive old name (Ok (things_of r))
 ReadsInterfaces (Err (fault.Idl f)) name old new = InterfacesGive old name (Err f) × (new.faults ≡ old.faults)
 ReadsInterfaces (Err (fault.Absent role.Idl)) name old new = IsAbsent old name × (new.faults ≡ old.faults)
 ReadsInterfaces (Err (fault.TooLong role.Idl)) name old new = IsTooLong old name × (new.faults ≡ old.faults)
-ReadsInterfaces (Err fault.ReadFault) name old new = Rose old.faults new.faults
+ReadsInterfaces (Err fault.ReadFault) name old new = IsSome name × Rose old.faults new.faults
 ReadsInterfaces (Err fault.NoMemory) name old new = new.faults ≡ old.faults
 ReadsInterfaces (Err _) name old new = ⊥

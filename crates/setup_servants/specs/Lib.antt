@@ -3,3 +3,4 @@ pub mod Interfaces
 pub mod Scripts
 pub mod Serving
 pub mod Servants
+pub mod Laws

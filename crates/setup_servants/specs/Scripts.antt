@@ -1,5 +1,5 @@
 -- What a setup's text of scripts says: own profile.
-use Rattle.std.specs.Prelude.{◌≡◌, ℕ, List, Option, Result, Ok, Err}
+use Rattle.std.specs.Prelude.{◌≡◌, ℕ, List, Option, IsSome, Result, Ok, Err}
 use Rattle.orb_base.specs.Filing.{FilesState}
 use Rattle.orb_base.specs.Outside.{Rose}
 use Rattle.script_grammar.specs.declared.fault.ScriptFault.{ScriptFault}
@@ -31,6 +31,6 @@ ReadsScripts (Ok s) name old new = ScriptsGive old name (Ok (script_of s)) × (n
 ReadsScripts (Err (fault.Script f)) name old new = ScriptsGive old name (Err f) × (new.faults ≡ old.faults)
 ReadsScripts (Err (fault.Absent role.Scripts)) name old new = IsAbsent old name × (new.faults ≡ old.faults)
 ReadsScripts (Err (fault.TooLong role.Scripts)) name old new = IsTooLong old name × (new.faults ≡ old.faults)
-ReadsScripts (Err fault.ReadFault) name old new = Rose old.faults new.faults
+ReadsScripts (Err fault.ReadFault) name old new = IsSome name × Rose old.faults new.faults
 ReadsScripts (Err fault.NoMemory) name old new = new.faults ≡ old.faults
 ReadsScripts (Err _) name old new = ⊥

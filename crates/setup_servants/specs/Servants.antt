@@ -1,5 +1,5 @@
 -- The servants of a setup, and what there is in place of them: own profile.
-use Rattle.std.specs.Prelude.{◌≡◌, List, Option, Some, None, Result, Ok, Err}
+use Rattle.std.specs.Prelude.{◌≡◌, ◌⊎◌, List, Option, Some, None, IsSome, Result, Ok, Err}
 use Rattle.orb_base.specs.Filing.{FilesState}
 use Rattle.orb_base.specs.Outside.{Rose}
 use Rattle.config_tables.specs.Fault.{Fault, fault_of}
@@ -52,6 +52,10 @@ pub record BothGive (files : FilesState) (setup : SetupData) (answer : Result Se
   pub scripts : ScriptsGive files setup.scripts (Ok said)
   pub serves : Serves answer setup things said
 
+-- the setup names a file for one of its texts
+abbrev pub NamesFile : SetupData → Type 0
+NamesFile setup = IsSome setup.idl ⊎ IsSome setup.scripts
+
 -- the servants of a setup whose texts are in these files, or the first fault in the order of work, and how often a read failed
 abbrev pub GivesServants : Result Servants ServingFault → SetupData → FilesState → FilesState → Type 0
 GivesServants (Ok s) setup old new = BothGive old setup (Ok s) × (new.faults ≡ old.faults)
@@ -66,5 +70,5 @@ GivesServants (Err (fault.Absent role.Scripts)) setup old new =
 GivesServants (Err (fault.TooLong role.Idl)) setup old new = IsTooLong old setup.idl × (new.faults ≡ old.faults)
 GivesServants (Err (fault.TooLong role.Scripts)) setup old new =
     HasInterfaces old setup × IsTooLong old setup.scripts × (new.faults ≡ old.faults)
-GivesServants (Err fault.ReadFault) setup old new = Rose old.faults new.faults
+GivesServants (Err fault.ReadFault) setup old new = NamesFile setup × Rose old.faults new.faults
 GivesServants (Err fault.NoMemory) setup old new = new.faults ≡ old.faults

@@ -1,5 +1,5 @@
 -- The bytes of the texts that a setup may name files for: own profile.
-use Rattle.std.specs.Prelude.{◌≡◌, ◌<◌, ℕ, List, [], length, Option, Some, None, Result, Ok, Err, IfSome, MatchOption}
+use Rattle.std.specs.Prelude.{◌≡◌, ◌<◌, ℕ, List, [], length, Option, Some, None, Result, Ok, Err, IfSome, IsSome, MatchOption}
 use Rattle.orb_base.specs.Filing.{FilesState, content}
 use Rattle.orb_base.specs.Outside.{Rose}
 use Rattle.orb_base.specs.Room.{Room}
@@ -29,6 +29,6 @@ abbrev pub ReadsText : Result (Room ℕ) ServingFault → TextRole → Option (L
 ReadsText (Ok bytes) role name old new = IsText old name bytes.items × (new.faults ≡ old.faults)
 ReadsText (Err (fault.Absent r)) role name old new = (r ≡ role) × IsAbsent old name × (new.faults ≡ old.faults)
 ReadsText (Err (fault.TooLong r)) role name old new = (r ≡ role) × IsTooLong old name × (new.faults ≡ old.faults)
-ReadsText (Err fault.ReadFault) role name old new = Rose old.faults new.faults
+ReadsText (Err fault.ReadFault) role name old new = IsSome name × Rose old.faults new.faults
 ReadsText (Err fault.NoMemory) role name old new = new.faults ≡ old.faults
 ReadsText (Err _) role name old new = ⊥

@@ -4,12 +4,14 @@
 
 mod fault;
 mod interfaces;
+mod laws;
 mod scripts;
 mod servants;
 mod serving;
 mod texts;
 
 pub use fault::{ServingFault, TextRole};
+pub use laws::{built_in_setup_has_servants, built_in_setup_is_served};
 pub use servants::servants_of;
 
 #[cfg(test)]
