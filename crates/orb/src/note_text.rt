@@ -15,6 +15,7 @@ fn role_name(role: Role) -> &'static str {
     match role {
         Role::Config => "config",
         Role::Idl => "idl",
+        Role::Scripts => "scripts",
     }
 }
 
@@ -28,6 +29,8 @@ impl fmt::Display for NoteText<'_> {
                 write!(f, "refused: config: {path}: {}", fault.cause)
             }
             Note::Idl(fault) => write!(f, "refused: idl: {fault}"),
+            Note::Script(fault) => write!(f, "refused: scripts: {fault}"),
+            Note::Check(fault) => write!(f, "refused: scripts: {fault}"),
             Note::TooLong(role) => write!(f, "refused: {}: TooLong", role_name(*role)),
             Note::ReadFault => f.write_str("read fault"),
             Note::WriteFault => f.write_str("write fault"),

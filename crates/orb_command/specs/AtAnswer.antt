@@ -5,8 +5,9 @@ use Rattle.object_lines.specs.Lines.{At}
 use Rattle.object_lines.specs.declared.at_end.AtEnd.{AtEnd}
 use Rattle.object_lines.specs.declared.at_end.AtEnd.TheVariants as end
 use Rattle.orb_command.specs.Moment.{Moment}
+use Rattle.orb_command.specs.ServingNotes.{serving_note}
 use Rattle.orb_command.specs.declared.note.Note.{Note}
-use Rattle.orb_command.specs.declared.note.Note.TheVariants.{Nothing, Config, TooLong, ReadFault, WriteFault, Absent, Memory, NotBuilt}
+use Rattle.orb_command.specs.declared.note.Note.TheVariants.{Nothing, Config, TooLong, ReadFault, WriteFault, Absent, Memory}
 use Rattle.orb_command.specs.declared.note.Role.TheVariants as role
 
 -- the note of a run
@@ -15,7 +16,7 @@ at_note end.Done = Nothing
 at_note (end.Refused fault) = Config fault
 at_note end.Absent = Absent role.Config
 at_note end.TooLong = TooLong role.Config
-at_note end.NotBuilt = NotBuilt
+at_note (end.Unserved fault) = serving_note fault
 at_note end.ReadFault = ReadFault
 at_note end.WriteFault = WriteFault
 at_note end.NoMemory = Memory

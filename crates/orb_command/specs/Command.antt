@@ -4,9 +4,9 @@ use Rattle.command_words.specs.declared.meaning.Meaning.{Meaning}
 use Rattle.command_words.specs.declared.meaning.Meaning.TheVariants.{Pipe, Dump, Refs, RefsAt, Idl, Unbuilt, Unread}
 use Rattle.orb_command.specs.declared.answered.Answered.{Answered}
 use Rattle.orb_command.specs.declared.note.Note.{Note}
-use Rattle.orb_command.specs.declared.note.Note.TheVariants.{Nothing, Usage, Config, Idl as IdlNote, TooLong, ReadFault, WriteFault, Input, Absent, Reference, Memory, Limit, NotBuilt}
-use Rattle.pipe_runs.specs.declared.pipe_end.Piped.{Piped}
-use Rattle.pipe_runs.specs.declared.pipe_end.TheConstants.{MAX_PIPED}
+use Rattle.orb_command.specs.declared.note.Note.TheVariants.{Nothing, Usage, Config, Idl as IdlNote, Script, Check, TooLong, ReadFault, WriteFault, Input, Absent, Reference, Memory, Limit, NotBuilt}
+use Rattle.conn_engine.specs.declared.read_end.TheConstants.{MAX_TAKEN}
+use Rattle.pipe_runs.specs.declared.piped.Piped.{Piped}
 use Rattle.giop_dump.specs.declared.dump_end.TheConstants.{MAX_DUMPED}
 use Rattle.reference_lines.specs.declared.refs_end.TheConstants.{MAX_REFERENCE}
 use Rattle.text_streams.specs.Streams.{GaveFew}
@@ -24,6 +24,8 @@ status_of Nothing = 0
 status_of Usage = 1
 status_of (Config _) = 2
 status_of (IdlNote _) = 2
+status_of (Script _) = 2
+status_of (Check _) = 2
 status_of (TooLong _) = 2
 status_of ReadFault = 3
 status_of WriteFault = 4
@@ -34,9 +36,9 @@ status_of Memory = 12
 status_of Limit = 13
 status_of NotBuilt = 14
 
--- how many bytes are taken at most: of an input of `pipe` or `refs` one more than it may have, so that a longer one is seen
+-- how many bytes are taken at most: of an input of `refs` one more than it may have, so that a longer one is seen
 abbrev pub most_taken : Meaning → ℕ
-most_taken (Pipe words) = MAX_PIPED + 1
+most_taken (Pipe words) = MAX_TAKEN
 most_taken Dump = MAX_DUMPED
 most_taken Refs = MAX_REFERENCE + 2
 most_taken (RefsAt place config) = 0

@@ -1,4 +1,5 @@
 pub mod Moment
+pub mod ServingNotes
 pub mod AtAnswer
 pub mod IdlAnswer
 pub mod PipeAnswer

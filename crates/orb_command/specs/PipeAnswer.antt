@@ -4,59 +4,65 @@ use Rattle.orb_base.specs.Filing.{FilesState}
 use Rattle.orb_base.specs.Outside.{SourceState, SinkState}
 use Rattle.orb_base.specs.declared.no_memory.NoMemory.{NoMemory}
 use Rattle.giop_messages.specs.declared.refused.Fault.TheVariants as fault
-use Rattle.orb_base.specs.Pool.{HasSlots}
 use Rattle.adapter_policies.specs.SetupData.{SetupData}
-use Rattle.object_lines.specs.Serving.{IsWhole, JudgesWhole}
 use Rattle.object_lines.specs.Setups.{GivesSetup}
 use Rattle.object_lines.specs.declared.at_end.AtEnd.{AtEnd}
+use Rattle.dynamic_servants.specs.Outcome.{outcome_of}
+use Rattle.dynamic_servants.specs.Served.{served_of}
+use Rattle.dynamic_servants.specs.declared.servants.Servants.{Servants}
+use Rattle.setup_servants.specs.Servants.{GivesServants}
+use Rattle.setup_servants.specs.declared.fault.ServingFault.{ServingFault}
 use Rattle.heard_calls.specs.declared.ending.Ending.{Ending}
 use Rattle.heard_calls.specs.declared.ending.Ending.TheVariants.{Ended, Cut, Broken}
+use Rattle.conn_engine.specs.declared.read_end.ReadEnd.{ReadEnd}
+use Rattle.conn_engine.specs.declared.read_end.ReadEnd.TheVariants as read
+use Rattle.conn_engine.specs.declared.stream_end.StreamEnd.{StreamEnd}
+use Rattle.conn_engine.specs.declared.stream_end.StreamEnd.TheVariants as stream
 use Rattle.pipe_runs.specs.Pipe.{Pipes}
-use Rattle.pipe_runs.specs.declared.input_end.InputEnd.{InputEnd}
-use Rattle.pipe_runs.specs.declared.input_end.InputEnd.TheVariants as input
-use Rattle.pipe_runs.specs.declared.pipe_end.Piped.{Piped}
-use Rattle.pipe_runs.specs.declared.pipe_end.PipeEnd.{PipeEnd}
-use Rattle.pipe_runs.specs.declared.pipe_end.PipeEnd.TheVariants as pipe
+use Rattle.pipe_runs.specs.declared.piped.Piped.{Piped}
 use Rattle.pipe_runs.specs.declared.shown.Shown.{Shown}
-use Rattle.ping_laws.specs.Ping.{ping_outcome}
 use Rattle.command_words.specs.declared.meaning.PipeWords.{PipeWords}
 use Rattle.orb_command.specs.AtAnswer.{at_note}
 use Rattle.orb_command.specs.Moment.{Moment}
+use Rattle.orb_command.specs.ServingNotes.{serving_note}
 use Rattle.orb_command.specs.declared.note.Note.{Note}
-use Rattle.orb_command.specs.declared.note.Note.TheVariants.{Nothing, ReadFault, WriteFault, Input, Memory, Limit, NotBuilt}
+use Rattle.orb_command.specs.declared.note.Note.TheVariants.{Nothing, ReadFault, WriteFault, Input, Memory, Limit}
 
--- the note of how an input ended
+-- the note of how bytes ended the reading
 abbrev pub note_of_ending : Ending → Note
 note_of_ending Ended = Nothing
 note_of_ending (Cut offset) = Input offset fault.Cut
 note_of_ending (Broken offset cause) = Input offset cause
 
+-- the note of how the reading came out
+abbrev pub note_of_reading : ReadEnd → Note
+note_of_reading (read.Ended ending) = note_of_ending ending
+note_of_reading read.Spent = Limit
+note_of_reading read.ReadFault = ReadFault
+
 -- the note of a run
-abbrev pub note_of_run : InputEnd → Note
-note_of_run (input.Ended ending) = note_of_ending ending
-note_of_run input.Closed = Limit
-note_of_run input.WriteFault = WriteFault
+abbrev pub note_of_run : StreamEnd → Note
+note_of_run (stream.Ended end) = note_of_reading end
+note_of_run stream.Closed = Limit
+note_of_run stream.WriteFault = WriteFault
 
 -- the note of the pipe
-abbrev pub note_of : Result PipeEnd NoMemory → Note
-note_of (Ok (pipe.Ran ran)) = note_of_run ran.end
-note_of (Ok pipe.TooLong) = NotBuilt
-note_of (Ok pipe.ReadFault) = ReadFault
+abbrev pub note_of : Result Piped NoMemory → Note
+note_of (Ok ran) = note_of_run ran.end
 note_of (Err _) = Memory
 
 -- the run of the pipe, if there was one
-abbrev pub piped_of : Result PipeEnd NoMemory → Option Piped
-piped_of (Ok (pipe.Ran ran)) = Some ran
-piped_of (Ok pipe.TooLong) = None
-piped_of (Ok pipe.ReadFault) = None
+abbrev pub piped_of : Result Piped NoMemory → Option Piped
+piped_of (Ok ran) = Some ran
 piped_of (Err _) = None
 
--- the pipe over a setup came out so, and took and wrote accordingly, where the servant is that of `Orb::Ping`
-pub record Ran (shown : Shown) (batch : ℕ) (setup : SetupData) (note : Note) (piped : Option Piped) (old new : SourceState) (out out' : SinkState) : Type 0 where
-  pub answer : Result PipeEnd NoMemory
+-- the pipe over a setup and these servants came out so, and took and wrote accordingly
+pub record Ran (shown : Shown) (batch : ℕ) (setup : SetupData) (servants : Servants) (note : Note) (piped : Option Piped)
+    (old new : SourceState) (out out' : SinkState) : Type 0 where
+  pub answer : Result Piped NoMemory
   pub told : note ≡ note_of answer
   pub kept : piped ≡ piped_of answer
-  pub pipes : Pipes answer shown setup ping_outcome batch old new out out'
+  pub pipes : Pipes answer shown setup (outcome_of (served_of servants)) batch old new out out'
 
 -- nothing was run, nothing was taken and nothing written, for this reason
 pub record Declined (note why : Note) (piped : Option Piped) (old new : SourceState) (out out' : SinkState) : Type 0 where
@@ -65,17 +71,19 @@ pub record Declined (note why : Note) (piped : Option Piped) (old new : SourceSt
   pub input : new ≡ old
   pub output : out' ≡ out
 
--- what comes of a setup: a run where each object is served; without a run, why there is none
-abbrev pub PipesSetup : Shown → ℕ → SetupData → Note → Option Piped → SourceState → SourceState → SinkState → SinkState → Type 0
-PipesSetup shown batch setup note piped old new out out' =
-    (IsWhole setup × HasSlots setup.slots setup.per_slot × Ran shown batch setup note piped old new out out')
-    ⊎ (IsWhole setup × ¬ HasSlots setup.slots setup.per_slot × Declined note NotBuilt piped old new out out')
-    ⊎ ((end : AtEnd) × JudgesWhole {A = ⊥} (Err end) setup × Declined note (at_note end) piped old new out out')
+-- what comes of a setup: a run over the servants that its files give; without them, why there is none. The store tells the same files
+-- as before
+abbrev pub PipesSetup : Shown → ℕ → SetupData → Note → Option Piped → FilesState → FilesState → SourceState → SourceState → SinkState → SinkState → Type 0
+PipesSetup shown batch setup note piped files files' old new out out' =
+    (files'.files ≡ files.files)
+    × (((servants : Servants) × GivesServants (Ok servants) setup files files' × Ran shown batch setup servants note piped old new out out')
+      ⊎ ((why : ServingFault) × GivesServants (Err why) setup files files' × Declined note (serving_note why) piped old new out out'))
 
 -- what comes of the configuration that the words name, or of the built-in setup: of its setup, or why there is none
 abbrev pub PipesBy : PipeWords → Note → Option Piped → FilesState → FilesState → SourceState → SourceState → SinkState → SinkState → Type 0
 PipesBy words note piped files files' old new out out' =
-    ((setup : SetupData) × GivesSetup (Ok setup) words.config files files' × PipesSetup words.shown words.batch setup note piped old new out out')
+    ((setup : SetupData) × (behind : FilesState) × GivesSetup (Ok setup) words.config files behind × (behind.files ≡ files.files)
+    × PipesSetup words.shown words.batch setup note piped behind files' old new out out')
     ⊎ ((end : AtEnd) × GivesSetup (Err end) words.config files files' × Declined note (at_note end) piped old new out out')
 
 -- the same between two moments

@@ -10,6 +10,6 @@ pub struct Answered {
     /// refused, 10 a file that isn't there, 12 want of memory, 13 a limit, 14 not built.
     pub status: u8,
     pub note: Note,
-    /// The run of `pipe`, with its history: exactly where the input was read to its end and run.
+    /// The run of `pipe`, with its history: exactly where the pipe had servants, and memory was not wanting.
     pub piped: Option<Piped>,
 }

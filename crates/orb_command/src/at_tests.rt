@@ -25,17 +25,23 @@ pub fn list<T: Copy>(alloc: Global, items: &[T]) -> Result<List<T>, Fail> {
     Ok(List::from_vec(Vec::from_slice(alloc, items)?))
 }
 
-/// A store of the one file `c`, whose reads of these numbers fail.
-pub fn store(alloc: Global, bytes: Octets, failing: &[u64]) -> Result<MemFiles, Fail> {
-    let name = match Text::new(alloc, b"c") {
+/// Puts a file behind the others.
+pub fn put(files: &mut List<MemFile>, alloc: Global, name: &str, bytes: Octets) -> Result<(), Fail> {
+    let name = match Text::new(alloc, name.as_bytes()) {
         Ok(name) => name,
         Err(_) => return Err(Fail::new("a name")),
     };
-    let mut files = List::new(alloc);
     match files.push(MemFile { name, bytes }) {
-        Ok(()) => Ok(MemFiles::new(files, list(alloc, failing)?)),
-        Err(_) => Err(Fail::new("a store")),
+        Ok(()) => Ok(()),
+        Err(_) => Err(Fail::new("a file")),
     }
+}
+
+/// A store of the one file `c`, whose reads of these numbers fail.
+pub fn store(alloc: Global, bytes: Octets, failing: &[u64]) -> Result<MemFiles, Fail> {
+    let mut files = List::new(alloc);
+    put(&mut files, alloc, "c", bytes)?;
+    Ok(MemFiles::new(files, list(alloc, failing)?))
 }
 
 /// What `refs --at 127.0.0.1:2809` answers with this configuration, and writes; the read of a file and the writes of these numbers
@@ -111,9 +117,9 @@ fn references_at_an_address_have_their_status(rt: HostRuntime) -> Result<(), Fai
         note: "Absent(Config)",
         written: b"",
     };
-    let unbuilt = Want {
-        status: 14,
-        note: "NotBuilt",
+    let without = Want {
+        status: 10,
+        note: "Absent(Idl)",
         written: b"",
     };
     assert!(rt; is_so(alloc, None, OBJECT, &[0], &[], &done)?);
@@ -121,7 +127,7 @@ fn references_at_an_address_have_their_status(rt: HostRuntime) -> Result<(), Fai
     assert!(rt; is_so(alloc, Some("c"), OBJECT, &[0], &[], &unread)?);
     assert!(rt; is_so(alloc, Some("c"), OBJECT, &[], &[1], &unwritten)?);
     assert!(rt; is_so(alloc, Some("d"), OBJECT, &[], &[], &absent)?);
-    assert!(rt; is_so(alloc, Some("c"), FILED, &[], &[], &unbuilt)?);
+    assert!(rt; is_so(alloc, Some("c"), FILED, &[], &[], &without)?);
     Ok(())
 }
 

@@ -27,7 +27,7 @@ fn status_of(note: &Note) -> u8
     match note {
         Note::Nothing => 0,
         Note::Usage => 1,
-        Note::Config(_) | Note::Idl(_) | Note::TooLong(_) => 2,
+        Note::Config(_) | Note::Idl(_) | Note::Script(_) | Note::Check(_) | Note::TooLong(_) => 2,
         Note::ReadFault => 3,
         Note::WriteFault => 4,
         Note::Input(_, _) | Note::Reference(_) => 8,
@@ -67,9 +67,9 @@ fn answered_pipe(told: Told) -> Answered
 }
 
 /// Does all that the program does: reads the words, runs the command over the files, the input and the output, and answers the
-/// status with its note. `pipe` carries out the requests of its input, by the built-in setup, and with `--config FILE` by the
-/// configuration of this name, in groups of one, or with `--batch N` of up to N calls, and writes what is answered, or with
-/// `--history` the text of the run's history; `dump` writes a line for each message of it, and `refs` writes
+/// status with its note. `pipe` carries out the requests of its input while it reads them, by the built-in setup, and with
+/// `--config FILE` by the configuration of this name and the interfaces and scripts that it names, in groups of one, or with
+/// `--batch N` of up to N calls, and writes what is answered, or with `--history` the text of the run's history; `dump` writes a line for each message of it, and `refs` writes
 /// the parts of the reference that it is. `refs --at HOST:PORT` writes the reference of each object of the built-in setup at that
 /// address, and with `--config FILE` of each object of the configuration of this name. `idl --file FILE` lists what the
 /// IDL of the file declares. The other commands aren't built yet. It
@@ -83,10 +83,9 @@ pub fn orb_main<F: Files, I: Source, O: Sink>(
     out: &mut O,
 ) -> Answered
     // The status is that of the note, and each note has its cause, by what the words mean: 1 exactly where they mean no
-    // command, 14 exactly where they mean one that isn't built, an input of `pipe` is longer than 1,048,576 bytes, or a configuration
-    // names files of interfaces; 3 and 4 only where the count of faults of the input, of the files, or of the output rose, and no
-    // other; 8 and 13 of `dump`, and 8 of `refs`, exactly where the bytes that it took say so, and of `pipe` what its history and its
-    // bytes say; 2 and 10 exactly where the file says so.
+    // command, 14 exactly where they mean one that isn't built; 3 only where the count of faults of the input or of the files rose, and
+    // 4 only where that of the output did; 8 and 13 of `dump`, and 8 of `refs`, exactly where the bytes that it took say so, and of
+    // `pipe` what its history and its bytes say; 2 and 10 exactly where the files say so.
     ensures { Answers (command_of string_bytes words.now) result
         (moment (F.state files.old) (I.state input.old) (O.state out.old))
         (moment (F.state files.new) (I.state input.new) (O.state out.new)) }

@@ -113,7 +113,7 @@ fn the_setup_is_that_of_the_configuration(rt: HostRuntime) -> Result<(), Fail> {
     assert!(rt; is_so(alloc, &of(TWO, "c", THREE), 0, "Nothing", THREE_REPLIES)?);
     assert!(rt; is_so(alloc, &of(TWO, "c", b""), 0, "Nothing", b"")?);
     assert!(rt; is_so(alloc, &of(TWO, "c", PONG), 0, "Nothing", NO_OBJECT)?);
-    assert!(rt; is_so(alloc, &of(FILED, "c", PING), 14, "NotBuilt", b"")?);
+    assert!(rt; is_so(alloc, &of(FILED, "c", PING), 10, "Absent(Idl)", b"")?);
     assert!(rt; is_so(alloc, &of(TWO, "d", THREE), 10, "Absent(Config)", b"")?);
     assert!(rt; is_so(alloc, &of(TWO, "-c", THREE), 14, "NotBuilt", b"")?);
     Ok(())

@@ -7,10 +7,8 @@ mod command;
 mod dump_note;
 mod idl_note;
 mod note;
-mod ping;
 mod pipe_note;
 mod refs_note;
-mod setup;
 
 pub use answered::Answered;
 pub use command::orb_main;

@@ -1,21 +1,22 @@
 //! The note of `orb pipe`.
-ghost use Rattle.std.specs.Prelude.{◌≡◌, option_map, None};
+ghost use Rattle.std.specs.Prelude.{◌≡◌, None};
 ghost use Rattle.orb_command.specs.PipeAnswer as Spec;
 
-use crate::at_note::note_at;
+use crate::at_note::{note_at, note_serving};
 use crate::note::Note;
-use crate::ping::Ping;
-use crate::setup::are_slots;
 use adapter_policies::Setup;
 use command_words::PipeWords;
+use conn_engine::{ReadEnd, StreamEnd};
+use dynamic_servants::Servants;
 use giop_messages::Fault;
 use heard_calls::Ending;
-use object_lines::{judge_whole, setup_of};
+use object_lines::setup_of;
 use orb_base::{Files, NoMemory, Sink, Source};
-use pipe_runs::{InputEnd, PipeEnd, Piped, pipe_run};
+use pipe_runs::{Piped, pipe_run};
+use setup_servants::servants_of;
 use std::alloc::Global;
 
-/// The note of how an input ended.
+/// The note of how the bytes ended the reading.
 fn note_of_ending(ending: Ending) -> Note
     ensures { result ≡ Spec.note_of_ending ending }
 {
@@ -26,14 +27,25 @@ fn note_of_ending(ending: Ending) -> Note
     }
 }
 
-/// The note of a run: a write fault goes before how the input ended.
-fn note_of_run(end: InputEnd) -> Note
+/// The note of how the reading came out.
+fn note_of_reading(end: ReadEnd) -> Note
+    ensures { result ≡ Spec.note_of_reading end }
+{
+    match end {
+        ReadEnd::Ended(ending) => note_of_ending(ending),
+        ReadEnd::Spent => Note::Limit,
+        ReadEnd::ReadFault => Note::ReadFault,
+    }
+}
+
+/// The note of a run: a write fault and a limit of the run go before how the reading came out.
+fn note_of_run(end: StreamEnd) -> Note
     ensures { result ≡ Spec.note_of_run end }
 {
     match end {
-        InputEnd::Ended(ending) => note_of_ending(ending),
-        InputEnd::Closed => Note::Limit,
-        InputEnd::WriteFault => Note::WriteFault,
+        StreamEnd::Ended(end) => note_of_reading(end),
+        StreamEnd::Closed => Note::Limit,
+        StreamEnd::WriteFault => Note::WriteFault,
     }
 }
 
@@ -54,50 +66,58 @@ impl Told {
     }
 }
 
-/// The note of the pipe, and its run. An input that is too long so far isn't built.
-fn told_of(ran: Result<PipeEnd, NoMemory>) -> Told
+/// The note of the pipe, and its run.
+fn told_of(ran: Result<Piped, NoMemory>) -> Told
     ensures note { result.note ≡ Spec.note_of ran }
     ensures piped { result.piped ≡ Spec.piped_of ran }
 {
     match ran {
-        Ok(PipeEnd::Ran(piped)) => Told {
+        Ok(piped) => Told {
             note: note_of_run(piped.end),
             piped: Some(piped),
         },
-        Ok(PipeEnd::TooLong) => Told::without_run(Note::NotBuilt),
-        Ok(PipeEnd::ReadFault) => Told::without_run(Note::ReadFault),
         Err(NoMemory) => Told::without_run(Note::Memory),
     }
 }
 
-/// Runs the pipe of a setup, where each of its objects is served, and answers the note and the run.
-#[tactic(auto, using(crate::proofs::PipeNotes::setup_ran, crate::proofs::PipeNotes::setup_not_run, crate::proofs::PipeNotes::setup_not_whole))]
-fn run_setup<I: Source, O: Sink>(
+/// Runs the pipe of a setup over its servants, and answers the note and the run.
+#[tactic(auto, using(crate::proofs::PipeNotes::ran_so))]
+fn run_servants<I: Source, O: Sink>(
     alloc: Global,
+    setup: &Setup,
+    servants: &Servants,
+    words: &PipeWords,
+    input: &mut I,
+    out: &mut O,
+) -> Told
+    ensures { Spec.Ran words.now.shown words.now.batch setup.now servants.now result.note result.piped
+        (I.state input.old) (I.state input.new) (O.state out.old) (O.state out.new) }
+{
+    told_of(pipe_run(alloc, setup, servants, words.batch, words.shown, input, out))
+}
+
+/// Runs the pipe of a setup over the servants that its files give, and answers the note and the run.
+#[tactic(auto, using(crate::proofs::PipeNotes::setup_ran, crate::proofs::PipeNotes::setup_not_run))]
+fn run_setup<F: Files, I: Source, O: Sink>(
+    alloc: Global,
+    files: &mut F,
     setup: &Setup,
     words: &PipeWords,
     input: &mut I,
     out: &mut O,
 ) -> Told
-    ensures { Spec.PipesSetup words.now.shown words.now.batch setup.now result.note result.piped
+    ensures { Spec.PipesSetup words.now.shown words.now.batch setup.now result.note result.piped (F.state files.old) (F.state files.new)
         (I.state input.old) (I.state input.new) (O.state out.old) (O.state out.new) }
 {
-    match judge_whole(alloc, setup) {
-        Ok(()) => {
-            if are_slots(setup.slots(), setup.per_slot()) {
-                let ping = Ping::new(alloc);
-                told_of(pipe_run(alloc, setup, &ping, words.batch, words.shown, input, out))
-            } else {
-                Told::without_run(Note::NotBuilt)
-            }
-        }
-        Err(end) => Told::without_run(note_at(end)),
+    match servants_of(alloc, files, setup) {
+        Ok(servants) => run_servants(alloc, setup, &servants, words, input, out),
+        Err(fault) => Told::without_run(note_serving(fault)),
     }
 }
 
 /// Runs the pipe of the configuration that the words name, or of the built-in setup where they name none, and answers the note and the run. The
-/// first fault in the order of work is told: of the file, of the configuration, of an object that no servant serves, and then of the
-/// run. A configuration that names files of interfaces and scripts isn't built yet.
+/// first fault in the order of work is told: of the file, of the configuration, of its interfaces, of its scripts, of an object that no servant
+/// serves, and then of the run.
 #[tactic(auto, using(crate::proofs::PipeNotes::by_setup, crate::proofs::PipeNotes::by_none))]
 pub fn run_pipe<F: Files, I: Source, O: Sink>(
     alloc: Global,
@@ -110,7 +130,7 @@ pub fn run_pipe<F: Files, I: Source, O: Sink>(
         (I.state input.old) (I.state input.new) (O.state out.old) (O.state out.new) }
 {
     match setup_of(alloc, files, words.config.as_ref()) {
-        Ok(setup) => run_setup(alloc, &setup, words, input, out),
+        Ok(setup) => run_setup(alloc, files, &setup, words, input, out),
         Err(end) => Told::without_run(note_at(end)),
     }
 }

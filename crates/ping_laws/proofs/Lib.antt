@@ -6,5 +6,6 @@ pub mod PingSizes
 pub mod PipeRuns
 pub mod PipedLaws
 pub mod Places
+pub mod Tellings
 pub mod RepliedLaws
 pub mod StandardFacts

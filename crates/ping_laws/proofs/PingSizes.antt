@@ -7,6 +7,7 @@ use Rattle.orb_base.specs.Outcomes.{body_len}
 use Rattle.orb_base.specs.declared.limits.TheConstants.{MAX_RUN_CALLS, MAX_RUN_BYTES}
 use Rattle.orb_base.specs.declared.order.Order.{Order}
 use Rattle.orb_base.specs.declared.outcome.Outcome.{Outcome}
+use Rattle.orb_base.specs.declared.outcome.Outcome.TheVariants.{Returned}
 use Rattle.cdr_core.specs.Alignment.{pad_len}
 use Rattle.cdr_core.specs.Field.{Field, fields_end, number_bytes, string_fields}
 use Rattle.cdr_core.proofs.CallerLemmas.{length-spelled, length-number_bytes}
@@ -14,8 +15,8 @@ use Rattle.giop_messages.specs.Message.{key, request}
 use Rattle.giop_messages.specs.Layout.{target_fields, contexts_fields, named_fields}
 use Rattle.giop_messages.specs.Reading.{ReadsIn}
 use Rattle.lane_machine.specs.Machine.{is_over}
-use Rattle.ping_laws.specs.Ping.{ping_outcome, ping_request}
-use Rattle.ping_laws.specs.PingRun.{ping_job, outcome_at, IsAnswered}
+use Rattle.ping_laws.specs.Ping.{ping_request}
+use Rattle.ping_laws.specs.PingRun.{IsAnswered}
 use Rattle.ping_laws.specs.Setup.{opened}
 use Rattle.adapter_policies.specs.BuiltIn.{built_in}
 use Rattle.ping_laws.proofs.PipeRuns.{idle}
@@ -37,9 +38,9 @@ ping_size order id bytes reads =
     omega (arith, stop, ap length reads.parts, joined, headed, length-number_bytes order w32 (length inner), ap length none)
 
 -- its answer is the priority, or for want of memory
-pub answer_size : (serial size id : ℕ) (order : Order) (answer : Outcome) → IsAnswered answer (outcome_at built_in ping_outcome (ping_job serial order size id 0 100)) → body_len answer ≤ 2
-answer_size serial size id order answer (inl is) = subst (λ (o : Outcome). body_len o ≤ 2) (sym is) (omega (arith, length-number_bytes order w16 100))
-answer_size serial size id order answer (inr (is, other)) = subst (λ (o : Outcome). body_len o ≤ 2) (sym is) (omega arith)
+pub answer_size : (order : Order) (answer : Outcome) → IsAnswered answer (Returned (number_bytes order w16 100)) → body_len answer ≤ 2
+answer_size order answer (inl is) = subst (λ (o : Outcome). body_len o ≤ 2) (sym is) (omega (arith, length-number_bytes order w16 100))
+answer_size order answer (inr (is, other)) = subst (λ (o : Outcome). body_len o ≤ 2) (sym is) (omega arith)
 
 -- behind fewer calls than a run may hear, and with the bytes that it may take, no limit is met
 pub not_over : (c b size : ℕ) → c < MAX_RUN_CALLS → b + size ≤ MAX_RUN_BYTES → is_over (idle (opened built_in) c b) size ≡ false

@@ -1,9 +1,8 @@
 -- A run of the pipe's jobs, one after another, is what the pipe is defined to do with their calls.
-use Rattle.std.proofs.Common.{◌≡◌, ℕ, suc, ◌+◌, ◌<◌, ◌≤◌, Bool, true, false, List, [], ◌∷◌, ◌++◌, refl, sym, ap, ◌∙◌, subst, inl, inr, arith, lit≤, append_assoc, append-nil}
-use Rattle.std.specs.Prelude.{◌==◌, ◌||◌, if◌then◌else◌}
-use Rattle.std.specs.List.{list_any}
-use Rattle.std.proofs.lemmas.Bool.{cases_Bool, ne_eqb}
-use Rattle.std.proofs.lemmas.Bool.Decides.{eqb_tells}
+use Rattle.std.proofs.Common.{◌≡◌, ℕ, suc, ◌+◌, ◌≤◌, Bool, true, false, List, [], ◌∷◌, ◌++◌, refl, sym, ap, ◌∙◌, subst, inl, inr, arith, lit≤, append_assoc, append-nil}
+use Rattle.std.specs.Prelude.{◌==◌, if◌then◌else◌}
+use Rattle.std.specs.List.{list_any, AllByRecursion}
+use Rattle.std.proofs.lemmas.Bool.{cases_Bool}
 use Rattle.orb_base.specs.Outcomes.{no_memory, bad_operation, body_len}
 use Rattle.orb_base.specs.JobRecord.{JobRecord}
 use Rattle.orb_base.specs.declared.limits.TheConstants.{MAX_BODY}
@@ -25,7 +24,7 @@ use Rattle.pipe_laws.specs.Setup.{pipe_conn, interface_of}
 use Rattle.turn_cell.specs.declared.entry.Entry.{Entry}
 use Rattle.lane_driver.specs.Driving.{run_at as at, entry}
 use Rattle.adapter_policies.specs.SetupData.{SetupData}
-use Rattle.pipe_laws.specs.Said.{call_bytes, said, item_bytes}
+use Rattle.pipe_laws.specs.Said.{said, item_bytes}
 use Rattle.pipe_laws.specs.Piped.{Run, settled, grouped, answer_of}
 use Rattle.ping_laws.specs.Stops.{has_closing, has_end}
 use Rattle.ping_laws.specs.Built.{Spares}
@@ -287,14 +286,14 @@ more_over servant outcome job jobs base c b ping not_over came short others =
       agrees = (refl, others.agrees);
     }
 
-pub run_over : (setup : SetupData) (outcome : List ℕ → JobRecord → Outcome) (lacks : List ℕ) (n : ℕ) (jobs : List JobRecord) (base : State) (c b : ℕ) → ((job : JobRecord) → body_len (outcome_at setup outcome job) ≤ MAX_BODY)
+pub run_over : (setup : SetupData) (outcome : List ℕ → JobRecord → Outcome) (lacks : List ℕ) (n : ℕ) (jobs : List JobRecord) (base : State) (c b : ℕ) → AllByRecursion (λ job. body_len (outcome_at setup outcome job) ≤ MAX_BODY) jobs
     → ArePingJobs n jobs → Spares setup outcome lacks (offers jobs) → RunOver (answer_of setup outcome lacks) (outcome_at setup outcome) jobs base c b
 run_over setup outcome lacks n [] base c b short pings spares = none_over (answer_of setup outcome lacks) (outcome_at setup outcome) base c b
-run_over setup outcome lacks n (job ∷ jobs) base c b short (ping, numbered, pings) (spare, spares) =
+run_over setup outcome lacks n (job ∷ jobs) base c b (short, shorts) (ping, numbered, pings) (spare, spares) =
     let servant = answer_of setup outcome lacks in
     let came = answer_came setup outcome lacks job spare in
-    let others = run_over setup outcome lacks (suc n) jobs base (c + 1) (b + job.size + body_len (servant job)) short pings spares in
+    let others = run_over setup outcome lacks (suc n) jobs base (c + 1) (b + job.size + body_len (servant job)) shorts pings spares in
     elim (cases_Bool (is_over (idle base c b) job.size)) [
       | inl over ↦ shut_over servant (outcome_at setup outcome) job jobs base c b ping over
-      | inr not_over ↦ more_over servant (outcome_at setup outcome) job jobs base c b ping not_over came (answer_short (outcome_at setup outcome job) (servant job) (short job) came) others
+      | inr not_over ↦ more_over servant (outcome_at setup outcome) job jobs base c b ping not_over came (answer_short (outcome_at setup outcome job) (servant job) short came) others
     ]

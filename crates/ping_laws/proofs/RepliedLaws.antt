@@ -1,12 +1,10 @@
 -- Each request of the pipe's input gets its reply, and nothing else is written.
 use Rattle.std.proofs.Common.{None, ◌≡◌, ℕ, suc, ◌+◌, ◌*◌, ◌≤◌, Bool, true, false, List, [], ◌∷◌, ◌++◌, length, refl, sym, ap, ◌∙◌, subst, inl, inr, arith, lit≤, lit<, append-nil}
-use Rattle.std.specs.Prelude.{if◌then◌else◌, codes}
+use Rattle.std.specs.Prelude.{codes}
 use Rattle.std.specs.Int.{w16}
 use Rattle.std.specs.List.{AllByRecursion}
-use Rattle.std.specs.Str.{bytes_eq}
-use Rattle.std.proofs.lemmas.Bool.{cases_Bool}
 use Rattle.std.proofs.lemmas.Grind.{flat_map-append}
-use Rattle.orb_base.specs.Outcomes.{no_memory, bad_operation, body_len}
+use Rattle.orb_base.specs.Outcomes.{no_memory, body_len}
 use Rattle.orb_base.specs.JobRecord.{JobRecord}
 use Rattle.orb_base.specs.declared.limits.TheConstants.{MAX_MESSAGE, MAX_BODY}
 use Rattle.orb_base.specs.declared.order.Order.{Order}
@@ -33,11 +31,12 @@ use Rattle.pipe_laws.specs.Setup.{pipe_conn}
 use Rattle.ping_laws.specs.declared.place.Place.{Place}
 use Rattle.adapter_policies.specs.BuiltIn.{built_in}
 use Rattle.adapter_policies.specs.SetupData.{SetupData}
-use Rattle.ping_laws.specs.Ping.{ping_outcome, ping_request}
+use Rattle.ping_laws.specs.Ping.{ping_request}
 use Rattle.pipe_laws.specs.Said.{reply_status, reply_body, bare, call_bytes, said}
 use Rattle.pipe_laws.specs.Piped.{Run, closed_by, grouped, answer_of, piped}
-use Rattle.ping_laws.specs.Built.{IsBuilt, IsPing, Spares}
-use Rattle.ping_laws.specs.PingRun.{ping_job, offers, ArePingJobs, IsPingJob, outcome_at, IsAnswered, Ran, Runs, farewell, IsRun}
+use Rattle.ping_laws.specs.Built.{IsBuilt, IsPing}
+use Rattle.ping_laws.specs.PingRun.{ping_job, offers, outcome_at, IsAnswered, Ran, Runs, farewell, IsRun}
+use Rattle.ping_laws.specs.Telling.{TellPriorities}
 use Rattle.ping_laws.specs.Replied.{IsReplyTo, AreRepliesTo, PingsReplied, PingRunsAt100, MeetsNoLimit}
 use Rattle.ping_laws.proofs.HearingLaws.{jobs_of, no_jobs, more_jobs_of}
 use Rattle.lane_machine.specs.Histories.{History}
@@ -45,37 +44,24 @@ use Rattle.giop_messages.proofs.CallerLemmas.{streams_messages}
 use Rattle.heard_calls.specs.Hearing.{Told}
 use Rattle.heard_calls.specs.declared.ending.Ending.TheVariants.{Ended}
 use Rattle.heard_calls.proofs.OneMeaning.{hears_one}
-use Rattle.pipe_laws.specs.Setup.{interface_of}
 use Rattle.pipe_runs.specs.Runs.{IsRunOf}
 use Rattle.ping_laws.proofs.Judged.{hears_pings, pings_told}
 use Rattle.ping_laws.proofs.CanOpen.{opens_free, built_in_is_runnable}
 use Rattle.ping_laws.proofs.Places.{pings_place}
 use Rattle.lane_driver.proofs.ReplyLaws.{reply_short}
 use Rattle.heard_calls.proofs.StreamCounts.{few_messages}
-use Rattle.ping_laws.proofs.PingSizes.{ping_size, answer_size, not_over}
+use Rattle.ping_laws.proofs.PingSizes.{ping_size, not_over}
 use Rattle.lane_driver.specs.Driving.{run_at as at}
+use Rattle.ping_laws.proofs.Tellings.{jobs_told, told_short, told_spares}
 use Rattle.ping_laws.proofs.PipeRuns.{idle, run_over}
 use Rattle.ping_laws.proofs.PipedLaws.{gone, last, closes_so, last_says}
 
 -- ---- the pipe's output is that of a run of its jobs
 
--- no outcome of such a job is BAD_OPERATION
-no_bad : (interface : List ℕ) (job : JobRecord) → IsPingJob job → ping_outcome interface job ≡ bad_operation → ⊥
-no_bad interface job is bad =
-    let answer : List ℕ → Outcome = λ op. if bytes_eq op (codes "current") then Returned (number_bytes job.order w16 job.priority) else bad_operation in
-    let current : ping_outcome interface job ≡ Returned (number_bytes job.order w16 job.priority) = ap answer (ap (λ (j : JobRecord). j.operation) is) in
-    let both = sym current ∙ bad in
-    cc
-
-spares_pings : (setup : SetupData) (lacks : List ℕ) (n : ℕ) (jobs : List JobRecord) → ArePingJobs n jobs → Spares setup ping_outcome lacks (offers jobs)
-spares_pings setup lacks n [] are = tt
-spares_pings setup lacks n (job ∷ jobs) are =
-    ((λ bad. absurd (no_bad (interface_of setup job.target) job are.0 bad)), spares_pings setup lacks (suc n) jobs are.2)
-
-pub run_is : (setup : SetupData) (input : List ℕ) (closing : Bool) (entries : History) (able : IsRunnable setup)
-    → ((job : JobRecord) → body_len (outcome_at setup ping_outcome job) ≤ MAX_BODY) → (built : IsBuilt setup input) → IsRunOf setup ping_outcome 1 input Ended closing entries
-    → IsRun (opened setup) (outcome_at setup ping_outcome) (jobs_of setup 0 (stream MAX_MESSAGE input).messages able.single.no_lanes built.pings).0 closing (said pipe_conn entries)
-run_is setup input closing entries able short built p =
+pub run_is : (setup : SetupData) (outcome : List ℕ → JobRecord → Outcome) (input : List ℕ) (closing : Bool) (entries : History) (able : IsRunnable setup)
+    → TellPriorities setup outcome → (built : IsBuilt setup input) → IsRunOf setup outcome 1 input Ended closing entries
+    → IsRun (opened setup) (outcome_at setup outcome) (jobs_of setup 0 (stream MAX_MESSAGE input).messages able.single.no_lanes built.pings).0 closing (said pipe_conn entries)
+run_is setup outcome input closing entries able tells built p =
     let free = opens_free setup able in
     let ms = (stream MAX_MESSAGE input).messages in
     let jobs = jobs_of setup 0 ms able.single.no_lanes built.pings in
@@ -83,15 +69,15 @@ run_is setup input closing entries able short built p =
     let hears = hears_pings setup 0 ms able.single.no_lanes built.pings (streams_messages MAX_MESSAGE input (lit≤ tt)) in
     let calls : p.calls ≡ offers jobs.0 =
     p.heard.calls_are ∙ ap (λ (t : Told). t.calls) (hears_one setup pipe_conn ms None 0 p.heard.told (pings_told setup 0 ms able.single.no_lanes built.pings) p.heard.hears hears) in
-    let spares : Spares setup ping_outcome lacks (offers jobs.0) = spares_pings setup lacks 0 jobs.0 jobs.1.jobs_so in
-    let run = run_over setup ping_outcome lacks 0 jobs.0 (opened setup) 0 0 short jobs.1.jobs_so spares in
-    let servant = answer_of setup ping_outcome lacks in
+    let told = jobs_told setup outcome tells 0 ms able.single.no_lanes built.pings in
+    let run = run_over setup outcome lacks 0 jobs.0 (opened setup) 0 0 (told_short setup outcome jobs.0 told) jobs.1.jobs_so (told_spares setup outcome lacks jobs.0 told) in
+    let servant = answer_of setup outcome lacks in
     let c = run.behind.calls in
     let b = run.behind.bytes in
     let shut = run.behind.closing in
     let history = run.grouped.history in
-    let whole : piped setup ping_outcome 1 p.calls Quiet lacks ≡ at (gone run.behind c b shut) (history ++ last shut) =
-    ap (λ (x : List LaneCall). piped setup ping_outcome 1 x Quiet lacks) calls
+    let whole : piped setup outcome 1 p.calls Quiet lacks ≡ at (gone run.behind c b shut) (history ++ last shut) =
+    ap (λ (x : List LaneCall). piped setup outcome 1 x Quiet lacks) calls
     ∙ ap (λ (z : State). closed_by servant Quiet (grouped servant 1 1 (at z []) (offers jobs.0))) free
     ∙ ap (closed_by servant Quiet) (run.grouped.run servant run.agrees [] ∙ ap (λ (s : State). at s history) run.grouped.settled_so)
     ∙ closes_so servant run.behind c b shut history in
@@ -102,7 +88,7 @@ run_is setup input closing entries able short built p =
     record {
       behind = run.behind;
       replies = run.replies;
-      runs = subst (λ (z : State). Runs (outcome_at setup ping_outcome) jobs.0 z run.behind run.replies) (sym free) run.runs;
+      runs = subst (λ (z : State). Runs (outcome_at setup outcome) jobs.0 z run.behind run.replies) (sym free) run.runs;
       closes = same;
       ends = ap (said pipe_conn) (sym p.runs) ∙ ap (λ (r : Run). said pipe_conn r.history) whole ∙ says ∙ ap (λ (x : Bool). run.replies ++ farewell x) same;
     }
@@ -120,11 +106,10 @@ status_fits (System system) = lit≤ tt
 no_memory_short : (order : Order) → length (reply_body order no_memory) ≤ MAX_BODY
 no_memory_short order = omega (arith, fields_end-is order 24 (exception_fields (record { name = NoMemory; minor = 1; completed = Maybe })))
 
-body_short : (setup : SetupData) (serial size id target level : ℕ) (order : Order) (answer : Outcome)
-    → IsAnswered answer (outcome_at setup ping_outcome (ping_job serial order size id target level)) → length (reply_body order answer) ≤ MAX_BODY
-body_short setup serial size id target level order answer (inl is) =
+body_short : (level : ℕ) (order : Order) (answer : Outcome) → IsAnswered answer (Returned (number_bytes order w16 level)) → length (reply_body order answer) ≤ MAX_BODY
+body_short level order answer (inl is) =
     subst (λ (o : Outcome). length (reply_body order o) ≤ MAX_BODY) (sym is) (omega (arith, length-number_bytes order w16 level))
-body_short setup serial size id target level order answer (inr (is, other)) = subst (λ (o : Outcome). length (reply_body order o) ≤ MAX_BODY) (sym is) (no_memory_short order)
+body_short level order answer (inr (is, other)) = subst (λ (o : Outcome). length (reply_body order o) ≤ MAX_BODY) (sym is) (no_memory_short order)
 
 -- a message and the bytes of the reply to it
 record Replied (setup : SetupData) (m : Frames.Message) (bytes : List ℕ) : Type 0 where
@@ -133,20 +118,22 @@ record Replied (setup : SetupData) (m : Frames.Message) (bytes : List ℕ) : Typ
   pub fits : AreWritten MAX_MESSAGE (reply ∷ [])
   pub spells : bytes ≡ spelled reply.0 reply.1
 
-one_replied : (setup : SetupData) (n : ℕ) (m : Frames.Message) (ping : IsPing setup m) (s s' : State) (bytes : List ℕ)
-    → Ran (outcome_at setup ping_outcome) (ping_job n m.order (length m.bytes) ping.r.id ping.place.target ping.place.level) s s' bytes → Replied setup m bytes
-one_replied setup n m ping s s' bytes ran =
+one_replied : (setup : SetupData) (outcome : List ℕ → JobRecord → Outcome) → TellPriorities setup outcome → (n : ℕ) (m : Frames.Message) (ping : IsPing setup m) (s s' : State) (bytes : List ℕ)
+    → Ran (outcome_at setup outcome) (ping_job n m.order (length m.bytes) ping.r.id ping.place.target ping.place.level) s s' bytes → Replied setup m bytes
+one_replied setup outcome tells n m ping s s' bytes ran =
     let id = ping.r.id in
+    let told = tells ping.asked.key ping.place ping.asked.placed n (length m.bytes) id m.order in
+    let came : IsAnswered ran.answer (Returned (number_bytes m.order w16 ping.place.level)) = subst (IsAnswered ran.answer) told ran.came in
     record {
       reply = (m.order, reply_with m.order id ran.answer);
       is = record {
         ping = ping;
         same_order = refl;
-        says = elim ran.came [ inl is ↦ inl (ap (reply_with m.order id) is) | inr is ↦ inr (ap (reply_with m.order id) is.0) ];
+        says = elim came [ inl is ↦ inl (ap (reply_with m.order id) is) | inr is ↦ inr (ap (reply_with m.order id) is.0) ];
       };
       fits = (
         record { id = ping.reads.fits.id; status = status_fits ran.answer; contexts = (lit< tt, tt) },
-        reply_short m.order id (reply_status ran.answer) (reply_body m.order ran.answer) (body_short setup n (length m.bytes) id ping.place.target ping.place.level m.order ran.answer ran.came),
+        reply_short m.order id (reply_status ran.answer) (reply_body m.order ran.answer) (body_short ping.place.level m.order ran.answer came),
         tt,
       );
       spells = ran.reply;
@@ -161,27 +148,27 @@ record AllReplied (setup : SetupData) (ms : List Frames.Message) (bytes : List �
   pub spells : bytes ≡ written_bytes replies
 
 -- where no limit was met, each was answered
-replied : (setup : SetupData) (base : State) (n c b : ℕ) (ms : List Frames.Message) (no_lanes : setup.pool.laned ≡ false) (all : AllByRecursion (IsPing setup) ms) (s : State) (bytes : List ℕ)
-    → s.closing ≡ false → Runs (outcome_at setup ping_outcome) (jobs_of setup n ms no_lanes all).0 (idle base c b) s bytes → AllReplied setup ms bytes
-replied setup base n c b [] no_lanes all s bytes going runs =
-    let none : Runs (outcome_at setup ping_outcome) [] (idle base c b) s bytes =
-    subst (λ (jobs : List JobRecord). Runs (outcome_at setup ping_outcome) jobs (idle base c b) s bytes) (no_jobs setup n no_lanes all) runs in
+replied : (setup : SetupData) (outcome : List ℕ → JobRecord → Outcome) → TellPriorities setup outcome → (base : State) (n c b : ℕ) (ms : List Frames.Message) (no_lanes : setup.pool.laned ≡ false) (all : AllByRecursion (IsPing setup) ms) (s : State) (bytes : List ℕ)
+    → s.closing ≡ false → Runs (outcome_at setup outcome) (jobs_of setup n ms no_lanes all).0 (idle base c b) s bytes → AllReplied setup ms bytes
+replied setup outcome tells base n c b [] no_lanes all s bytes going runs =
+    let none : Runs (outcome_at setup outcome) [] (idle base c b) s bytes =
+    subst (λ (jobs : List JobRecord). Runs (outcome_at setup outcome) jobs (idle base c b) s bytes) (no_jobs setup n no_lanes all) runs in
     record { replies = []; are = tt; fit = tt; spells = none.1 }
-replied setup base n c b (m ∷ ms) no_lanes (ping, all) s bytes going runs =
+replied setup outcome tells base n c b (m ∷ ms) no_lanes (ping, all) s bytes going runs =
     let size = length m.bytes in
     let job = ping_job n m.order size ping.r.id ping.place.target ping.place.level in
     let jobs = (jobs_of setup (suc n) ms no_lanes all).0 in
-    let some : Runs (outcome_at setup ping_outcome) (job ∷ jobs) (idle base c b) s bytes =
-    subst (λ (js : List JobRecord). Runs (outcome_at setup ping_outcome) js (idle base c b) s bytes) (more_jobs_of setup n m ms no_lanes ping all) runs in
+    let some : Runs (outcome_at setup outcome) (job ∷ jobs) (idle base c b) s bytes =
+    subst (λ (js : List JobRecord). Runs (outcome_at setup outcome) js (idle base c b) s bytes) (more_jobs_of setup n m ms no_lanes ping all) runs in
     elim some [
       | inl refused ↦
           let never : true ≡ false = sym (ap (λ (z : State). z.closing) refused.moved) ∙ going in
           absurd cc
       | inr ran ↦
-          let one = one_replied setup n m ping (idle base c b) ran.0 ran.1 ran.3 in
-          let onward : Runs (outcome_at setup ping_outcome) jobs (idle base (c + 1) (b + size + body_len ran.3.answer)) s ran.2 =
-          subst (λ (x : State). Runs (outcome_at setup ping_outcome) jobs x s ran.2) ran.3.moved ran.4 in
-          let others = replied setup base (suc n) (c + 1) (b + size + body_len ran.3.answer) ms no_lanes all s ran.2 going onward in
+          let one = one_replied setup outcome tells n m ping (idle base c b) ran.0 ran.1 ran.3 in
+          let onward : Runs (outcome_at setup outcome) jobs (idle base (c + 1) (b + size + body_len ran.3.answer)) s ran.2 =
+          subst (λ (x : State). Runs (outcome_at setup outcome) jobs x s ran.2) ran.3.moved ran.4 in
+          let others = replied setup outcome tells base (suc n) (c + 1) (b + size + body_len ran.3.answer) ms no_lanes all s ran.2 going onward in
           record {
             replies = one.reply ∷ others.replies;
             are = (one.is, others.are);
@@ -192,14 +179,14 @@ replied setup base n c b (m ∷ ms) no_lanes (ping, all) s bytes going runs =
 
 -- ---- the limits of the built-in setup
 -- a ping takes 48 bytes and its answer 2 at most
-goes_on : (n c b : ℕ) (ms : List Frames.Message) (no_lanes : built_in.pool.laned ≡ false) (all : AllByRecursion (IsPing built_in) ms) (s : State) (bytes : List ℕ)
+goes_on : (outcome : List ℕ → JobRecord → Outcome) → TellPriorities built_in outcome → (n c b : ℕ) (ms : List Frames.Message) (no_lanes : built_in.pool.laned ≡ false) (all : AllByRecursion (IsPing built_in) ms) (s : State) (bytes : List ℕ)
     → c + length ms ≤ MAX_PINGS → b + 50 * length ms ≤ 50 * MAX_PINGS
-    → Runs (outcome_at built_in ping_outcome) (jobs_of built_in n ms no_lanes all).0 (idle (opened built_in) c b) s bytes → s.closing ≡ false
-goes_on n c b [] no_lanes all s bytes calls few runs =
-    let none : Runs (outcome_at built_in ping_outcome) [] (idle (opened built_in) c b) s bytes =
-    subst (λ (jobs : List JobRecord). Runs (outcome_at built_in ping_outcome) jobs (idle (opened built_in) c b) s bytes) (no_jobs built_in n no_lanes all) runs in
+    → Runs (outcome_at built_in outcome) (jobs_of built_in n ms no_lanes all).0 (idle (opened built_in) c b) s bytes → s.closing ≡ false
+goes_on outcome tells n c b [] no_lanes all s bytes calls few runs =
+    let none : Runs (outcome_at built_in outcome) [] (idle (opened built_in) c b) s bytes =
+    subst (λ (jobs : List JobRecord). Runs (outcome_at built_in outcome) jobs (idle (opened built_in) c b) s bytes) (no_jobs built_in n no_lanes all) runs in
     ap (λ (z : State). z.closing) none.0
-goes_on n c b (m ∷ ms) no_lanes (ping, all) s bytes calls few runs =
+goes_on outcome tells n c b (m ∷ ms) no_lanes (ping, all) s bytes calls few runs =
     let size = length m.bytes in
     let id = ping.r.id in
     let is = pings_place ping.asked.key ping.place ping.asked.placed in
@@ -209,43 +196,35 @@ goes_on n c b (m ∷ ms) no_lanes (ping, all) s bytes calls few runs =
     let jobs = (jobs_of built_in (suc n) ms no_lanes all).0 in
     let same : (jobs_of built_in n (m ∷ ms) no_lanes (ping, all)).0 ≡ job ∷ jobs =
     more_jobs_of built_in n m ms no_lanes ping all ∙ ap (λ (p : Place). ping_job n m.order size id p.target p.level ∷ jobs) is.place_is in
-    let some : Runs (outcome_at built_in ping_outcome) (job ∷ jobs) (idle (opened built_in) c b) s bytes =
-    subst (λ (js : List JobRecord). Runs (outcome_at built_in ping_outcome) js (idle (opened built_in) c b) s bytes) same runs in
+    let some : Runs (outcome_at built_in outcome) (job ∷ jobs) (idle (opened built_in) c b) s bytes =
+    subst (λ (js : List JobRecord). Runs (outcome_at built_in outcome) js (idle (opened built_in) c b) s bytes) same runs in
     let sized = ping_size m.order id m.bytes reads in
     elim some [
       | inl refused ↦
           let never : true ≡ false = sym refused.over ∙ not_over c b size (omega (arith, calls)) (omega (arith, few, sized)) in
           absurd cc
       | inr ran ↦
-          let adds = answer_size n size id m.order ran.3.answer ran.3.came in
-          let onward : Runs (outcome_at built_in ping_outcome) jobs (idle (opened built_in) (c + 1) (b + size + body_len ran.3.answer)) s ran.2 =
-          subst (λ (x : State). Runs (outcome_at built_in ping_outcome) jobs x s ran.2) ran.3.moved ran.4 in
-          goes_on (suc n) (c + 1) (b + size + body_len ran.3.answer) ms no_lanes all s ran.2 (omega (arith, calls)) (omega (arith, few, sized, adds)) onward
+      XX
+          let onward : Runs (outcome_at built_in outcome) jobs (idle (opened built_in) (c + 1) (b + size + body_len ran.3.answer)) s ran.2 =
+          subst (λ (x : State). Runs (outcome_at built_in outcome) jobs x s ran.2) ran.3.moved ran.4 in
+          goes_on outcome tells (suc n) (c + 1) (b + size + body_len ran.3.answer) ms no_lanes all s ran.2 (omega (arith, calls)) (omega (arith, few, sized, adds)) onward
     ]
 
 -- ---- the laws
-ping_short : (setup : SetupData) (job : JobRecord) → body_len (outcome_at setup ping_outcome job) ≤ MAX_BODY
-ping_short setup job =
-    let answer : Bool → Outcome = λ x. if x then Returned (number_bytes job.order w16 job.priority) else bad_operation in
-    elim (cases_Bool (bytes_eq job.operation (codes "current"))) [
-      | inl current ↦ subst (λ (o : Outcome). body_len o ≤ MAX_BODY) (sym (ap answer current)) (omega (arith, length-number_bytes job.order w16 job.priority))
-      | inr other ↦ subst (λ (o : Outcome). body_len o ≤ MAX_BODY) (sym (ap answer other)) (lit≤ tt)
-    ]
-
 pub pings_replied : PingsReplied
-pings_replied setup able input entries built p =
+pings_replied setup able outcome tells input entries built p =
     let free = opens_free setup able in
-    let run = run_is setup input false entries able (ping_short setup) built p in
-    let runs = subst (λ (z : State). Runs (outcome_at setup ping_outcome) (jobs_of setup 0 (stream MAX_MESSAGE input).messages able.single.no_lanes built.pings).0 z run.behind run.replies) free run.runs in
-    let all = replied setup (opened setup) 0 0 0 (stream MAX_MESSAGE input).messages able.single.no_lanes built.pings run.behind run.replies run.closes runs in
+    let run = run_is setup outcome input false entries able tells built p in
+    let runs = subst (λ (z : State). Runs (outcome_at setup outcome) (jobs_of setup 0 (stream MAX_MESSAGE input).messages able.single.no_lanes built.pings).0 z run.behind run.replies) free run.runs in
+    let all = replied setup outcome tells (opened setup) 0 0 0 (stream MAX_MESSAGE input).messages able.single.no_lanes built.pings run.behind run.replies run.closes runs in
     let same : said pipe_conn entries ≡ run.replies = run.ends ∙ append-nil run.replies in
     (all.replies, all.are, ap (stream MAX_MESSAGE) (same ∙ all.spells) ∙ streams_written MAX_MESSAGE all.replies (lit≤ tt) all.fit)
 
 pub meets_no_limit : MeetsNoLimit
-meets_no_limit input entries closing built p =
-    let run = run_is built_in input closing entries built_in_is_runnable (ping_short built_in) built p in
+meets_no_limit outcome tells input entries closing built p =
+    let run = run_is built_in outcome input closing entries built_in_is_runnable tells built p in
     let few = few_messages MAX_MESSAGE input in
-    sym run.closes ∙ goes_on 0 0 0 (stream MAX_MESSAGE input).messages built_in_is_runnable.single.no_lanes built.pings run.behind run.replies (omega (arith, few, built.few)) (omega (arith, few, built.few)) run.runs
+    sym run.closes ∙ goes_on outcome tells 0 0 0 (stream MAX_MESSAGE input).messages built_in_is_runnable.single.no_lanes built.pings run.behind run.replies (omega (arith, few, built.few)) (omega (arith, few, built.few)) run.runs
 
 pub ping_runs_at_100 : PingRunsAt100
 ping_runs_at_100 key place is =

@@ -5,4 +5,5 @@ pub mod Ping
 pub mod PingRun
 pub mod Replied
 pub mod Setup
+pub mod Telling
 pub mod Stops

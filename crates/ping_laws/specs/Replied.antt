@@ -9,7 +9,9 @@ use Rattle.giop_frames.specs.Messages as Frames
 use Rattle.giop_frames.specs.Stream.{stream}
 use Rattle.giop_messages.specs.Message.{Message, reply}
 use Rattle.giop_messages.specs.Written.{wholes_from}
-use Rattle.ping_laws.specs.Ping.{ping_outcome}
+use Rattle.orb_base.specs.JobRecord.{JobRecord}
+use Rattle.orb_base.specs.declared.outcome.Outcome.{Outcome}
+use Rattle.ping_laws.specs.Telling.{TellPriorities}
 use Rattle.pipe_laws.specs.Said.{reply_status, reply_body, bare, said}
 use Rattle.lane_machine.specs.Histories.{History}
 use Rattle.pipe_laws.specs.Setup.{pipe_conn}
@@ -43,12 +45,12 @@ AreRepliesTo setup [] (r ∷ rs) = ⊥
 AreRepliesTo setup (m ∷ ms) [] = ⊥
 AreRepliesTo setup (m ∷ ms) (r ∷ rs) = IsReplyTo setup m r × AreRepliesTo setup ms rs
 
--- what the pipe of a setup of one thread writes in groups of one to such an input, behind which no limit of the run is met, is read as
+-- what the pipe of a setup of one thread, whose servants tell priorities, writes in groups of one to such an input, behind which no limit of the run is met, is read as
 -- one reply to each request of the input, in the order in which the requests were completed, and as nothing else
 abbrev pub PingsReplied : Type 0
 PingsReplied =
-    (setup : SetupData) → IsRunnable setup → (input : List ℕ) (entries : History) → IsBuilt setup input
-    → IsRunOf setup ping_outcome 1 input Ended false entries
+    (setup : SetupData) → IsRunnable setup → (outcome : List ℕ → JobRecord → Outcome) → TellPriorities setup outcome
+    → (input : List ℕ) (entries : History) → IsBuilt setup input → IsRunOf setup outcome 1 input Ended false entries
     → (replies : List (Order × Message)) × AreRepliesTo setup (stream MAX_MESSAGE input).messages replies
     × (stream MAX_MESSAGE (said pipe_conn entries) ≡ record { messages = wholes_from 0 replies; rest = None; bad = None })
 
@@ -56,8 +58,9 @@ PingsReplied =
 abbrev pub PingRunsAt100 : Type 0
 PingRunsAt100 = (key : List ℕ) (place : Place) → place_of built_in key ≡ Some place → (key ≡ codes "ping") × (place.level ≡ 100)
 
--- no input of the built-in setup meets a limit of the run. It has at most 8,192 bytes, and so no more requests; each is one of the 65,536 calls
+-- with such servants no input of the built-in setup meets a limit of the run. It has at most 8,192 bytes, and so no more requests; each is one of the 65,536 calls
 -- that a run may hear, and of its 67,108,864 bytes a request takes 48 and the answer 2 at most
 abbrev pub MeetsNoLimit : Type 0
-MeetsNoLimit = (input : List ℕ) (entries : History) (closing : Bool) → IsBuilt built_in input
-    → IsRunOf built_in ping_outcome 1 input Ended closing entries → closing ≡ false
+MeetsNoLimit = (outcome : List ℕ → JobRecord → Outcome) → TellPriorities built_in outcome
+    → (input : List ℕ) (entries : History) (closing : Bool) → IsBuilt built_in input
+    → IsRunOf built_in outcome 1 input Ended closing entries → closing ≡ false

@@ -2,6 +2,7 @@
 ghost use Rattle.ping_laws.specs.Setup.{HasDistinctKeys, IsRunnable};
 ghost use Rattle.adapter_policies.specs.BuiltIn.{built_in};
 ghost use Rattle.ping_laws.specs.Replied.{PingsReplied, PingRunsAt100, MeetsNoLimit};
+ghost use Rattle.ping_laws.specs.Telling.{BuiltInTells};
 
 /// Bytes of an input of which the laws speak.
 pub const MAX_PINGS: usize = 8192;
@@ -17,7 +18,13 @@ pub fn built_in_is_runnable()
     ensures { IsRunnable built_in }
 {}
 
-/// What the pipe of a setup writes to an input of the built form, behind which no limit of the run is met, is read as exactly one
+/// The servant of `Orb::Ping` answers each request for `current` that runs over the built-in setup by its priority.
+#[tactic(auto, using(crate::proofs::Tellings::built_in_tells))]
+pub fn built_in_tells_priorities()
+    ensures { BuiltInTells }
+{}
+
+/// What the pipe of a setup whose servants tell priorities writes to an input of the built form, behind which no limit of the run is met, is read as exactly one
 /// reply to each request of the input, in the order in which the requests were completed, with its id and in its byte order, and
 /// as nothing else. In the built-in setup no such input meets a limit of the run, and each request runs at the priority 100.
 pub fn pings_are_replied()

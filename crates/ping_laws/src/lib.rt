@@ -5,5 +5,8 @@
 mod laws;
 mod place;
 
-pub use laws::{MAX_PINGS, built_in_is_distinct, built_in_is_runnable, pings_are_replied};
+pub use laws::{
+    MAX_PINGS, built_in_is_distinct, built_in_is_runnable, built_in_tells_priorities,
+    pings_are_replied,
+};
 pub use place::Place;

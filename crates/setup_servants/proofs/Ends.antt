@@ -34,7 +34,7 @@ serves_judged (Err (fault.TooLong r)) setup things said served checks h = absurd
 serves_judged (Err fault.ReadFault) setup things said served checks h = absurd h
 
 -- a store that tells the same is the same to us
-same_state : (a b : FilesState) → a.files ≡ b.files → a.faults ≡ b.faults → a ≡ b
+pub same_state : (a b : FilesState) → a.files ≡ b.files → a.faults ≡ b.faults → a ≡ b
 same_state a b files faults =
     let with_files : Option (List File) → FilesState = λ fs. record { files = fs; faults = a.faults } in
     let with_faults : ℕ → FilesState = λ n. record { files = b.files; faults = n } in
