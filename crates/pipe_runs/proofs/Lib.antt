@@ -1,3 +1,1 @@
-pub mod HeardCalls
-pub mod Inputs
 pub mod Showing

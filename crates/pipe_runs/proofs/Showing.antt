@@ -1,67 +1,159 @@
--- What is shown of the run of an input.
-use Rattle.std.proofs.Common.{◌≡◌, ◌⊎◌, inl, inr, ℕ, Bool, true, false, List, [], ◌++◌, Option, Some, Ok, sym, ap, ◌∙◌, subst, arith}
+-- What is shown of the run of a stream.
+use Rattle.std.proofs.Common.{◌≡◌, ◌⊎◌, inl, inr, ℕ, Bool, true, false, List, [], ◌++◌, Option, Some, Ok, Err, sym, ap, ◌∙◌, subst, arith}
 use Rattle.std.specs.Prelude.{option_map, unwrap_or}
 use Rattle.orb_base.specs.JobRecord.{JobRecord}
-use Rattle.orb_base.specs.Outside.{SinkState, Rose}
+use Rattle.orb_base.specs.Outside.{SourceState, SinkState, Rose}
+use Rattle.orb_base.specs.declared.no_memory.NoMemory.{NoMemory}
 use Rattle.orb_base.specs.declared.outcome.Outcome.{Outcome}
 use Rattle.lane_machine.specs.Histories.{History}
 use Rattle.history_lines.specs.Lines.{history_text}
 use Rattle.text_streams.specs.Streams.{WroteText, WroteFrontOf}
 use Rattle.adapter_policies.specs.SetupData.{SetupData}
-use Rattle.heard_calls.specs.declared.ending.Ending.{Ending}
-use Rattle.pipe_runs.specs.Runs.{IsRunOf, RanFront, Runs}
-use Rattle.pipe_runs.specs.Pipe.{Showed, ShowedUpToLast, ShowedFront, ShowsRun}
-use Rattle.pipe_runs.specs.declared.input_end.InputEnd.{InputEnd}
-use Rattle.pipe_runs.specs.declared.input_end.InputEnd.TheVariants as end
+use Rattle.conn_engine.specs.Reads.{FaultsAt}
+use Rattle.conn_engine.specs.Streams.{IsRunOf, RunsBytes, RunsStream}
+use Rattle.conn_engine.specs.declared.read_end.ReadEnd.{ReadEnd}
+use Rattle.conn_engine.specs.declared.read_end.ReadEnd.TheVariants as read
+use Rattle.conn_engine.specs.declared.stream_end.StreamEnd.{StreamEnd}
+use Rattle.conn_engine.specs.declared.stream_end.StreamEnd.TheVariants as end
+use Rattle.pipe_runs.specs.Pipe.{Showed, ShowedUpToLast, FailedReading, MayFail, ShowsRun, Pipes}
+use Rattle.pipe_runs.specs.declared.piped.Piped.{Piped}
 use Rattle.pipe_runs.specs.declared.shown.Shown.TheVariants.{Bytes, Text}
 
 -- the history that was kept is that of the run
 kept_is : (entries history : History) (log' : Option History) → log' ≡ option_map (λ h. h ++ entries) (Some []) → history ≡ unwrap_or log' [] → entries ≡ history
 kept_is entries history log' logged is = sym (is ∙ ap (λ (l : Option History). unwrap_or l []) logged)
 
--- ---- the bytes
+-- the reads of a run that came out so
+reads_of : (out_so : ReadEnd) (old new : SourceState) (out out' : SinkState) → FaultsAt out_so old new out out' → FailedReading false out_so old new
+reads_of (read.Ended ending) old new out out' h = h.0
+reads_of read.Spent old new out out' h = h.0
+reads_of read.ReadFault old new out out' h = h.0
 
-pub bytes_shown : (ran : InputEnd) (setup : SetupData) (outcome : List ℕ → JobRecord → Outcome) (batch : ℕ) (input : List ℕ) (log' : Option History) (history : History) (out out' : SinkState)
-    → Runs {E = ⊥} (Ok ran) setup outcome batch input (Some []) log' out out' → history ≡ unwrap_or log' [] → ShowsRun ran history Bytes setup outcome batch input out out'
-bytes_shown (end.Ended ending) setup outcome batch input log' history out out' h is =
-    let same = kept_is h.0.entries history log' h.0.logged is in
-    (subst (λ (x : History). Showed Bytes setup outcome batch input ending false x out out') same (record { run = h.0.run; wrote = h.0.wrote }), h.1)
-bytes_shown end.Closed setup outcome batch input log' history out out' h is =
-    let same = kept_is h.0.1.entries history log' h.0.1.logged is in
-    ((h.0.0, subst (λ (x : History). Showed Bytes setup outcome batch input h.0.0 true x out out') same (record { run = h.0.1.run; wrote = h.0.1.wrote })), h.1)
-bytes_shown end.WriteFault setup outcome batch input log' history out out' h is =
-    let same = kept_is h.0.entries history log' h.0.logged is in
-    (subst (λ (x : History). ShowedUpToLast setup outcome batch input x out out') same (record { run = h.0.run; wrote = h.0.wrote }), h.1)
+may_fail : (out_so : ReadEnd) (old new : SourceState) → FailedReading false out_so old new → MayFail old new
+may_fail (read.Ended ending) old new h = inl h
+may_fail read.Spent old new h = inl h
+may_fail read.ReadFault old new h = inr h
 
-pub bytes_begun : (setup : SetupData) (outcome : List ℕ → JobRecord → Outcome) (batch : ℕ) (input : List ℕ) (out out' : SinkState)
-    → (out' ≡ out) ⊎ RanFront setup outcome batch input out out' → (out' ≡ out) ⊎ ShowedFront Bytes setup outcome batch input out out'
-bytes_begun setup outcome batch input out out' (inl same) = inl same
-bytes_begun setup outcome batch input out out' (inr h) = inr (record { entries = h.entries; run = h.run; wrote = h.wrote })
-
--- ---- the text
+-- no write failed but that of the text
+faults_with : (out_so : ReadEnd) (old new : SourceState) (out out' : SinkState) → FailedReading false out_so old new → out'.faults ≡ out.faults → FaultsAt out_so old new out out'
+faults_with (read.Ended ending) old new out out' h none = (h, none)
+faults_with read.Spent old new out out' h none = (h, none)
+faults_with read.ReadFault old new out out' h none = (h, none)
 
 -- a count doesn't rise that is 0 before and behind
 never_rose : (a b : ℕ) → a ≡ 0 → b ≡ 0 → Rose a b → ⊥
 never_rose a b none still rose = omega (arith, rose)
 
-pub text_whole : (ran : InputEnd) (setup : SetupData) (outcome : List ℕ → JobRecord → Outcome) (batch : ℕ) (input : List ℕ) (log' : Option History) (history : History) (nowhere nowhere' out out' : SinkState)
-    → nowhere.faults ≡ 0 → nowhere'.faults ≡ 0 → Runs {E = ⊥} (Ok ran) setup outcome batch input (Some []) log' nowhere nowhere' → history ≡ unwrap_or log' []
-    → WroteText (history_text history) out out' → out'.faults ≡ out.faults → ShowsRun ran history Text setup outcome batch input out out'
-text_whole (end.Ended ending) setup outcome batch input log' history nowhere nowhere' out out' none still h is wrote faults =
-    let same = kept_is h.0.entries history log' h.0.logged is in
-    (record { run = subst (λ (x : History). IsRunOf setup outcome batch input ending false x) same h.0.run; wrote = wrote }, faults)
-text_whole end.Closed setup outcome batch input log' history nowhere nowhere' out out' none still h is wrote faults =
-    let same = kept_is h.0.1.entries history log' h.0.1.logged is in
-    ((h.0.0, record { run = subst (λ (x : History). IsRunOf setup outcome batch input h.0.0 true x) same h.0.1.run; wrote = wrote }), faults)
-text_whole end.WriteFault setup outcome batch input log' history nowhere nowhere' out out' none still h is wrote faults = absurd (never_rose nowhere.faults nowhere'.faults none still h.1)
+module _ (setup : SetupData) (outcome : List ℕ → JobRecord → Outcome) (batch : ℕ) (earlier bytes : List ℕ) (ended : Bool) (old new : SourceState) where
+  -- ---- the bytes
 
-pub text_front : (ran : InputEnd) (setup : SetupData) (outcome : List ℕ → JobRecord → Outcome) (batch : ℕ) (input : List ℕ) (log' : Option History) (history : History) (nowhere nowhere' out out' : SinkState)
-    → nowhere.faults ≡ 0 → nowhere'.faults ≡ 0 → Runs {E = ⊥} (Ok ran) setup outcome batch input (Some []) log' nowhere nowhere' → history ≡ unwrap_or log' []
-    → WroteFrontOf (history_text history) out out' → Rose out.faults out'.faults → ShowsRun end.WriteFault history Text setup outcome batch input out out'
-text_front (end.Ended ending) setup outcome batch input log' history nowhere nowhere' out out' none still h is wrote rose =
-    let same = kept_is h.0.entries history log' h.0.logged is in
-    (record { ending = ending; closing = false; run = subst (λ (x : History). IsRunOf setup outcome batch input ending false x) same h.0.run; wrote = wrote }, rose)
-text_front end.Closed setup outcome batch input log' history nowhere nowhere' out out' none still h is wrote rose =
-    let same = kept_is h.0.1.entries history log' h.0.1.logged is in
-    (record { ending = h.0.0; closing = true; run = subst (λ (x : History). IsRunOf setup outcome batch input h.0.0 true x) same h.0.1.run; wrote = wrote }, rose)
-text_front end.WriteFault setup outcome batch input log' history nowhere nowhere' out out' none still h is wrote rose = absurd (never_rose nowhere.faults nowhere'.faults none still h.1)
+  bytes_came : (comes : StreamEnd) (log' : Option History) (history : History) (out out' : SinkState) → history ≡ unwrap_or log' []
+      → RunsBytes (Ok comes) setup outcome batch earlier bytes ended old new (Some []) log' out out'
+      → ShowsRun comes history Bytes setup outcome batch earlier bytes ended old new out out'
+  bytes_came (end.Ended out_so) log' history out out' is h =
+      let same = kept_is h.0.entries history log' h.0.logged is in
+      (subst (λ (x : History). Showed Bytes setup outcome batch earlier bytes ended out_so false x out out') same (record { run = h.0.run; wrote = h.0.wrote }), h.1)
+  bytes_came end.Closed log' history out out' is h =
+      let same = kept_is h.0.1.entries history log' h.0.1.logged is in
+      ((h.0.0, subst (λ (x : History). Showed Bytes setup outcome batch earlier bytes ended h.0.0 true x out out') same (record { run = h.0.1.run; wrote = h.0.1.wrote })), h.1)
+  bytes_came end.WriteFault log' history out out' is h =
+      let same = kept_is h.0.entries history log' h.0.logged is in
+      (subst (λ (x : History). ShowedUpToLast setup outcome batch earlier bytes ended x out out') same (record { run = h.0.run; wrote = h.0.wrote }), h.1, h.2)
+
+  -- ---- the text
+
+  text_came : (comes : StreamEnd) (log' : Option History) (history : History) (nowhere nowhere' out out' : SinkState) → history ≡ unwrap_or log' []
+      → nowhere.faults ≡ 0 → nowhere'.faults ≡ 0 → RunsBytes (Ok comes) setup outcome batch earlier bytes ended old new (Some []) log' nowhere nowhere'
+      → WroteText (history_text history) out out' → out'.faults ≡ out.faults
+      → ShowsRun comes history Text setup outcome batch earlier bytes ended old new out out'
+  text_came (end.Ended out_so) log' history nowhere nowhere' out out' is none still h wrote faults =
+      let same = kept_is h.0.entries history log' h.0.logged is in (
+        record { run = subst (λ (x : History). IsRunOf setup outcome batch earlier bytes ended out_so false x) same h.0.run; wrote = wrote },
+        faults_with out_so old new out out' (reads_of out_so old new nowhere nowhere' h.1) faults,
+      )
+  text_came end.Closed log' history nowhere nowhere' out out' is none still h wrote faults =
+      let same = kept_is h.0.1.entries history log' h.0.1.logged is in (
+        (h.0.0, record { run = subst (λ (x : History). IsRunOf setup outcome batch earlier bytes ended h.0.0 true x) same h.0.1.run; wrote = wrote }),
+        (h.1.0, faults),
+      )
+  text_came end.WriteFault log' history nowhere nowhere' out out' is none still h wrote faults = absurd (never_rose nowhere.faults nowhere'.faults none still h.2)
+
+  text_stopped : (comes : StreamEnd) (log' : Option History) (history : History) (nowhere nowhere' out out' : SinkState) → history ≡ unwrap_or log' []
+      → nowhere.faults ≡ 0 → nowhere'.faults ≡ 0 → RunsBytes (Ok comes) setup outcome batch earlier bytes ended old new (Some []) log' nowhere nowhere'
+      → WroteFrontOf (history_text history) out out' → Rose out.faults out'.faults
+      → ShowsRun end.WriteFault history Text setup outcome batch earlier bytes ended old new out out'
+  text_stopped (end.Ended out_so) log' history nowhere nowhere' out out' is none still h wrote rose =
+      let same = kept_is h.0.entries history log' h.0.logged is in
+      let reads = reads_of out_so old new nowhere nowhere' h.1 in (
+        record { end = out_so; closing = false; run = subst (λ (x : History). IsRunOf setup outcome batch earlier bytes ended out_so false x) same h.0.run; wrote = wrote; reads = reads },
+        may_fail out_so old new reads,
+        rose,
+      )
+  text_stopped end.Closed log' history nowhere nowhere' out out' is none still h wrote rose =
+      let same = kept_is h.0.1.entries history log' h.0.1.logged is in (
+        record { end = h.0.0; closing = true; run = subst (λ (x : History). IsRunOf setup outcome batch earlier bytes ended h.0.0 true x) same h.0.1.run; wrote = wrote; reads = h.1.0 },
+        inl h.1.0,
+        rose,
+      )
+  text_stopped end.WriteFault log' history nowhere nowhere' out out' is none still h wrote rose = absurd (never_rose nowhere.faults nowhere'.faults none still h.2)
+
+  -- memory was wanting for the text
+  text_wanting : (comes : StreamEnd) (log' : Option History) (nowhere nowhere' : SinkState) → nowhere.faults ≡ 0 → nowhere'.faults ≡ 0
+      → RunsBytes (Ok comes) setup outcome batch earlier bytes ended old new (Some []) log' nowhere nowhere' → MayFail old new
+  text_wanting (end.Ended out_so) log' nowhere nowhere' none still h = may_fail out_so old new (reads_of out_so old new nowhere nowhere' h.1)
+  text_wanting end.Closed log' nowhere nowhere' none still h = inl h.1.0
+  text_wanting end.WriteFault log' nowhere nowhere' none still h = h.1
+
+module _ (setup : SetupData) (outcome : List ℕ → JobRecord → Outcome) (batch : ℕ) (old new : SourceState) where
+  pub bytes_shown : (ran : Piped) (log' : Option History) (out out' : SinkState) → ran.history.items ≡ unwrap_or log' []
+      → RunsStream (Ok ran.end) setup outcome batch old new (Some []) log' out out' → Pipes (Ok ran) Bytes setup outcome batch old new out out'
+  bytes_shown ran log' out out' is h = record {
+    bytes = h.bytes;
+    earlier = h.earlier;
+    ended = h.ended;
+    takes = h.takes;
+    came = bytes_came setup outcome batch h.earlier h.bytes h.ended old new ran.end log' ran.history.items out out' is h.came;
+  }
+
+  pub bytes_begun : (e f : NoMemory) (log log' : Option History) (out out' : SinkState)
+      → RunsStream (Err e) setup outcome batch old new log log' out out' → Pipes (Err f) Bytes setup outcome batch old new out out'
+  bytes_begun e f log log' out out' h = record { bytes = h.bytes; earlier = h.earlier; ended = h.ended; takes = h.takes; came = h.came }
+
+  pub text_shown : (ran : Piped) (log' : Option History) (nowhere nowhere' out out' : SinkState) → ran.history.items ≡ unwrap_or log' []
+      → nowhere.faults ≡ 0 → nowhere'.faults ≡ 0 → RunsStream (Ok ran.end) setup outcome batch old new (Some []) log' nowhere nowhere'
+      → WroteText (history_text ran.history.items) out out' → out'.faults ≡ out.faults → Pipes (Ok ran) Text setup outcome batch old new out out'
+  text_shown ran log' nowhere nowhere' out out' is none still h wrote faults = record {
+    bytes = h.bytes;
+    earlier = h.earlier;
+    ended = h.ended;
+    takes = h.takes;
+    came = text_came setup outcome batch h.earlier h.bytes h.ended old new ran.end log' ran.history.items nowhere nowhere' out out' is none still h.came wrote faults;
+  }
+
+  pub front_shown : (ran : Piped) (log' : Option History) (nowhere nowhere' out out' : SinkState) → ran.history.items ≡ unwrap_or log' []
+      → nowhere.faults ≡ 0 → nowhere'.faults ≡ 0 → RunsStream (Ok ran.end) setup outcome batch old new (Some []) log' nowhere nowhere'
+      → WroteFrontOf (history_text ran.history.items) out out' → Rose out.faults out'.faults
+      → Pipes (Ok (record ran { end = end.WriteFault })) Text setup outcome batch old new out out'
+  front_shown ran log' nowhere nowhere' out out' is none still h wrote rose = record {
+    bytes = h.bytes;
+    earlier = h.earlier;
+    ended = h.ended;
+    takes = h.takes;
+    came = text_stopped setup outcome batch h.earlier h.bytes h.ended old new ran.end log' ran.history.items nowhere nowhere' out out' is none still h.came wrote rose;
+  }
+
+  -- memory was wanting in the run
+  pub none_shown : (e f : NoMemory) (log log' : Option History) (nowhere nowhere' out out' : SinkState) → out' ≡ out
+      → RunsStream (Err e) setup outcome batch old new log log' nowhere nowhere' → Pipes (Err f) Text setup outcome batch old new out out'
+  none_shown e f log log' nowhere nowhere' out out' same h = record { bytes = h.bytes; earlier = h.earlier; ended = h.ended; takes = h.takes; came = (same, h.came.1) }
+
+  -- memory was wanting for the text
+  pub none_written : (comes : StreamEnd) (f : NoMemory) (log' : Option History) (nowhere nowhere' out out' : SinkState) → nowhere.faults ≡ 0 → nowhere'.faults ≡ 0 → out' ≡ out
+      → RunsStream (Ok comes) setup outcome batch old new (Some []) log' nowhere nowhere' → Pipes (Err f) Text setup outcome batch old new out out'
+  none_written comes f log' nowhere nowhere' out out' none still same h = record {
+    bytes = h.bytes;
+    earlier = h.earlier;
+    ended = h.ended;
+    takes = h.takes;
+    came = (same, text_wanting setup outcome batch h.earlier h.bytes h.ended old new comes log' nowhere nowhere' none still h.came);
+  }

@@ -1,22 +1,16 @@
-//! The run of the pipe over a whole input: what its bytes mean is driven through the lane machine of a setup, in groups, and
-//! what the history says is written. Own profile.
+//! The pipe: the run of a stream over the lane machine of a setup, in groups, and what is written of its history. Own profile.
 //!
-//! `specs/Runs.antt` says it by `heard_calls`, which says what bytes mean, and by `pipe_laws`, which defines the run of a
-//! connection's calls.
+//! `specs/Pipe.antt` says it by `conn_engine`, which says what the run of a stream is, read piece by piece.
 #![tactic(auto)]
 
 mod batch;
-mod input_end;
 mod pipe;
-mod pipe_end;
-mod running;
+mod piped;
 mod shown;
 
 pub use batch::Batch;
-pub use input_end::InputEnd;
 pub use pipe::pipe_run;
-pub use pipe_end::{MAX_PIPED, PipeEnd, Piped};
-pub use running::run_input;
+pub use piped::Piped;
 pub use shown::Shown;
 
 #[cfg(test)]

@@ -1,21 +1,20 @@
 //! The pipe: one connection, read from a source and answered to a sink.
-ghost use Rattle.std.specs.Prelude.{◌≡◌, ◌≤◌, ◌<◌, ◌^◌, [], length, unwrap_or, IfOk, OnErr};
+ghost use Rattle.std.specs.Prelude.{◌≡◌, ◌≤◌, [], unwrap_or, IfOk, OnErr};
 ghost use Rattle.history_lines.specs.Lines.{history_text as history_text_of};
 ghost use Rattle.text_streams.specs.Streams.{WritesAll};
 ghost use Rattle.pipe_runs.specs.Pipe as Spec;
 ghost use Rattle.pipe_runs.specs.declared.shown.Shown.TheVariants.{Bytes, Text};
 
 use crate::batch::Batch;
-use crate::input_end::InputEnd;
-use crate::pipe_end::{MAX_PIPED, PipeEnd, Piped};
-use crate::running::run_input;
+use crate::piped::Piped;
 use crate::shown::Shown;
 use adapter_policies::Setup;
+use conn_engine::{StreamEnd, run_stream};
 use history_lines::history_text;
 use lane_driver::{Log, Noted};
 use orb_base::{CountingSink, List, NoMemory, Serving, Sink, Source};
 use std::alloc::Global;
-use text_streams::{ReadAll, WriteAll, read_all, write_all};
+use text_streams::{WriteAll, write_all};
 
 /// The history that was kept; the empty one where none was.
 fn kept_of(alloc: Global, log: Log) -> List<Noted>
@@ -40,75 +39,64 @@ fn write_history<O: Sink>(
     Ok(write_all(sink, text.as_bytes()))
 }
 
-/// Runs a whole input, and writes the bytes that its history says.
-fn run_as_bytes<O: Sink, S: Serving>(
+/// Runs a stream, and writes the bytes that its history says.
+fn run_as_bytes<I: Source, O: Sink, S: Serving>(
     alloc: Global,
     setup: &Setup,
     servants: &S,
     batch: u8,
+    source: &mut I,
     sink: &mut O,
-    input: &[u8],
 ) -> Result<Piped, NoMemory>
     requires batch { 1 ≤ batch }
-    requires few { length input.now < 2 ^ 32 }
-    ensures { Spec.Shows result Bytes setup.now (S.outcome servants.now) batch input.now (O.state sink.old) (O.state sink.new) }
+    ensures { Spec.Pipes result Bytes setup.now (S.outcome servants.now) batch (I.state source.old) (I.state source.new)
+        (O.state sink.old) (O.state sink.new) }
 {
     let mut log = Log::kept(alloc);
-    let end = run_input(alloc, setup, servants, batch, &mut log, sink, input)?;
+    let end = run_stream(alloc, setup, servants, batch, &mut log, source, sink)?;
     let history = kept_of(alloc, log);
     Ok(Piped { end, history })
 }
 
-/// Runs a whole input, and writes the text of its history in place of the bytes.
-fn run_as_text<O: Sink, S: Serving>(
+/// Runs a stream, and writes the text of its history in place of the bytes.
+fn run_as_text<I: Source, O: Sink, S: Serving>(
     alloc: Global,
     setup: &Setup,
     servants: &S,
     batch: u8,
+    source: &mut I,
     sink: &mut O,
-    input: &[u8],
 ) -> Result<Piped, NoMemory>
     requires batch { 1 ≤ batch }
-    requires few { length input.now < 2 ^ 32 }
-    ensures { Spec.Shows result Text setup.now (S.outcome servants.now) batch input.now (O.state sink.old) (O.state sink.new) }
+    ensures { Spec.Pipes result Text setup.now (S.outcome servants.now) batch (I.state source.old) (I.state source.new)
+        (O.state sink.old) (O.state sink.new) }
 {
     let mut log = Log::kept(alloc);
     let mut nowhere = CountingSink::new();
-    let end = run_input(alloc, setup, servants, batch, &mut log, &mut nowhere, input)?;
+    let end = run_stream(
+        alloc,
+        setup,
+        servants,
+        batch,
+        &mut log,
+        source,
+        &mut nowhere,
+    )?;
     let history = kept_of(alloc, log);
     match write_history(alloc, sink, history.as_slice())? {
         WriteAll::Whole => Ok(Piped { end, history }),
         WriteAll::Failed => Ok(Piped {
-            end: InputEnd::WriteFault,
+            end: StreamEnd::WriteFault,
             history,
         }),
     }
 }
 
-/// Runs a whole input, and shows its history.
-fn run_shown<O: Sink, S: Serving>(
-    alloc: Global,
-    setup: &Setup,
-    servants: &S,
-    batch: u8,
-    shown: Shown,
-    sink: &mut O,
-    input: &[u8],
-) -> Result<Piped, NoMemory>
-    requires batch { 1 ≤ batch }
-    requires few { length input.now < 2 ^ 32 }
-    ensures { Spec.Shows result shown setup.now (S.outcome servants.now) batch input.now (O.state sink.old) (O.state sink.new) }
-{
-    match shown {
-        Shown::Bytes => run_as_bytes(alloc, setup, servants, batch, sink, input),
-        Shown::Text => run_as_text(alloc, setup, servants, batch, sink, input),
-    }
-}
-
-/// Runs the pipe of a setup: reads the input to its end, runs it in groups of `batch` calls, and writes the bytes that
-/// its history says, or the text of the history, which is answered. An input of more than `MAX_PIPED` bytes is too long so far. It
-/// returns where each read and write returns. Memory grows with the input, the machine's limits and the history; the work is that of
-/// hearing, and for each call that of one step of the machine.
+/// Runs the pipe of a setup: reads the stream piece by piece, runs it in groups of `batch` calls, and writes the bytes that its history
+/// says while it runs, or the text of its history behind it. The history is answered, whatever the end: how the reading came out, at
+/// the latest behind `conn_engine::MAX_TAKEN` bytes, or that a limit of the run was met, or that a write failed. Where the text could
+/// not be written whole, that goes before how the run came out. It returns where each read and write returns. Memory grows with the machine's
+/// limits, the unfinished messages and the history; the work is that of hearing, and for each call that of one step of the machine.
 pub fn pipe_run<I: Source, O: Sink, S: Serving>(
     alloc: Global,
     setup: &Setup,
@@ -117,18 +105,13 @@ pub fn pipe_run<I: Source, O: Sink, S: Serving>(
     shown: Shown,
     source: &mut I,
     sink: &mut O,
-) -> Result<PipeEnd, NoMemory>
+) -> Result<Piped, NoMemory>
     ensures { Spec.Pipes result shown setup.now (S.outcome servants.now) batch (I.state source.old) (I.state source.new)
         (O.state sink.old) (O.state sink.new) }
 {
-    match read_all(alloc, MAX_PIPED, source) {
-        ReadAll::Whole(input) => {
-            let calls = batch.calls();
-            let ran = run_shown(alloc, setup, servants, calls, shown, sink, input.as_slice())?;
-            Ok(PipeEnd::Ran(ran))
-        }
-        ReadAll::TooLong => Ok(PipeEnd::TooLong),
-        ReadAll::Failed(_) => Ok(PipeEnd::ReadFault),
-        ReadAll::NoMemory => Err(NoMemory),
+    let calls = batch.calls();
+    match shown {
+        Shown::Bytes => run_as_bytes(alloc, setup, servants, calls, source, sink),
+        Shown::Text => run_as_text(alloc, setup, servants, calls, source, sink),
     }
 }

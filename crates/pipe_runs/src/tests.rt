@@ -1,13 +1,13 @@
-//! Whole inputs over setups in memory: what is written, and how the run comes out.
+//! Streams over setups in memory: what is written, and how the run comes out.
 ghost use Rattle.std.specs.Prelude.{[]};
 ghost use Rattle.orb_base.specs.declared.outcome.Outcome.TheVariants.{Returned};
 
 use super::*;
 use adapter_policies::{Setup, read_setup};
+use conn_engine::{READ_LEN, ReadEnd, StreamEnd};
 use giop_frames::FrameCause;
 use giop_messages::Fault;
 use heard_calls::Ending;
-use lane_driver::Log;
 use orb_base::{
     Completed, Job, List, MemSink, MemSource, NoMemory, Outcome, Serving, SharedOctets, Sys,
     SysName, Text,
@@ -69,6 +69,9 @@ const REPLY_3: &[u8] = b"GIOP\x01\x02\0\x01\0\0\0\x0c\0\0\0\x03\0\0\0\0\0\0\0\0"
 /// A header with another magic.
 const BROKEN: &[u8] = b"GIOX\x01\x02\0\0\0\0\0\0";
 
+/// A header whose body isn't there.
+const BROKEN_OFF: &[u8] = b"GIOP\x01\x02\0\0\0\0\0\x30";
+
 const CLOSE: &[u8] = b"GIOP\x01\x02\0\x05\0\0\0\0";
 
 const ERROR: &[u8] = b"GIOP\x01\x02\0\x06\0\0\0\0";
@@ -87,79 +90,62 @@ fn joined(alloc: Global, parts: &[&[u8]]) -> Result<Vec<u8>, Fail> {
     Ok(bytes)
 }
 
-/// What comes of an input over a pool, in groups of so many, where the first write fails or none does; what was written, and the
-/// number of the calls in the history.
+/// How the reads and writes are cut and fail, by their numbers.
+#[derive(Drop)]
+struct Outside<'a> {
+    /// Bytes of each read, and of each write.
+    cut: usize,
+    reads: &'a [u64],
+    writes: &'a [u64],
+}
+
+/// Nothing fails, and all bytes that fit go in one read or write.
+const STEADY: Outside<'static> = Outside {
+    cut: READ_LEN,
+    reads: &[],
+    writes: &[],
+};
+
+/// The input ended as it may.
+const ENDED: StreamEnd = StreamEnd::Ended(ReadEnd::Ended(Ending::Ended));
+
+fn cuts_of(alloc: Global, cut: usize) -> Result<List<usize>, Fail> {
+    let mut cuts = Vec::new(alloc);
+    for _ in 0..1024 {
+        cuts.push(cut)?;
+    }
+    Ok(List::from_vec(cuts))
+}
+
+/// What the pipe of a pool shows of an input, in groups of so many: how it comes out, what was written, and the number of the calls in
+/// the history.
 fn ran(
-    rt: &impl Abort,
     alloc: Global,
     pool: &str,
-    batch: u8,
-    failing: &[u64],
-    input: &[&[u8]],
-) -> Result<(InputEnd, Vec<u8>, usize), Fail> {
-    let setup = setup_of(alloc, pool)?;
-    let bytes = joined(alloc, input)?;
-    assert!(rt; setup.slots() == 4 && setup.per_slot() == 32 && batch > 0 && bytes.len() < 1024);
-    let failing = List::from_vec(Vec::from_slice(alloc, failing)?);
-    let mut sink = MemSink::new(alloc, List::new(alloc), failing);
-    let mut log = Log::kept(alloc);
-    let quick = Quick { alloc };
-    let end = run_input(
-        alloc,
-        &setup,
-        &quick,
-        batch,
-        &mut log,
-        &mut sink,
-        bytes.as_slice(),
-    )?;
-    let history = log.into_entries().ok_or("a history")?;
-    Ok((end, Vec::from_slice(alloc, sink.held())?, history.len()))
-}
-
-#[test]
-fn an_urgent_request_is_lent_a_thread_and_overtakes(rt: HostRuntime) -> Result<(), Fail> {
-    let alloc = rt.alloc();
-    let (end, written, calls) = ran(&rt, alloc, LANES, 3, &[], &[ASKS_1, ASKS_2, ASKS_3])?;
-    assert_eq!(rt; end, InputEnd::Ended(Ending::Ended));
-    assert!(rt; written == joined(alloc, &[REPLY_2, REPLY_3, REPLY_1])?);
-    assert_eq!(rt; calls, 14);
-    let (_, written, _) = ran(&rt, alloc, LANES, 1, &[], &[ASKS_1, ASKS_2])?;
-    assert!(rt; written == joined(alloc, &[REPLY_1, REPLY_2])?);
-    Ok(())
-}
-
-/// What the pipe shows of an input over the lanes, in groups of three, and how it comes out.
-fn shown_of(
-    rt: &impl Abort,
-    alloc: Global,
+    batch: u16,
     shown: Shown,
-    input: &[&[u8]],
-    failing: &[u64],
-) -> Result<(PipeEnd, Vec<u8>), Fail> {
-    let setup = setup_of(alloc, LANES)?;
-    assert!(rt; setup.slots() == 4 && setup.per_slot() == 32);
-    let bytes = List::from_vec(joined(alloc, input)?);
-    let failing = List::from_vec(Vec::from_slice(alloc, failing)?);
-    let mut source = MemSource::new(bytes, List::new(alloc), failing);
-    let mut sink = MemSink::new(alloc, List::new(alloc), List::new(alloc));
+    input: &[u8],
+    outside: &Outside<'_>,
+) -> Result<(StreamEnd, Vec<u8>, usize), Fail> {
+    let setup = setup_of(alloc, pool)?;
+    let bytes = List::from_vec(Vec::from_slice(alloc, input)?);
+    let reads = List::from_vec(Vec::from_slice(alloc, outside.reads)?);
+    let writes = List::from_vec(Vec::from_slice(alloc, outside.writes)?);
+    let mut source = MemSource::new(bytes, cuts_of(alloc, outside.cut)?, reads);
+    let mut sink = MemSink::new(alloc, cuts_of(alloc, outside.cut)?, writes);
     let quick = Quick { alloc };
-    let batch = Batch::new(3).ok_or("a batch")?;
-    let end = pipe_run(alloc, &setup, &quick, batch, shown, &mut source, &mut sink)?;
-    Ok((end, Vec::from_slice(alloc, sink.held())?))
+    let batch = Batch::new(batch).ok_or("a batch")?;
+    let ran = pipe_run(alloc, &setup, &quick, batch, shown, &mut source, &mut sink)?;
+    Ok((
+        ran.end,
+        Vec::from_slice(alloc, sink.held())?,
+        ran.history.len(),
+    ))
 }
 
 /// The history of the three requests: the second is lent the thread of the lower lane, the third waits, and overtakes the first.
 const HISTORY: &[u8] =
     b"offer c0.0 #1 p20 l1 run t1\noffer c0.0 #2 p20 l1 lent t0\noffer c0.0 #3 p20 l1 kept\ntake t0 #2\nfinish t0 #2 returned\ntake t0 #3\nfinish t0 #3 returned\ntake t1 #1\nfinish t1 #1 returned\ncollect c0.0 #2\ncollect c0.0 #3\ncollect c0.0 #1\nend c0.0 quiet\ncollect c0.0 done\n";
-
-/// How a run came out, and the number of the calls in its history; `None` where there was none.
-fn run_of(end: &PipeEnd) -> Option<(InputEnd, usize)> {
-    match end {
-        PipeEnd::Ran(piped) => Some((piped.end, piped.history.len())),
-        PipeEnd::TooLong | PipeEnd::ReadFault => None,
-    }
-}
 
 #[test]
 fn the_pipe_shows_bytes_or_the_text_of_its_history(rt: HostRuntime) -> Result<(), Fail> {
@@ -167,32 +153,144 @@ fn the_pipe_shows_bytes_or_the_text_of_its_history(rt: HostRuntime) -> Result<()
     assert!(rt; Batch::new(0).is_none() && Batch::new(65).is_none());
     assert_eq!(rt; Batch::new(64).map(|batch| batch.calls()), Some(64));
     assert_eq!(rt; Batch::new(1), Some(Batch::one()));
-    let ended = Some((InputEnd::Ended(Ending::Ended), 14));
-    let asks: [&[u8]; 3] = [ASKS_1, ASKS_2, ASKS_3];
-    let (end, written) = shown_of(&rt, alloc, Shown::Bytes, &asks, &[])?;
-    assert_eq!(rt; run_of(&end), ended);
-    assert!(rt; written == joined(alloc, &[REPLY_2, REPLY_3, REPLY_1])?);
-    let (end, written) = shown_of(&rt, alloc, Shown::Text, &asks, &[])?;
-    assert_eq!(rt; run_of(&end), ended);
-    assert!(rt; written.as_slice() == HISTORY);
-    let (end, written) = shown_of(&rt, alloc, Shown::Text, &asks, &[0])?;
-    assert!(rt; matches!(end, PipeEnd::ReadFault));
+    let asks = joined(alloc, &[ASKS_1, ASKS_2, ASKS_3])?;
+    let overtaken = joined(alloc, &[REPLY_2, REPLY_3, REPLY_1])?;
+    let in_order = joined(alloc, &[REPLY_1, REPLY_2, REPLY_3])?;
+    let rows: [(u16, Shown, &[u8]); 3] = [
+        (3, Shown::Bytes, overtaken.as_slice()),
+        (1, Shown::Bytes, in_order.as_slice()),
+        (3, Shown::Text, HISTORY),
+    ];
+    for (batch, shown, wanted) in rows {
+        let (end, written, calls) = ran(alloc, LANES, batch, shown, asks.as_slice(), &STEADY)?;
+        assert_eq!(rt; (end, calls), (ENDED, 14));
+        assert!(rt; written.as_slice() == wanted);
+    }
+    Ok(())
+}
+
+#[test]
+fn a_stream_may_break_a_rule_or_meet_a_limit(rt: HostRuntime) -> Result<(), Fail> {
+    let alloc = rt.alloc();
+    let fault = Fault::Frame(FrameCause::BadMagic);
+    let broken = StreamEnd::Ended(ReadEnd::Ended(Ending::Broken { offset: 60, fault }));
+    let cut = StreamEnd::Ended(ReadEnd::Ended(Ending::Cut(60)));
+    let rows: [(&str, &[&[u8]], StreamEnd, &[u8]); 4] = [
+        (LANES, &[ASKS_1, BROKEN, ASKS_2], broken, ERROR),
+        (LANES, &[ASKS_1, CLOSE, BROKEN], ENDED, &[]),
+        (LANES, &[ASKS_1, BROKEN_OFF], cut, &[]),
+        (
+            ONE_CALL,
+            &[ASKS_1, ASKS_2, BROKEN],
+            StreamEnd::Closed,
+            CLOSE,
+        ),
+    ];
+    for (pool, parts, out_so, last) in rows {
+        let bytes = joined(alloc, parts)?;
+        let wanted = joined(alloc, &[REPLY_1, last])?;
+        let (end, written, _) = ran(alloc, pool, 1, Shown::Bytes, bytes.as_slice(), &STEADY)?;
+        assert_eq!(rt; end, out_so);
+        assert!(rt; written == wanted);
+    }
+    Ok(())
+}
+
+/// The histories of no request, of one, and of two, in groups of one.
+const NONE_RAN: &[u8] = b"end c0.0 quiet\ncollect c0.0 done\n";
+
+const ONE_RAN: &[u8] =
+    b"offer c0.0 #1 p20 l1 run t1\ntake t1 #1\nfinish t1 #1 returned\ncollect c0.0 #1\nend c0.0 quiet\ncollect c0.0 done\n";
+
+const TWO_RAN: &[u8] =
+    b"offer c0.0 #1 p20 l1 run t1\ntake t1 #1\nfinish t1 #1 returned\ncollect c0.0 #1\noffer c0.0 #2 p20 l1 run t1\ntake t1 #2\nfinish t1 #2 returned\ncollect c0.0 #2\nend c0.0 quiet\ncollect c0.0 done\n";
+
+#[test]
+fn what_was_read_before_a_failed_read_is_shown(rt: HostRuntime) -> Result<(), Fail> {
+    let alloc = rt.alloc();
+    let asks = joined(alloc, &[ASKS_1, ASKS_2])?;
+    let both = joined(alloc, &[REPLY_1, REPLY_2])?;
+    for n in 0..asks.len() + 1 {
+        let (bytes, text, noted): (&[u8], &[u8], usize) = match n {
+            0..60 => (&[], NONE_RAN, 2),
+            60..120 => (REPLY_1, ONE_RAN, 6),
+            _ => (both.as_slice(), TWO_RAN, 10),
+        };
+        let reads = [n as u64];
+        let outside = Outside {
+            cut: 1,
+            reads: &reads,
+            writes: &[],
+        };
+        for (shown, wanted) in [(Shown::Bytes, bytes), (Shown::Text, text)] {
+            let (end, written, calls) = ran(alloc, LANES, 1, shown, asks.as_slice(), &outside)?;
+            assert_eq!(rt;
+                (end, calls),
+                (StreamEnd::Ended(ReadEnd::ReadFault), noted),
+                "{n}"
+            );
+            assert!(rt; written.as_slice() == wanted, "{n}");
+        }
+    }
+    Ok(())
+}
+
+#[test]
+fn a_front_stands_behind_a_failed_write(rt: HostRuntime) -> Result<(), Fail> {
+    let alloc = rt.alloc();
+    let asks = joined(alloc, &[ASKS_1, ASKS_2])?;
+    let both = joined(alloc, &[REPLY_1, REPLY_2])?;
+    for (shown, whole) in [(Shown::Bytes, both.as_slice()), (Shown::Text, TWO_RAN)] {
+        for n in 0..whole.len() {
+            let writes = [n as u64];
+            let outside = Outside {
+                cut: 1,
+                reads: &[],
+                writes: &writes,
+            };
+            let (end, written, calls) = ran(alloc, LANES, 1, shown, asks.as_slice(), &outside)?;
+            // The reply to the first request is handed over by the fourth call, that to the second by the eighth.
+            let noted = match shown {
+                Shown::Bytes if n < 24 => 4,
+                Shown::Bytes => 8,
+                Shown::Text => 10,
+            };
+            assert_eq!(rt;
+                (end, calls),
+                (StreamEnd::WriteFault, noted),
+                "{shown:?} {n}"
+            );
+            assert!(rt; written.as_slice() == &whole[..n], "{shown:?} {n}");
+        }
+    }
+    Ok(())
+}
+
+#[test]
+fn a_failed_write_of_the_text_goes_before_a_failed_read(rt: HostRuntime) -> Result<(), Fail> {
+    let alloc = rt.alloc();
+    let outside = Outside {
+        cut: READ_LEN,
+        reads: &[1],
+        writes: &[0],
+    };
+    let (end, written, calls) = ran(alloc, LANES, 1, Shown::Text, ASKS_1, &outside)?;
+    assert_eq!(rt; (end, calls), (StreamEnd::WriteFault, 6));
     assert!(rt; written.is_empty());
     Ok(())
 }
 
 #[test]
-fn an_input_may_break_a_rule_or_meet_a_limit(rt: HostRuntime) -> Result<(), Fail> {
+fn a_long_stream_is_run(rt: HostRuntime) -> Result<(), Fail> {
     let alloc = rt.alloc();
-    let fault = Fault::Frame(FrameCause::BadMagic);
-    let (end, written, _) = ran(&rt, alloc, LANES, 1, &[], &[ASKS_1, BROKEN])?;
-    assert_eq!(rt; end, InputEnd::Ended(Ending::Broken { offset: 60, fault }));
-    assert!(rt; written == joined(alloc, &[REPLY_1, ERROR])?);
-    let (end, written, _) = ran(&rt, alloc, ONE_CALL, 1, &[], &[ASKS_1, ASKS_2])?;
-    assert_eq!(rt; end, InputEnd::Closed);
-    assert!(rt; written == joined(alloc, &[REPLY_1, CLOSE])?);
-    let (end, written, _) = ran(&rt, alloc, LANES, 1, &[0], &[ASKS_1])?;
-    assert_eq!(rt; end, InputEnd::WriteFault);
-    assert!(rt; written.is_empty());
+    let mut input = Vec::new(alloc);
+    let mut wanted = Vec::new(alloc);
+    for _ in 0..20_000 {
+        input.extend_from_slice(ASKS_1)?;
+        wanted.extend_from_slice(REPLY_1)?;
+    }
+    let (end, written, calls) = ran(alloc, LANES, 1, Shown::Bytes, input.as_slice(), &STEADY)?;
+    assert_eq!(rt; (end, calls), (ENDED, 80_002));
+    assert!(rt; written == wanted);
     Ok(())
 }
