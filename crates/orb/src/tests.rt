@@ -9,6 +9,8 @@ use idl_grammar::{IdlCause, IdlFault};
 use object_refs::{RefCause, RefFault};
 use orb_base::{Filed, Files, List, Text};
 use orb_command::{Note, Role};
+use script_checks::{CheckCause, CheckFault};
+use script_grammar::ScriptFault;
 use std::alloc::Global;
 use std::test::Fail;
 use std::{fs, io};
@@ -36,6 +38,19 @@ fn each_note_has_its_line(rt: HostRuntime) -> Result<(), Fail> {
         (Note::Absent(Role::Config), "absent: config"),
         (Note::TooLong(Role::Idl), "refused: idl: TooLong"),
         (Note::Absent(Role::Idl), "absent: idl"),
+        (Note::Absent(Role::Scripts), "absent: scripts"),
+        (
+            Note::Script(ScriptFault { line: 1, column: 9 }),
+            "refused: scripts: 1:9: Expected",
+        ),
+        (
+            Note::Check(CheckFault {
+                cause: CheckCause::NotSettable,
+                line: 2,
+                column: 7,
+            }),
+            "refused: scripts: 2:7: NotSettable",
+        ),
         (
             Note::Idl(IdlFault {
                 cause: IdlCause::Clash,

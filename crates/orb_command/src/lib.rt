@@ -23,6 +23,8 @@ mod idl_tests;
 #[cfg(test)]
 mod lane_tests;
 #[cfg(test)]
+mod script_tests;
+#[cfg(test)]
 mod tests;
 #[cfg(test)]
 mod tool_tests;
