@@ -189,10 +189,10 @@ empties_none s log out between = record {
   faults = refl;
 }
 
-pub empties_more : {E : Type 0} (course : Course) (s m s' : State) (log mid log' : Option History) (out among out' : SinkState) → course ≡ Whole → is_some (item_place m pipe_conn) ≡ true
-    → Empties s m log mid out among → CollectsBy {E = E} (Ok course) m s' mid log' among out' → Empties s s' log log' out out'
-empties_more {E = E} course s m s' log mid log' out among out' whole some so_far one =
-    let says : WroteText (handed_bytes one.reply) among out' × (out'.faults ≡ among.faults) = subst (λ (x : Course). Says {E = E} (Ok x) (handed_bytes one.reply) among out') whole one.says in
+pub empties_more : (course : Course) (s m s' : State) (log mid log' : Option History) (out among out' : SinkState) → course ≡ Whole → is_some (item_place m pipe_conn) ≡ true
+    → Empties s m log mid out among → CollectsBy course m s' mid log' among out' → Empties s s' log log' out out'
+empties_more course s m s' log mid log' out among out' whole some so_far one =
+    let says : WroteText (handed_bytes one.reply) among out' × (out'.faults ≡ among.faults) = subst (λ (x : Course). Says x (handed_bytes one.reply) among out') whole one.says in
     let wrote : WroteText (said pipe_conn (entry (Collect pipe_conn) one.reply ∷ [])) among out' = subst (λ (x : List ℕ). WroteText x among out') (sym (said_one one.reply)) says.0 in
     let stays = collect_stays m s' mid log' one.reply so_far.stays.between some one.applied in
     record {
@@ -205,10 +205,10 @@ empties_more {E = E} course s m s' log mid log' out among out' whole some so_far
       faults = says.1 ∙ so_far.faults;
     }
 
-pub empties_stopped : {E : Type 0} (outcome : Servant) (course : Course) (s m s' : State) (log mid log' : Option History) (out among out' : SinkState) → course ≡ Stopped → is_some (item_place m pipe_conn) ≡ true
-    → Empties s m log mid out among → CollectsBy {E = E} (Ok course) m s' mid log' among out' → StoppedWriting emptying outcome s log log' out out' × Rose out.faults out'.faults
-empties_stopped {E = E} outcome course s m s' log mid log' out among out' stopped some so_far one =
-    let says : WroteFrontOf (handed_bytes one.reply) among out' × Rose among.faults out'.faults = subst (λ (x : Course). Says {E = E} (Ok x) (handed_bytes one.reply) among out') stopped one.says in
+pub empties_stopped : (outcome : Servant) (course : Course) (s m s' : State) (log mid log' : Option History) (out among out' : SinkState) → course ≡ Stopped → is_some (item_place m pipe_conn) ≡ true
+    → Empties s m log mid out among → CollectsBy course m s' mid log' among out' → StoppedWriting emptying outcome s log log' out out' × Rose out.faults out'.faults
+empties_stopped outcome course s m s' log mid log' out among out' stopped some so_far one =
+    let says : WroteFrontOf (handed_bytes one.reply) among out' × Rose among.faults out'.faults = subst (λ (x : Course). Says x (handed_bytes one.reply) among out') stopped one.says in
     let wrote : WroteFrontOf (said pipe_conn (entry (Collect pipe_conn) one.reply ∷ [])) among out' = subst (λ (x : List ℕ). WroteFrontOf x among out') (sym (said_one one.reply)) says.0 in (
       record {
         entries = so_far.entries ++ entry (Collect pipe_conn) one.reply ∷ [];

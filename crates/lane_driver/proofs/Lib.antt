@@ -1,4 +1,3 @@
-pub mod ReplyLaws
 pub mod Fronts
 pub mod Driving
 pub mod Opened

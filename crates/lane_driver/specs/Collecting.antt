@@ -20,22 +20,20 @@ abbrev pub emptying : Doer
 emptying servant run = emptied pipe_conn run
 
 -- some bytes were written, or a front of them up to a failed write
-abbrev pub Says : {E : Type 0} → Result Course E → List ℕ → SinkState → SinkState → Type 0
-Says (Ok Whole) bytes out out' = WroteText bytes out out' × (out'.faults ≡ out.faults)
-Says (Ok Stopped) bytes out out' = WroteFrontOf bytes out out' × Rose out.faults out'.faults
-Says (Err _) bytes out out' = out' ≡ out
+abbrev pub Says : Course → List ℕ → SinkState → SinkState → Type 0
+Says Whole bytes out out' = WroteText bytes out out' × (out'.faults ≡ out.faults)
+Says Stopped bytes out out' = WroteFrontOf bytes out out' × Rose out.faults out'.faults
 
 -- one Collect was answered, and what it says was written
-pub record CollectsBy {E : Type 0} (result : Result Course E) (s s' : State) (log log' : Option History)
-    (out out' : SinkState) : Type 0 where
+pub record CollectsBy (course : Course) (s s' : State) (log log' : Option History) (out out' : SinkState) : Type 0 where
   pub reply : LaneReply
   pub applied : IsApplied s (Collect pipe_conn) s' log log' reply
-  pub says : Says result (handed_bytes reply) out out'
+  pub says : Says course (handed_bytes reply) out out'
 
 -- the same, or memory was wanting and nothing was written
 abbrev pub Collects : {E : Type 0} → Result Course E → State → State → Option History → Option History
     → SinkState → SinkState → Type 0
-Collects {E = E} (Ok course) s s' log log' out out' = CollectsBy {E = E} (Ok course) s s' log log' out out'
+Collects (Ok course) s s' log log' out out' = CollectsBy course s s' log log' out out'
 Collects (Err _) s s' log log' out out' = out' ≡ out
 
 -- some items were collected and written

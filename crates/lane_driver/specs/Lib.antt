@@ -1,6 +1,5 @@
 pub mod Driving
 pub mod Turning
-pub mod Shortness
 pub mod Collecting
 pub mod Feeding
 pub mod Running

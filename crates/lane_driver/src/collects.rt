@@ -5,39 +5,37 @@ ghost use Rattle.lane_machine.specs.Readiness.{is_ready};
 ghost use Rattle.pipe_laws.specs.Setup.{pipe_conn};
 ghost use Rattle.pipe_laws.specs.Said.{handed_bytes};
 ghost use Rattle.pipe_laws.specs.Piped.{settled};
-ghost use Rattle.lane_driver.specs.Shortness.{HandsShort};
+ghost use Rattle.item_writer.specs.Shortness.{HandsShort};
 ghost use Rattle.lane_driver.specs.Driving.{Servant, IsBetween, Drives};
 ghost use Rattle.pipe_laws.specs.Lacking.{served};
 ghost use Rattle.lane_driver.specs.Collecting.{emptying, Says, Collects, EmptiesWhole, SettlesWhole};
 
 use crate::course::Course;
 use crate::log::Log;
-use crate::replies::said_bytes;
 use crate::turns::{apply_call, run_to_rest};
 use adapter_policies::Setup;
+use item_writer::write_said;
 use lane_machine::{LaneCall, LaneReply, Lanes};
 use orb_base::{ConnId, NoMemory, Serving, Sink};
 use std::alloc::Global;
-use text_streams::{WriteAll, write_all};
+use text_streams::WriteAll;
 
 /// The connection of the pipe.
 pub const PIPE_CONN: ConnId = ConnId { slot: 0, nth: 0 };
 
 /// Writes what an answer of Collect says.
-fn say<O: Sink>(alloc: Global, sink: &mut O, reply: &LaneReply) -> Result<Course, NoMemory>
+fn say<O: Sink>(sink: &mut O, reply: &LaneReply) -> Course
     requires { HandsShort reply.now }
     ensures { Says result (handed_bytes reply.now) (O.state sink.old) (O.state sink.new) }
 {
-    let bytes = said_bytes(alloc, reply)?;
-    match write_all(sink, bytes.as_slice()) {
-        WriteAll::Whole => Ok(Course::Whole),
-        WriteAll::Failed => Ok(Course::Stopped),
+    match write_said(sink, reply) {
+        WriteAll::Whole => Course::Whole,
+        WriteAll::Failed => Course::Stopped,
     }
 }
 
 /// One Collect of the pipe's connection, with the write of what it hands out.
 pub fn collect<O: Sink>(
-    alloc: Global,
     lanes: &mut Lanes,
     log: &mut Log,
     sink: &mut O,
@@ -47,12 +45,11 @@ pub fn collect<O: Sink>(
     ensures { Collects result lanes.old lanes.new log.old log.new (O.state sink.old) (O.state sink.new) }
 {
     let reply = apply_call(lanes, log, LaneCall::Collect { conn: PIPE_CONN })?;
-    say(alloc, sink, &reply)
+    Ok(say(sink, &reply))
 }
 
 /// Collects and writes all items of the pipe's connection.
 pub fn collect_all<O: Sink>(
-    alloc: Global,
     lanes: &mut Lanes,
     log: &mut Log,
     sink: &mut O,
@@ -63,7 +60,7 @@ pub fn collect_all<O: Sink>(
     ensures stays { EmptiesWhole result lanes.old lanes.new }
 {
     while lanes.has_item(PIPE_CONN) {
-        match collect(alloc, lanes, log, sink)? {
+        match collect(lanes, log, sink)? {
             Course::Whole => {}
             Course::Stopped => return Ok(Course::Stopped),
         }
@@ -86,5 +83,5 @@ pub fn settle<O: Sink, S: Serving>(
     ensures stays { SettlesWhole result lanes.old lanes.new }
 {
     run_to_rest(alloc, lanes, log, setup, servants)?;
-    collect_all(alloc, lanes, log, sink)
+    collect_all(lanes, log, sink)
 }

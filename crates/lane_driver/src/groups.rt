@@ -126,7 +126,7 @@ pub fn end_run<O: Sink, S: Serving>(
     let conn = PIPE_CONN;
     apply_call(lanes, log, LaneCall::End { conn, how: last })?;
     match settle(alloc, lanes, log, sink, setup, servants)? {
-        Course::Whole => collect(alloc, lanes, log, sink),
+        Course::Whole => collect(lanes, log, sink),
         Course::Stopped => Ok(Course::Stopped),
     }
 }

@@ -12,7 +12,6 @@ mod groups;
 mod laws;
 mod log;
 mod opening;
-mod replies;
 mod runs;
 mod turns;
 

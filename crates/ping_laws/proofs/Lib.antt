@@ -7,5 +7,6 @@ pub mod PipeRuns
 pub mod PipedLaws
 pub mod Places
 pub mod Tellings
+pub mod ReplyLengths
 pub mod RepliedLaws
 pub mod StandardFacts

@@ -48,7 +48,7 @@ use Rattle.pipe_runs.specs.Runs.{IsRunOf}
 use Rattle.ping_laws.proofs.Judged.{hears_pings, pings_told}
 use Rattle.ping_laws.proofs.CanOpen.{opens_free, built_in_is_runnable}
 use Rattle.ping_laws.proofs.Places.{pings_place}
-use Rattle.lane_driver.proofs.ReplyLaws.{reply_short}
+use Rattle.ping_laws.proofs.ReplyLengths.{reply_short}
 use Rattle.heard_calls.proofs.StreamCounts.{few_messages}
 use Rattle.ping_laws.proofs.PingSizes.{ping_size, not_over}
 use Rattle.lane_driver.specs.Driving.{run_at as at}

@@ -6,8 +6,7 @@ use Rattle.cdr_core.specs.Field.{number_bytes}
 use Rattle.std.specs.Int.{w32}
 use Rattle.cdr_core.specs.Spelling.{fields_bytes}
 use Rattle.cdr_core.proofs.CallerLemmas.{fields_end-is, length-number_bytes}
-use Rattle.orb_base.specs.declared.order.Order.TheVariants.{Big}
-use Rattle.giop_messages.specs.Message.{reply, located, close, error}
+use Rattle.giop_messages.specs.Message.{reply}
 use Rattle.giop_messages.specs.Spelling.{framed, spelled, all_fields}
 use Rattle.pipe_laws.specs.Said.{bare}
 
@@ -22,14 +21,3 @@ reply_short order id status [] short =
 reply_short order id status (x ∷ xs) short =
     let fields = all_fields (reply (bare id status (x ∷ xs))) in
     omega (arith, framed_len order 1 (fields_bytes order 12 fields), fields_end-is order 12 fields)
-
-pub close_short : length (spelled Big close) ≤ MAX_MESSAGE
-close_short = omega (arith, framed_len Big 5 [])
-
-pub error_short : length (spelled Big error) ≤ MAX_MESSAGE
-error_short = omega (arith, framed_len Big 6 [])
-
-pub located_short : (order : Order) (id status : ℕ) → length (spelled order (located (record { id = id; status = status }))) ≤ MAX_MESSAGE
-located_short order id status =
-    let fields = all_fields (located (record { id = id; status = status })) in
-    omega (arith, framed_len order 4 (fields_bytes order 12 fields), fields_end-is order 12 fields)

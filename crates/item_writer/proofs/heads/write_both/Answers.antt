@@ -1,0 +1,5 @@
+use Rattle.item_writer.proofs.Saying.{failed_first}
+use Rattle.item_writer.proofs.heads.write_both.Goals as goal
+
+pub returns-in-Failed : goal.returns-in-Failed
+returns-in-Failed g c = failed_first c.args.head.now c.args.body.now (g.O.Sink.state c.args.sink.now) (g.O.Sink.state c.write_all.new.sink) c.in-Failed.ensures
