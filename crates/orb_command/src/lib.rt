@@ -19,6 +19,8 @@ mod at_tests;
 #[cfg(test)]
 mod config_tests;
 #[cfg(test)]
+mod hostile_tests;
+#[cfg(test)]
 mod idl_tests;
 #[cfg(test)]
 mod lane_tests;
