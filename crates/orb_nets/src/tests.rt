@@ -1,0 +1,2 @@
+//! What no clause says: each public call once with ample memory.
+use super::*;
