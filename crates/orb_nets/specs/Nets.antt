@@ -1,6 +1,7 @@
--- What a net means. What it reaches is told as an option: None where it doesn't tell it.
-use Rattle.std.specs.Prelude.{◌≡◌, ◌≤◌, ◌<◌, ℕ, List, [], ◌∷◌, ◌++◌, Option, length, take, drop, option_map, IfSome, Result, Ok, Err, slice_index_or}
+-- What a net means. What it was asked and what it reaches are told as options: None where it doesn't tell them.
+use Rattle.std.specs.Prelude.{◌≡◌, ◌≤◌, ◌<◌, ℕ, List, [], ◌∷◌, ◌++◌, Option, length, take, drop, option_map, Result, Ok, Err, slice_index_or}
 use Rattle.orb_base.specs.Outside.{Rose}
+use Rattle.orb_base.specs.Room.{Room}
 use Rattle.orb_base.specs.Links.{AcceptorState}
 use Rattle.orb_nets.specs.declared.net_fault.NetFault.{NetFault}
 use Rattle.orb_nets.specs.declared.net_fault.NetFault.TheVariants.{Failed, NoMemory}
@@ -11,47 +12,43 @@ pub record Ask : Type 0 where
   pub port : ℕ
   pub slots : Option (ℕ × ℕ)
 
--- what is reached: what the calls asked, in order, the links of each slot still to open, and the links to connect
-pub record Reach (I O : Type 0) : Type 0 where
-  pub asked : List Ask
-  pub slots : List (List (I × O))
-  pub peers : List (I × O)
-
--- what a net tells at one moment: what it reaches, and how many of its calls failed
+-- what a net tells at one moment: what its calls asked, in order, the links of each slot still to open, the links still to
+-- connect, and how many calls failed
 pub record NetState (I O : Type 0) : Type 0 where
-  pub reach : Option (Reach I O)
+  pub asked : Option (List Ask)
+  pub slots : Option (List (List (I × O)))
+  pub peers : Option (List (I × O))
   pub faults : ℕ
 
 module _ {I O : Type 0} where
-  -- an acceptor as it is handed out: the first so many links of the slot of this number, and no accept was made
-  abbrev pub opened : ℕ → ℕ → NetState I O → AcceptorState I O
-  opened each nth net = record {
-    links = option_map (λ r. take each (slice_index_or r.slots nth [])) net.reach;
+  -- the call stands behind those asked before
+  abbrev pub Asks : Ask → NetState I O → NetState I O → Type 0
+  Asks ask old new = new.asked ≡ option_map (λ before. before ++ ask ∷ []) old.asked
+
+  -- an acceptor as it is handed out: the first so many links of the slot of this number, from which nothing was accepted;
+  -- a slot behind those that are told has none
+  abbrev pub opened : ℕ → ℕ → Option (List (List (I × O))) → AcceptorState I O
+  opened each nth slots = record {
+    links = option_map (λ told. take each (slice_index_or told nth [])) slots;
     faults = 0;
     ends = 0;
   }
 
-  -- a listen hands out as many acceptors as it was asked for, one for each of the next slots
-  abbrev pub Opens : {A : Type 0} → (A → AcceptorState I O) → ℕ → ℕ → NetState I O → List A → Type 0
-  Opens {A} state slots each net all =
-      (length all ≡ slots) × ((nth : ℕ) (d : A) → nth < slots → state (slice_index_or all nth d) ≡ opened each nth net)
+  -- so many acceptors, one for each of the next slots
+  abbrev pub Opens : {A : Type 0} → (A → AcceptorState I O) → ℕ → ℕ → Option (List (List (I × O))) → List A → Type 0
+  Opens {A} state n each slots all =
+      (length all ≡ n) × ((nth : ℕ) (d : A) → nth < n → state (slice_index_or all nth d) ≡ opened each nth slots)
 
-  -- a connect hands out the first of the links to connect
-  abbrev pub Reaches : I × O → NetState I O → Type 0
-  Reaches link net = IfSome net.reach (λ r. r.peers ≡ link ∷ drop 1 r.peers)
+  -- a listen opens as many slots as it was asked for, which are then no longer to open, or none
+  abbrev pub Listens : {A : Type 0} → (A → AcceptorState I O) → ℕ → ℕ → Result (Room A) NetFault → NetState I O → NetState I O → Type 0
+  Listens state n each (Ok all) old new =
+      Opens state n each old.slots all.items × (new.slots ≡ option_map (λ told. drop n told) old.slots)
+  Listens state n each (Err _) old new = new.slots ≡ old.slots
 
-  -- what is left behind a call: it stands behind those asked before, and so many slots and peers are no longer to come
-  abbrev pub behind : Ask → ℕ → ℕ → Reach I O → Reach I O
-  behind ask slots peers r = record {
-    asked = r.asked ++ ask ∷ [];
-    slots = drop slots r.slots;
-    peers = drop peers r.peers;
-  }
-
-  -- a call is noted whatever it answers; where it hands out so many slots or peers, they are no longer to come
-  abbrev pub Moves : {R : Type 0} → Ask → ℕ → ℕ → Result R NetFault → NetState I O → NetState I O → Type 0
-  Moves ask slots peers (Ok _) old new = new.reach ≡ option_map (behind ask slots peers) old.reach
-  Moves ask slots peers (Err _) old new = new.reach ≡ option_map (behind ask 0 0) old.reach
+  -- a connect hands out the first of the links to connect, or none
+  abbrev pub Connects : Result (I × O) NetFault → NetState I O → NetState I O → Type 0
+  Connects (Ok link) old new = old.peers ≡ option_map (λ rest. link ∷ rest) new.peers
+  Connects (Err _) old new = new.peers ≡ old.peers
 
   -- a failed call raises the count of faults, and no other answer moves it
   abbrev pub CountsNetFault : {R : Type 0} → Result R NetFault → NetState I O → NetState I O → Type 0

@@ -8,9 +8,10 @@ mod mem_net;
 mod mem_slot;
 mod net;
 mod net_fault;
+mod opening;
 mod wanted;
 
-pub use mem_net::MemNet;
+pub use mem_net::{MemNet, SteadyNet};
 pub use mem_slot::MemSlot;
 pub use net::Net;
 pub use net_fault::NetFault;

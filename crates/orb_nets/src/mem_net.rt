@@ -1,15 +1,16 @@
-//! Nets in memory, which tell all that they reach.
-ghost use Rattle.std.specs.Prelude.{◌≡◌, ◌≤◌, [], ◌∷◌, ◌++◌, Some, None, drop, slice_index_or, IsTrue, MatchResult, OnErr};
+//! Nets in memory, which tell what they were asked and what they reach.
+ghost use Rattle.std.specs.Prelude.{◌≡◌, ◌≤◌, [], ◌∷◌, ◌++◌, Some, None};
 ghost use Rattle.orb_base.specs.Outside.{Rose};
 ghost use Rattle.orb_base.specs.MemLinks.{pairs};
-ghost use Rattle.orb_nets.specs.MemNets.{slot_pairs, AreOpened};
+ghost use Rattle.orb_nets.specs.MemNets.{slot_pairs};
 
 use crate::history::History;
 use crate::mem_slot::MemSlot;
 use crate::net::Net;
 use crate::net_fault::NetFault;
+use crate::opening::open;
 use crate::wanted::Wanted;
-use orb_base::{Acceptor, List, MemAcceptor, MemLink, MemSink, MemSource, NoMemory, Text};
+use orb_base::{List, MemAcceptor, MemLink, MemSink, MemSource, NoMemory, SteadyAcceptor, Text};
 use std::alloc::Global;
 use std::collections::LinkedList;
 
@@ -26,7 +27,7 @@ pub struct MemNet {
 }
 
 impl MemNet {
-    /// A net whose listens open these slots, in order, and slots without links behind the last one, and whose connects
+    /// A net whose listens open these slots, in order, and behind the last one slots without links, and whose connects
     /// give the links to these peers, in order. The calls whose numbers, from 0, stand in `failing` fail.
     pub fn new(
         alloc: Global,
@@ -35,7 +36,7 @@ impl MemNet {
         failing: List<u64>,
     ) -> MemNet
         ensures { ⟦<MemNet as Net>⟧.state result
-            ≡ record { reach = Some (record { asked = []; slots = slot_pairs slots; peers = pairs peers }); faults = 0 } }
+            ≡ record { asked = Some []; slots = Some (slot_pairs slots); peers = Some (pairs peers); faults = 0 } }
     {
         MemNet {
             slots,
@@ -48,60 +49,26 @@ impl MemNet {
         }
     }
 
-    /// Notes a call, and whether it is to fail.
+    /// Notes a call, and answers whether it is to fail.
     fn fails(&mut self, host: &Text, wanted: Wanted) -> bool
-        ensures history { self.new.history ≡ self.old.history ++ record { host = host.now; port = wanted.port; slots = wanted.slots } ∷ [] }
-        ensures kept { (self.new.slots ≡ self.old.slots) × (self.new.peers ≡ self.old.peers) }
-        ensures failed { IsTrue result → (self.old.faults ≤ self.new.faults) × Rose self.old.faults self.new.faults }
-        ensures went { ¬ IsTrue result → self.new.faults ≡ self.old.faults }
+        ensures asked { self.new.history ≡ self.old.history ++ record { host = host.now; port = wanted.port; slots = wanted.slots } ∷ [] }
+        ensures kept { (self.new.slots ≡ self.old.slots) × (self.new.peers ≡ self.old.peers) × (self.new.faults ≡ self.old.faults) }
     {
         self.history = self.history.and(host, wanted);
         let call = self.calls;
         self.calls = call.saturating_add(1);
-        if self.failing.as_slice().contains(&call) {
-            self.faults = self.faults.saturating_add(1);
-            return true;
-        }
-        false
+        self.failing.as_slice().contains(&call)
     }
-}
 
-/// The next slot; behind the last one a slot without links.
-fn next_slot(alloc: Global, slots: &mut LinkedList<MemSlot>) -> MemSlot
-    ensures first { pairs result.links ≡ slice_index_or (slot_pairs slots.old) 0 [] }
-    ensures rest { slot_pairs slots.new ≡ drop 1 (slot_pairs slots.old) }
-{
-    match slots.pop_front() {
-        Some(slot) => slot,
-        None => MemSlot {
-            links: LinkedList::new(alloc),
-            failing: List::new(alloc),
-        },
+    /// Counts a fault.
+    fn fault(&mut self) -> NetFault
+        ensures fault { result ≡ NetFault.Failed }
+        ensures counted { (self.old.faults ≤ self.new.faults) × Rose self.old.faults self.new.faults }
+        ensures kept { (self.new.slots ≡ self.old.slots) × (self.new.peers ≡ self.old.peers) × (self.new.history ≡ self.old.history) }
+    {
+        self.faults = self.faults.saturating_add(1);
+        NetFault::Failed
     }
-}
-
-/// The acceptors of the next `n` slots, each for at most so many links. Memory is asked for before a slot is opened.
-#[tactic(auto, using(crate::proofs::OpenLaws::opened_more, crate::proofs::OpenLaws::first_behind, crate::proofs::OpenLaws::drop_one_more))]
-fn open(
-    alloc: Global,
-    slots: &mut LinkedList<MemSlot>,
-    n: u8,
-    each: u32,
-) -> Result<List<MemAcceptor>, NoMemory>
-    ensures acceptors { MatchResult result
-        (λ all. AreOpened ⟦<MemAcceptor as Acceptor>⟧.state each (slot_pairs slots.old) n all.items
-            × (slot_pairs slots.new ≡ drop n (slot_pairs slots.old)))
-        (λ _. slots.new ≡ slots.old) }
-{
-    let mut all = match Vec::with_capacity(alloc, usize::from(n)) {
-        Ok(all) => all,
-        Err(_) => return Err(NoMemory),
-    };
-    for _nth in 0..n {
-        let MemSlot { links, failing } = next_slot(alloc, slots);
-        all.push_reserved(MemAcceptor::new(links, each, failing));
-    }
-    Ok(List::from_vec(all))
 }
 
 impl Net for MemNet {
@@ -112,7 +79,9 @@ impl Net for MemNet {
     type Acc = MemAcceptor;
 
     ghost state = { λ n. record {
-      reach = Some (record { asked = n.history; slots = slot_pairs n.slots; peers = pairs n.peers });
+      asked = Some n.history;
+      slots = Some (slot_pairs n.slots);
+      peers = Some (pairs n.peers);
       faults = n.faults;
     } };
 
@@ -128,7 +97,7 @@ impl Net for MemNet {
             slots: Some((slots, each)),
         };
         if self.fails(host, wanted) {
-            return Err(NetFault::Failed);
+            return Err(self.fault());
         }
         match open(self.alloc, &mut self.slots, slots, each) {
             Ok(all) => Ok(all),
@@ -138,14 +107,76 @@ impl Net for MemNet {
 
     fn connect(&mut self, host: &Text, port: u16) -> Result<(MemSource, MemSink), NetFault> {
         if self.fails(host, Wanted { port, slots: None }) {
-            return Err(NetFault::Failed);
+            return Err(self.fault());
         }
         match self.peers.pop_front() {
             Some(MemLink { source, sink }) => Ok((source, sink)),
-            None => {
-                self.faults = self.faults.saturating_add(1);
-                Err(NetFault::Failed)
-            }
+            None => Err(self.fault()),
         }
+    }
+}
+
+/// A net in memory that never fails: the count of faults is the constant 0, and so are those of its acceptors. It tells
+/// what it was asked and its slots. It tells no peers, since a list of them would come to an end: each connect gives the
+/// link of a peer that has sent nothing and has closed.
+#[derive(Drop)]
+pub struct SteadyNet {
+    slots: LinkedList<MemSlot>,
+    alloc: Global,
+    history: History,
+}
+
+impl SteadyNet {
+    /// A net whose listens open these slots, in order, and behind the last one slots without links. No accept fails.
+    pub fn new(alloc: Global, slots: LinkedList<MemSlot>) -> SteadyNet
+        ensures { ⟦<SteadyNet as Net>⟧.state result
+            ≡ record { asked = Some []; slots = Some (slot_pairs slots); peers = None; faults = 0 } }
+    {
+        SteadyNet {
+            slots,
+            alloc,
+            history: History::new(),
+        }
+    }
+}
+
+impl Net for SteadyNet {
+    type In = MemSource;
+
+    type Out = MemSink;
+
+    type Acc = SteadyAcceptor;
+
+    ghost state = { λ n. record {
+      asked = Some n.history;
+      slots = Some (slot_pairs n.slots);
+      peers = None;
+      faults = 0;
+    } };
+
+    fn listen(
+        &mut self,
+        host: &Text,
+        port: u16,
+        slots: u8,
+        each: u32,
+    ) -> Result<List<SteadyAcceptor>, NetFault> {
+        let wanted = Wanted {
+            port,
+            slots: Some((slots, each)),
+        };
+        self.history = self.history.and(host, wanted);
+        match open(self.alloc, &mut self.slots, slots, each) {
+            Ok(all) => Ok(all),
+            Err(NoMemory) => Err(NetFault::NoMemory),
+        }
+    }
+
+    fn connect(&mut self, host: &Text, port: u16) -> Result<(MemSource, MemSink), NetFault> {
+        self.history = self.history.and(host, Wanted { port, slots: None });
+        let nothing = List::new(self.alloc);
+        let source = MemSource::new(nothing, List::new(self.alloc), List::new(self.alloc));
+        let sink = MemSink::new(self.alloc, List::new(self.alloc), List::new(self.alloc));
+        Ok((source, sink))
     }
 }
