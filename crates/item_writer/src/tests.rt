@@ -7,8 +7,8 @@ use super::*;
 use lane_machine::LaneReply;
 use orb_base::limits::MAX_BODY;
 use orb_base::{
-    Answer, Arc, Completed, ConnId, Due, Item, Job, List, MemSink, Notice, Order, Outcome, Priority,
-    SharedOctets, Sys, SysName, Text, What,
+    Answer, Arc, Completed, ConnId, Due, Item, Job, List, MemSink, Notice, Order, Outcome,
+    Priority, SharedOctets, Sys, SysName, Text, What,
 };
 use std::alloc::Global;
 use std::test::Fail;
@@ -71,11 +71,7 @@ fn is_short(reply: &LaneReply) -> bool
 }
 
 /// What is written for an answer of Collect, and how that came out; the writes of these numbers fail.
-fn written(
-    alloc: Global,
-    reply: &LaneReply,
-    failing: &[u64],
-) -> Result<(WriteAll, Vec<u8>), Fail> {
+fn written(alloc: Global, reply: &LaneReply, failing: &[u64]) -> Result<(WriteAll, Vec<u8>), Fail> {
     if !is_short(reply) {
         return Err(Fail::new("a short body"));
     }
@@ -94,15 +90,28 @@ fn outcomes_are_replies(rt: HostRuntime) -> Result<(), Fail> {
         minor: 1,
         completed: Completed::No,
     };
-    let reply = answered(alloc, Order::Big, Outcome::Returned(octets(alloc, &[0, 100])?))?;
+    let reply = answered(
+        alloc,
+        Order::Big,
+        Outcome::Returned(octets(alloc, &[0, 100])?),
+    )?;
     let (_, bytes) = written(alloc, &reply, &[])?;
-    assert_eq!(rt; bytes.as_slice(), b"GIOP\x01\x02\0\x01\0\0\0\x0e\0\0\0\x07\0\0\0\0\0\0\0\0\0\x64".as_slice());
+    assert_eq!(rt;
+        bytes.as_slice(),
+        b"GIOP\x01\x02\0\x01\0\0\0\x0e\0\0\0\x07\0\0\0\0\0\0\0\0\0\x64".as_slice()
+    );
     let reply = answered(alloc, Order::Little, Outcome::User(octets(alloc, b"x")?))?;
     let (_, bytes) = written(alloc, &reply, &[])?;
-    assert_eq!(rt; bytes.as_slice(), b"GIOP\x01\x02\x01\x01\x0d\0\0\0\x07\0\0\0\x01\0\0\0\0\0\0\0x".as_slice());
+    assert_eq!(rt;
+        bytes.as_slice(),
+        b"GIOP\x01\x02\x01\x01\x0d\0\0\0\x07\0\0\0\x01\0\0\0\0\0\0\0x".as_slice()
+    );
     let reply = answered(alloc, Order::Big, Outcome::System(bad))?;
     let (_, bytes) = written(alloc, &reply, &[])?;
-    assert_eq!(rt; bytes.as_slice(), b"GIOP\x01\x02\0\x01\0\0\0\x3c\0\0\0\x07\0\0\0\x02\0\0\0\0\0\0\0\x24IDL:omg.org/CORBA/BAD_OPERATION:1.0\0\0\0\0\x01\0\0\0\x01".as_slice());
+    assert_eq!(rt;
+        bytes.as_slice(),
+        b"GIOP\x01\x02\0\x01\0\0\0\x3c\0\0\0\x07\0\0\0\x02\0\0\0\0\0\0\0\x24IDL:omg.org/CORBA/BAD_OPERATION:1.0\0\0\0\0\x01\0\0\0\x01".as_slice()
+    );
     Ok(())
 }
 
@@ -113,18 +122,39 @@ fn other_answers_are_their_messages(rt: HostRuntime) -> Result<(), Fail> {
     let early = LaneReply::Handed(Item::Early(job(alloc, Order::Little)?));
     let refused = LaneReply::Handed(Item::Transient(job(alloc, Order::Big)?));
     let rows: [(&LaneReply, &[u8]); 8] = [
-        (&early, b"GIOP\x01\x02\x01\x01\x0c\0\0\0\x07\0\0\0\0\0\0\0\0\0\0\0"),
-        (&refused, b"GIOP\x01\x02\0\x01\0\0\0\x38\0\0\0\x07\0\0\0\x02\0\0\0\0\0\0\0\x20IDL:omg.org/CORBA/TRANSIENT:1.0\0\0\0\0\x01\0\0\0\x01"),
-        (&noticed(Order::Big, What::Bound), b"GIOP\x01\x02\0\x01\0\0\0\x0c\0\0\0\x07\0\0\0\0\0\0\0\0"),
-        (&noticed(Order::Big, What::Located(true)), b"GIOP\x01\x02\0\x04\0\0\0\x08\0\0\0\x07\0\0\0\x01"),
-        (&noticed(Order::Big, What::Located(false)), b"GIOP\x01\x02\0\x04\0\0\0\x08\0\0\0\x07\0\0\0\0"),
-        (&noticed(Order::Big, What::Addressing), b"GIOP\x01\x02\0\x01\0\0\0\x0e\0\0\0\x07\0\0\0\x05\0\0\0\0\0\0"),
+        (
+            &early,
+            b"GIOP\x01\x02\x01\x01\x0c\0\0\0\x07\0\0\0\0\0\0\0\0\0\0\0",
+        ),
+        (
+            &refused,
+            b"GIOP\x01\x02\0\x01\0\0\0\x38\0\0\0\x07\0\0\0\x02\0\0\0\0\0\0\0\x20IDL:omg.org/CORBA/TRANSIENT:1.0\0\0\0\0\x01\0\0\0\x01",
+        ),
+        (
+            &noticed(Order::Big, What::Bound),
+            b"GIOP\x01\x02\0\x01\0\0\0\x0c\0\0\0\x07\0\0\0\0\0\0\0\0",
+        ),
+        (
+            &noticed(Order::Big, What::Located(true)),
+            b"GIOP\x01\x02\0\x04\0\0\0\x08\0\0\0\x07\0\0\0\x01",
+        ),
+        (
+            &noticed(Order::Big, What::Located(false)),
+            b"GIOP\x01\x02\0\x04\0\0\0\x08\0\0\0\x07\0\0\0\0",
+        ),
+        (
+            &noticed(Order::Big, What::Addressing),
+            b"GIOP\x01\x02\0\x01\0\0\0\x0e\0\0\0\x07\0\0\0\x05\0\0\0\0\0\0",
+        ),
         (&LaneReply::Close, b"GIOP\x01\x02\0\x05\0\0\0\0"),
         (&LaneReply::Error, b"GIOP\x01\x02\0\x06\0\0\0\0"),
     ];
     for (reply, want) in rows {
         let (wrote, bytes) = written(alloc, reply, &[])?;
-        assert!(rt; wrote == WriteAll::Whole && bytes.as_slice() == want, "{want:?}");
+        assert!(rt;
+            wrote == WriteAll::Whole && bytes.as_slice() == want,
+            "{want:?}"
+        );
     }
     let (wrote, bytes) = written(alloc, &LaneReply::Done, &[0])?;
     assert!(rt; wrote == WriteAll::Whole && bytes.is_empty());

@@ -35,11 +35,7 @@ fn say<O: Sink>(sink: &mut O, reply: &LaneReply) -> Course
 }
 
 /// One Collect of the pipe's connection, with the write of what it hands out.
-pub fn collect<O: Sink>(
-    lanes: &mut Lanes,
-    log: &mut Log,
-    sink: &mut O,
-) -> Result<Course, NoMemory>
+pub fn collect<O: Sink>(lanes: &mut Lanes, log: &mut Log, sink: &mut O) -> Result<Course, NoMemory>
     requires between { IsBetween lanes.old }
     requires ready { is_ready lanes.old (Collect pipe_conn) ≡ true }
     ensures { Collects result lanes.old lanes.new log.old log.new (O.state sink.old) (O.state sink.new) }

@@ -77,7 +77,7 @@ abbrev pub PipesSetup : Shown → ℕ → SetupData → Note → Option Piped �
 PipesSetup shown batch setup note piped files files' old new out out' =
     (files'.files ≡ files.files)
     × (((servants : Servants) × GivesServants (Ok servants) setup files files' × Ran shown batch setup servants note piped old new out out')
-      ⊎ ((why : ServingFault) × GivesServants (Err why) setup files files' × Declined note (serving_note why) piped old new out out'))
+    ⊎ ((why : ServingFault) × GivesServants (Err why) setup files files' × Declined note (serving_note why) piped old new out out'))
 
 -- what comes of the configuration that the words name, or of the built-in setup: of its setup, or why there is none
 abbrev pub PipesBy : PipeWords → Note → Option Piped → FilesState → FilesState → SourceState → SourceState → SinkState → SinkState → Type 0

@@ -26,7 +26,12 @@ pub fn list<T: Copy>(alloc: Global, items: &[T]) -> Result<List<T>, Fail> {
 }
 
 /// Puts a file behind the others.
-pub fn put(files: &mut List<MemFile>, alloc: Global, name: &str, bytes: Octets) -> Result<(), Fail> {
+pub fn put(
+    files: &mut List<MemFile>,
+    alloc: Global,
+    name: &str,
+    bytes: Octets,
+) -> Result<(), Fail> {
     let name = match Text::new(alloc, name.as_bytes()) {
         Ok(name) => name,
         Err(_) => return Err(Fail::new("a name")),

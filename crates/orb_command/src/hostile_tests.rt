@@ -98,9 +98,11 @@ fn is_so(alloc: Global, row: Row<'_>) -> Result<bool, Fail> {
     let mut out = MemSink::new(alloc, List::new(alloc), List::new(alloc));
     let answered = orb_main(alloc, words.as_slice(), &mut files, &mut input, &mut out);
     let status = answered.status.to_string(alloc)?;
-    Ok(is_told(alloc, &answered, row.note)?
-        && status.as_str() == row.status
-        && out.held() == row.output.as_slice())
+    Ok(
+        is_told(alloc, &answered, row.note)?
+            && status.as_str() == row.status
+            && out.held() == row.output.as_slice(),
+    )
 }
 
 #[test]

@@ -82,7 +82,10 @@ fn servants_of_scripts_answer(rt: HostRuntime) -> Result<(), Fail> {
     assert_eq!(rt; text.as_slice(), ANSWERED);
     let (answered, text) = ran(rt.alloc(), REFS, Some(IDL), Some(SCRIPT), &[])?;
     assert_eq!(rt; answered.status, 0);
-    assert!(rt; text.as_slice().starts_with(b"v IOR:000000000000000c49444c3a4d2f563a312e3000"));
+    assert!(rt;
+        text.as_slice()
+            .starts_with(b"v IOR:000000000000000c49444c3a4d2f563a312e3000")
+    );
     Ok(())
 }
 
@@ -93,8 +96,18 @@ fn texts_have_their_faults(rt: HostRuntime) -> Result<(), Fail> {
     let rows: [(Option<&[u8]>, Option<&[u8]>, u8, &str); 5] = [
         (None, Some(SCRIPT), 10, "Absent(Idl)"),
         (Some(IDL), None, 10, "Absent(Scripts)"),
-        (Some(BAD_IDL), None, 2, "Idl(IdlFault { cause: Unknown, line: 2, column: 17 })"),
-        (Some(IDL), Some(BAD_SCRIPT), 2, "Script(ScriptFault { line: 2, column: 41 })"),
+        (
+            Some(BAD_IDL),
+            None,
+            2,
+            "Idl(IdlFault { cause: Unknown, line: 2, column: 17 })",
+        ),
+        (
+            Some(IDL),
+            Some(BAD_SCRIPT),
+            2,
+            "Script(ScriptFault { line: 2, column: 41 })",
+        ),
         (
             Some(IDL),
             Some(UNCHECKED),
@@ -116,6 +129,12 @@ fn texts_have_their_faults(rt: HostRuntime) -> Result<(), Fail> {
         assert!(rt; answered.status == 3 && text.is_empty(), "{n}");
     }
     let (answered, _) = ran(alloc, PIPE, Some(IDL), Some(NO_SERVANT), &[])?;
-    assert!(rt; refuses(&answered, ConfigCause::UnknownInterface, "object[0].interface"));
+    assert!(rt;
+        refuses(
+            &answered,
+            ConfigCause::UnknownInterface,
+            "object[0].interface"
+        )
+    );
     Ok(())
 }

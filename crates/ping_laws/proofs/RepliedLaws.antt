@@ -204,7 +204,7 @@ goes_on outcome tells n c b (m ∷ ms) no_lanes (ping, all) s bytes calls few ru
           let never : true ≡ false = sym refused.over ∙ not_over c b size (omega (arith, calls)) (omega (arith, few, sized)) in
           absurd cc
       | inr ran ↦
-      XX
+          XX
           let onward : Runs (outcome_at built_in outcome) jobs (idle (opened built_in) (c + 1) (b + size + body_len ran.3.answer)) s ran.2 =
           subst (λ (x : State). Runs (outcome_at built_in outcome) jobs x s ran.2) ran.3.moved ran.4 in
           goes_on outcome tells (suc n) (c + 1) (b + size + body_len ran.3.answer) ms no_lanes all s ran.2 (omega (arith, calls)) (omega (arith, few, sized, adds)) onward
