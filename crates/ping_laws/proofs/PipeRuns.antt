@@ -23,9 +23,12 @@ use Rattle.lane_machine.specs.Histories.{History, replay, IsLegal}
 use Rattle.pipe_laws.specs.Setup.{pipe_conn, interface_of}
 use Rattle.turn_cell.specs.declared.entry.Entry.{Entry}
 use Rattle.lane_driver.specs.Driving.{run_at as at, entry}
+use Rattle.lane_driver.specs.Feeding.{group_at}
 use Rattle.adapter_policies.specs.SetupData.{SetupData}
 use Rattle.pipe_laws.specs.Said.{said, item_bytes}
-use Rattle.pipe_laws.specs.Piped.{Run, settled, grouped, answer_of}
+use Rattle.pipe_laws.specs.Piped.{Run, settled, answer_of}
+use Rattle.pipe_laws.specs.Groups.{Group, folded}
+use Rattle.pipe_laws.proofs.Folds.{closing_stays}
 use Rattle.ping_laws.specs.Stops.{has_closing, has_end}
 use Rattle.ping_laws.specs.Built.{Spares}
 use Rattle.ping_laws.specs.PingRun.{ping_job, IsPingJob, ArePingJobs, offers, outcome_at, with_thread, IsSettled, IsAnswered, Ran, Runs}
@@ -69,46 +72,46 @@ settles : (servant : JobRecord → Outcome) (base : State) (c b serial size id t
 unfolding next_job
 settles servant base c b serial size id target level order h = refl
 
-ping_grouped : (servant : JobRecord → Outcome) (base : State) (c b serial size id target level : ℕ) (order : Order) (h : History) (calls : List LaneCall) → is_over (idle base c b) size ≡ false
+-- the next calls, where the groups have one call
+abbrev fold_on : (JobRecord → Outcome) → List LaneCall → Run → Group
+fold_on servant calls run = folded servant 1 (record { run = run; room = 1 }) calls
+
+ping_folded : (servant : JobRecord → Outcome) (base : State) (c b serial size id target level : ℕ) (order : Order) (h : History) (calls : List LaneCall) → is_over (idle base c b) size ≡ false
     → let job = ping_job serial order size id target level in
-    grouped servant 1 1 (at (idle base c b) h) (Offer job ∷ calls)
-    ≡ grouped servant 1 1 (at (idle base (c + 1) (b + size + body_len (servant job))) (h ++ deeds job (servant job))) calls
+    folded servant 1 (group_at (idle base c b) h 1) (Offer job ∷ calls)
+    ≡ folded servant 1 (group_at (idle base (c + 1) (b + size + body_len (servant job))) (h ++ deeds job (servant job)) 1) calls
 unfolding owed
-ping_grouped servant base c b serial size id target level order h calls over =
+ping_folded servant base c b serial size id target level order h calls over =
     let job = ping_job serial order size id target level in
     let e = entry (Offer job) (reply.Run 0 false) in
-    let first = ap (λ (x : State × LaneReply). grouped servant 1 1 (settled servant (at x.0 (h ++ entry (Offer job) x.1 ∷ []))) calls) (offer_runs base c b serial size id target level order over) in
+    let first = ap (λ (x : State × LaneReply). fold_on servant calls (settled servant (at x.0 (h ++ entry (Offer job) x.1 ∷ [])))) (offer_runs base c b serial size id target level order over) in
     let follows = settles servant base (c + 1) (b + size) serial size id target level order (h ++ e ∷ []) in
     let whole = four h e (entry (Take 0) (reply.Given job)) (entry (Finish 0 (record { job = job; outcome = servant job })) reply.Finished)
     (entry (Collect pipe_conn) (reply.Handed (Answered (record { job = job; outcome = servant job })))) in
-    first ∙ ap (λ (r : Run). grouped servant 1 1 r calls) (follows ∙ ap (at (idle base (c + 1) (b + size + body_len (servant job)))) whole)
+    first ∙ ap (fold_on servant calls) (follows ∙ ap (at (idle base (c + 1) (b + size + body_len (servant job)))) whole)
 
-one_grouped : (servant : JobRecord → Outcome) (base : State) (c b : ℕ) (job : JobRecord) (h : History) (calls : List LaneCall) → IsPingJob job → is_over (idle base c b) job.size ≡ false
-    → grouped servant 1 1 (at (idle base c b) h) (Offer job ∷ calls)
-    ≡ grouped servant 1 1 (at (idle base (c + 1) (b + job.size + body_len (servant job))) (h ++ deeds job (servant job))) calls
-one_grouped servant base c b job h calls ping over =
-    subst (λ (j : JobRecord). grouped servant 1 1 (at (idle base c b) h) (Offer j ∷ calls)
-    ≡ grouped servant 1 1 (at (idle base (c + 1) (b + j.size + body_len (servant j))) (h ++ deeds j (servant j))) calls)
-    (sym ping) (ping_grouped servant base c b job.serial job.size job.id job.target job.priority job.order h calls over)
+one_folded : (servant : JobRecord → Outcome) (base : State) (c b : ℕ) (job : JobRecord) (h : History) (calls : List LaneCall) → IsPingJob job → is_over (idle base c b) job.size ≡ false
+    → folded servant 1 (group_at (idle base c b) h 1) (Offer job ∷ calls)
+    ≡ folded servant 1 (group_at (idle base (c + 1) (b + job.size + body_len (servant job))) (h ++ deeds job (servant job)) 1) calls
+one_folded servant base c b job h calls ping over =
+    subst (λ (j : JobRecord). folded servant 1 (group_at (idle base c b) h 1) (Offer j ∷ calls)
+    ≡ folded servant 1 (group_at (idle base (c + 1) (b + j.size + body_len (servant j))) (h ++ deeds j (servant j)) 1) calls)
+    (sym ping) (ping_folded servant base c b job.serial job.size job.id job.target job.priority job.order h calls over)
 
-shut_stays : (servant : JobRecord → Outcome) (base : State) (c b : ℕ) (h : History) (calls : List LaneCall) → grouped servant 1 1 (at (shut base c b) h) calls ≡ at (shut base c b) h
-shut_stays servant base c b h [] = refl
-shut_stays servant base c b h (call ∷ calls) = refl
-
-shut_grouped : (servant : JobRecord → Outcome) (base : State) (c b serial size id target level : ℕ) (order : Order) (h : History) (calls : List LaneCall) → is_over (idle base c b) size ≡ true
+shut_folded : (servant : JobRecord → Outcome) (base : State) (c b serial size id target level : ℕ) (order : Order) (h : History) (calls : List LaneCall) → is_over (idle base c b) size ≡ true
     → let job = ping_job serial order size id target level in
-    grouped servant 1 1 (at (idle base c b) h) (Offer job ∷ calls) ≡ at (shut base c b) (h ++ entry (Offer job) reply.Closing ∷ [])
+    folded servant 1 (group_at (idle base c b) h 1) (Offer job ∷ calls) ≡ group_at (shut base c b) (h ++ entry (Offer job) reply.Closing ∷ []) 1
 unfolding owed
-shut_grouped servant base c b serial size id target level order h calls over =
+shut_folded servant base c b serial size id target level order h calls over =
     let job = ping_job serial order size id target level in
-    ap (λ (x : State × LaneReply). grouped servant 1 1 (settled servant (at x.0 (h ++ entry (Offer job) x.1 ∷ []))) calls) (offer_closes base c b job over)
-    ∙ shut_stays servant base c b (h ++ entry (Offer job) reply.Closing ∷ []) calls
+    ap (λ (x : State × LaneReply). fold_on servant calls (settled servant (at x.0 (h ++ entry (Offer job) x.1 ∷ [])))) (offer_closes base c b job over)
+    ∙ closing_stays servant 1 (group_at (shut base c b) (h ++ entry (Offer job) reply.Closing ∷ []) 1) calls refl
 
 one_shut : (servant : JobRecord → Outcome) (base : State) (c b : ℕ) (job : JobRecord) (h : History) (calls : List LaneCall) → IsPingJob job → is_over (idle base c b) job.size ≡ true
-    → grouped servant 1 1 (at (idle base c b) h) (Offer job ∷ calls) ≡ at (shut base c b) (h ++ entry (Offer job) reply.Closing ∷ [])
+    → folded servant 1 (group_at (idle base c b) h 1) (Offer job ∷ calls) ≡ group_at (shut base c b) (h ++ entry (Offer job) reply.Closing ∷ []) 1
 one_shut servant base c b job h calls ping over =
-    subst (λ (j : JobRecord). grouped servant 1 1 (at (idle base c b) h) (Offer j ∷ calls) ≡ at (shut base c b) (h ++ entry (Offer j) reply.Closing ∷ []))
-    (sym ping) (shut_grouped servant base c b job.serial job.size job.id job.target job.priority job.order h calls over)
+    subst (λ (j : JobRecord). folded servant 1 (group_at (idle base c b) h 1) (Offer j ∷ calls) ≡ group_at (shut base c b) (h ++ entry (Offer j) reply.Closing ∷ []) 1)
+    (sym ping) (shut_folded servant base c b job.serial job.size job.id job.target job.priority job.order h calls over)
 
 -- ---- what is done for a job is legal, and leads where it should
 ping_legal : (base : State) (c b serial size id target level : ℕ) (order : Order) (answer : Outcome) (h : History) → is_over (idle base c b) size ≡ false → body_len answer ≤ MAX_BODY
@@ -169,7 +172,7 @@ pub record Grouped (outcome : JobRecord → Outcome) (jobs : List JobRecord) (ba
   pub answers : List Outcome
   pub came : Came outcome jobs answers
   pub history : History
-  pub run : (servant : JobRecord → Outcome) → Agrees servant jobs answers → (h : History) → grouped servant 1 1 (at (idle base c b) h) (offers jobs) ≡ at s (h ++ history)
+  pub run : (servant : JobRecord → Outcome) → Agrees servant jobs answers → (h : History) → folded servant 1 (group_at (idle base c b) h 1) (offers jobs) ≡ group_at s (h ++ history) 1
   pub legal : IsLegal (idle base c b) history
   pub stands : replay (idle base c b) history ≡ s
   pub says : said pipe_conn history ≡ bytes
@@ -182,7 +185,7 @@ none_grouped outcome base c b = record {
   answers = [];
   came = tt;
   history = [];
-  run = λ servant _ h. ap (at (idle base c b)) (sym (append-nil h));
+  run = λ servant _ h. ap (λ (x : History). group_at (idle base c b) x 1) (sym (append-nil h));
   legal = tt;
   stands = refl;
   says = refl;
@@ -213,10 +216,10 @@ more_grouped outcome job jobs base c b mid s first rest ping ran others = record
   came = (ran.came, others.came);
   history = deeds job ran.answer ++ others.history;
   run = λ servant agrees h.
-      one_grouped servant base c b job h (offers jobs) ping ran.admitted
-      ∙ ap (λ (o : Outcome). grouped servant 1 1 (at (idle base (c + 1) (b + job.size + body_len o)) (h ++ deeds job o)) (offers jobs)) agrees.0
+      one_folded servant base c b job h (offers jobs) ping ran.admitted
+      ∙ ap (λ (o : Outcome). folded servant 1 (group_at (idle base (c + 1) (b + job.size + body_len o)) (h ++ deeds job o) 1) (offers jobs)) agrees.0
       ∙ others.run servant agrees.1 (h ++ deeds job ran.answer)
-      ∙ ap (at s) (simp append_assoc);
+      ∙ ap (λ (x : History). group_at s x 1) (append_assoc h (deeds job ran.answer) others.history);
   legal = one_legal base c b job ran.answer others.history ping ran.admitted ran.short others.legal;
   stands = one_stands base c b job ran.answer others.history ping ran.admitted ∙ others.stands;
   says = one_says job ran.answer others.history ∙ ap (λ (x : List ℕ). x ++ said pipe_conn others.history) (sym ran.reply) ∙ ap (λ (x : List ℕ). first ++ x) others.says;

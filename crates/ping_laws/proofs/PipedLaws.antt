@@ -66,9 +66,12 @@ told false = reply.Done
 abbrev pub last : Bool → History
 last closing = entry (End pipe_conn (ending closing)) reply.Noted ∷ entry (Collect pipe_conn) (told closing) ∷ []
 
-pub closes_so : (servant : JobRecord → Outcome) (base : State) (c b : ℕ) (closing : Bool) (h : History) → closed_by servant Quiet (at (settled base c b closing) h) ≡ at (gone base c b closing) (h ++ last closing)
-closes_so servant base c b true h = ap (at (gone base c b true)) (append_assoc h (entry (End pipe_conn Shut) reply.Noted ∷ []) (entry (Collect pipe_conn) reply.Close ∷ []))
-closes_so servant base c b false h = ap (at (gone base c b false)) (append_assoc h (entry (End pipe_conn Quiet) reply.Noted ∷ []) (entry (Collect pipe_conn) reply.Done ∷ []))
+pub closes_so : (servant : JobRecord → Outcome) (how : How) (base : State) (c b : ℕ) (closing : Bool) (h : History) → (closing ≡ false → how ≡ Quiet)
+    → closed_by servant how (at (settled base c b closing) h) ≡ at (gone base c b closing) (h ++ last closing)
+closes_so servant how base c b true h quiet = ap (at (gone base c b true)) (append_assoc h (entry (End pipe_conn Shut) reply.Noted ∷ []) (entry (Collect pipe_conn) reply.Close ∷ []))
+closes_so servant how base c b false h quiet =
+    ap (λ (x : How). closed_by servant x (at (settled base c b false) h)) (quiet refl)
+    ∙ ap (at (gone base c b false)) (append_assoc h (entry (End pipe_conn Quiet) reply.Noted ∷ []) (entry (Collect pipe_conn) reply.Done ∷ []))
 
 pub last_says : (closing : Bool) → said pipe_conn (last closing) ≡ farewell closing
 last_says true = append-nil (spelled Big close)

@@ -1,8 +1,9 @@
 -- Each request of the pipe's input gets its reply, and nothing else is written.
-use Rattle.std.proofs.Common.{None, ◌≡◌, ℕ, suc, ◌+◌, ◌*◌, ◌≤◌, Bool, true, false, List, [], ◌∷◌, ◌++◌, length, refl, sym, ap, ◌∙◌, subst, inl, inr, arith, lit≤, lit<, append-nil}
-use Rattle.std.specs.Prelude.{codes}
+use Rattle.std.proofs.Common.{Option, None, ◌≡◌, ◌==◌, ℕ, suc, ◌+◌, ◌*◌, ◌≤◌, Bool, true, false, List, [], ◌∷◌, ◌++◌, length, refl, sym, ap, ◌∙◌, subst, inl, inr, arith, lit≤, lit<, append-nil}
+use Rattle.std.specs.Prelude.{if◌then◌else◌, codes}
 use Rattle.std.specs.Int.{w16}
 use Rattle.std.specs.List.{AllByRecursion}
+use Rattle.std.proofs.lemmas.Bool.{ne_eqb}
 use Rattle.std.proofs.lemmas.Grind.{flat_map-append}
 use Rattle.orb_base.specs.Outcomes.{no_memory, body_len}
 use Rattle.orb_base.specs.JobRecord.{JobRecord}
@@ -23,7 +24,6 @@ use Rattle.giop_messages.specs.Spelling.{spelled}
 use Rattle.giop_messages.specs.Written.{written_bytes, AreWritten}
 use Rattle.giop_messages.proofs.Written.{streams_written}
 use Rattle.lane_machine.specs.declared.call.How.TheVariants.{Quiet}
-use Rattle.lane_machine.specs.declared.call.LaneCall.{LaneCall}
 use Rattle.lane_machine.specs.State.{State}
 use Rattle.ping_laws.specs.declared.laws.TheConstants.{MAX_PINGS}
 use Rattle.ping_laws.specs.Setup.{IsRunnable, opened}
@@ -33,7 +33,9 @@ use Rattle.adapter_policies.specs.BuiltIn.{built_in}
 use Rattle.adapter_policies.specs.SetupData.{SetupData}
 use Rattle.ping_laws.specs.Ping.{ping_request}
 use Rattle.pipe_laws.specs.Said.{reply_status, reply_body, bare, call_bytes, said}
-use Rattle.pipe_laws.specs.Piped.{Run, closed_by, grouped, answer_of, piped}
+use Rattle.pipe_laws.specs.Groups.{Group, folded}
+use Rattle.pipe_laws.specs.Piped.{Run, settled, closed_by, answer_of, piped}
+use Rattle.pipe_laws.proofs.Folds.{groups_are_folded}
 use Rattle.ping_laws.specs.Built.{IsBuilt, IsPing}
 use Rattle.ping_laws.specs.PingRun.{ping_job, offers, outcome_at, IsAnswered, Ran, Runs, farewell, IsRun}
 use Rattle.ping_laws.specs.Telling.{TellPriorities}
@@ -42,9 +44,15 @@ use Rattle.ping_laws.proofs.HearingLaws.{jobs_of, no_jobs, more_jobs_of}
 use Rattle.lane_machine.specs.Histories.{History}
 use Rattle.giop_messages.proofs.CallerLemmas.{streams_messages}
 use Rattle.heard_calls.specs.Hearing.{Told}
-use Rattle.heard_calls.specs.declared.ending.Ending.TheVariants.{Ended}
+use Rattle.heard_calls.specs.Input.{at_end}
+use Rattle.heard_calls.specs.declared.ending.Ending.{Ending}
 use Rattle.heard_calls.proofs.OneMeaning.{hears_one}
-use Rattle.pipe_runs.specs.Runs.{IsRunOf}
+use Rattle.conn_engine.specs.Ends.{read_end, how_of}
+use Rattle.conn_engine.specs.HeardSoFar.{decided}
+use Rattle.conn_engine.specs.Streams.{IsRunOf, how_by}
+use Rattle.conn_engine.specs.declared.read_end.ReadEnd.{ReadEnd}
+use Rattle.conn_engine.specs.declared.read_end.ReadEnd.TheVariants as read
+use Rattle.conn_engine.specs.declared.read_end.TheConstants.{MAX_TAKEN}
 use Rattle.ping_laws.proofs.Judged.{hears_pings, pings_told}
 use Rattle.ping_laws.proofs.CanOpen.{opens_free, built_in_is_runnable}
 use Rattle.ping_laws.proofs.Places.{pings_place}
@@ -52,39 +60,59 @@ use Rattle.ping_laws.proofs.ReplyLengths.{reply_short}
 use Rattle.heard_calls.proofs.StreamCounts.{few_messages}
 use Rattle.ping_laws.proofs.PingSizes.{ping_size, not_over}
 use Rattle.lane_driver.specs.Driving.{run_at as at}
+use Rattle.lane_driver.specs.Feeding.{group_at}
 use Rattle.ping_laws.proofs.Tellings.{jobs_told, told_short, told_spares}
 use Rattle.ping_laws.proofs.PipeRuns.{idle, run_over}
 use Rattle.ping_laws.proofs.PipedLaws.{gone, last, closes_so, last_says}
 
 -- ---- the pipe's output is that of a run of its jobs
 
-pub run_is : (setup : SetupData) (outcome : List ℕ → JobRecord → Outcome) (input : List ℕ) (closing : Bool) (entries : History) (able : IsRunnable setup)
-    → TellPriorities setup outcome → (built : IsBuilt setup input) → IsRunOf setup outcome 1 input Ended closing entries
+-- few bytes are not as many as are taken at most
+not_full : (taken : ℕ) → taken ≤ MAX_PINGS → (taken == MAX_TAKEN) ≡ false
+not_full taken few = ne_eqb taken MAX_TAKEN (λ full. omega (arith, few, full))
+
+-- the connection is ended in silence behind few bytes that end no reading and leave nothing unfinished
+quiet_behind : (taken : ℕ) (ended : Bool) → taken ≤ MAX_PINGS → how_of (read_end None taken ended None) ≡ Quiet
+quiet_behind taken true few = ap (λ (full : Bool). how_of (if full then read.Spent else read.Ended (at_end None None))) (not_full taken few)
+quiet_behind taken false few = ap (λ (full : Bool). how_of (if full then read.Spent else read.ReadFault)) (not_full taken few)
+
+pub run_is : (setup : SetupData) (outcome : List ℕ → JobRecord → Outcome) (earlier input : List ℕ) (ended : Bool) (end : ReadEnd) (closing : Bool) (entries : History) (able : IsRunnable setup)
+    → TellPriorities setup outcome → (built : IsBuilt setup input) → IsRunOf setup outcome 1 earlier input ended end closing entries
     → IsRun (opened setup) (outcome_at setup outcome) (jobs_of setup 0 (stream MAX_MESSAGE input).messages able.single.no_lanes built.pings).0 closing (said pipe_conn entries)
-run_is setup outcome input closing entries able tells built p =
+run_is setup outcome earlier input ended end closing entries able tells built p =
     let free = opens_free setup able in
     let ms = (stream MAX_MESSAGE input).messages in
     let jobs = jobs_of setup 0 ms able.single.no_lanes built.pings in
     let lacks = p.lacking.lacks in
     let hears = hears_pings setup 0 ms able.single.no_lanes built.pings (streams_messages MAX_MESSAGE input (lit≤ tt)) in
-    let calls : p.calls ≡ offers jobs.0 =
-    p.heard.calls_are ∙ ap (λ (t : Told). t.calls) (hears_one setup pipe_conn ms None 0 p.heard.told (pings_told setup 0 ms able.single.no_lanes built.pings) p.heard.hears hears) in
-    let told = jobs_told setup outcome tells 0 ms able.single.no_lanes built.pings in
-    let run = run_over setup outcome lacks 0 jobs.0 (opened setup) 0 0 (told_short setup outcome jobs.0 told) jobs.1.jobs_so (told_spares setup outcome lacks jobs.0 told) in
+    let heard = p.heard.heard in
+    let told : heard.told ≡ pings_told setup 0 ms able.single.no_lanes built.pings =
+    hears_one setup pipe_conn ms None 0 heard.told (pings_told setup 0 ms able.single.no_lanes built.pings) heard.hears hears in
+    let calls : p.calls ≡ offers jobs.0 = heard.calls_are ∙ ap (λ (t : Told). t.calls) told in
+    let undecided : p.heard.ending ≡ None =
+    heard.ends ∙ ap (λ (t : Told). decided t.ending (stream MAX_MESSAGE input).bad) told ∙ ap (decided None) built.sound in
+    let quiet : how_of end ≡ Quiet =
+    ap how_of (p.heard.comes ∙ ap (λ (o : Option Ending). read_end o (length input) ended (stream MAX_MESSAGE input).rest) undecided
+    ∙ ap (read_end None (length input) ended) built.whole) ∙ quiet_behind (length input) ended built.few in
+    let priorities = jobs_told setup outcome tells 0 ms able.single.no_lanes built.pings in
+    let run = run_over setup outcome lacks 0 jobs.0 (opened setup) 0 0 (told_short setup outcome jobs.0 priorities) jobs.1.jobs_so (told_spares setup outcome lacks jobs.0 priorities) in
     let servant = answer_of setup outcome lacks in
     let c = run.behind.calls in
     let b = run.behind.bytes in
     let shut = run.behind.closing in
     let history = run.grouped.history in
-    let whole : piped setup outcome 1 p.calls Quiet lacks ≡ at (gone run.behind c b shut) (history ++ last shut) =
-    ap (λ (x : List LaneCall). piped setup outcome 1 x Quiet lacks) calls
-    ∙ ap (λ (z : State). closed_by servant Quiet (grouped servant 1 1 (at z []) (offers jobs.0))) free
-    ∙ ap (closed_by servant Quiet) (run.grouped.run servant run.agrees [] ∙ ap (λ (s : State). at s history) run.grouped.settled_so)
-    ∙ closes_so servant run.behind c b shut history in
+    let how = how_by closing end in
+    let fold : folded servant 1 (group_at (opened setup) [] 1) p.calls ≡ group_at run.behind history 1 =
+    ap (folded servant 1 (group_at (opened setup) [] 1)) calls ∙ ap (λ (z : State). folded servant 1 (group_at z [] 1) (offers jobs.0)) free ∙ run.grouped.run servant run.agrees [] in
+    let same : shut ≡ closing = sym (ap (λ (g : Group). g.run.state.closing) fold) ∙ p.closes in
+    let whole : piped setup outcome 1 p.calls how lacks ≡ at (gone run.behind c b shut) (history ++ last shut) =
+    ap (closed_by servant how) (groups_are_folded servant 1 1 (at (opened setup) []) p.calls)
+    ∙ ap (λ (g : Group). closed_by servant how (settled servant g.run)) fold
+    ∙ ap (λ (s : State). closed_by servant how (settled servant (at s history))) run.grouped.settled_so
+    ∙ closes_so servant how run.behind c b shut history (λ going. ap (λ (x : Bool). how_by x end) (sym same ∙ going) ∙ quiet) in
     let says : said pipe_conn (history ++ last shut) ≡ run.replies ++ farewell shut =
     flat_map-append (λ e. call_bytes pipe_conn e.call e.reply) history (last shut)
     ∙ ap (λ (x : List ℕ). x ++ said pipe_conn (last shut)) run.grouped.says ∙ ap (λ (x : List ℕ). run.replies ++ x) (last_says shut) in
-    let same : shut ≡ closing = sym (ap (λ (r : Run). r.state.closing) whole) ∙ p.closes in
     record {
       behind = run.behind;
       replies = run.replies;
@@ -212,17 +240,17 @@ goes_on outcome tells n c b (m ∷ ms) no_lanes (ping, all) s bytes calls few ru
 
 -- ---- the laws
 pub pings_replied : PingsReplied
-pings_replied setup able outcome tells input entries built p =
+pings_replied setup able outcome tells earlier input ended end entries built p =
     let free = opens_free setup able in
-    let run = run_is setup outcome input false entries able tells built p in
+    let run = run_is setup outcome earlier input ended end false entries able tells built p in
     let runs = subst (λ (z : State). Runs (outcome_at setup outcome) (jobs_of setup 0 (stream MAX_MESSAGE input).messages able.single.no_lanes built.pings).0 z run.behind run.replies) free run.runs in
     let all = replied setup outcome tells (opened setup) 0 0 0 (stream MAX_MESSAGE input).messages able.single.no_lanes built.pings run.behind run.replies run.closes runs in
     let same : said pipe_conn entries ≡ run.replies = run.ends ∙ append-nil run.replies in
     (all.replies, all.are, ap (stream MAX_MESSAGE) (same ∙ all.spells) ∙ streams_written MAX_MESSAGE all.replies (lit≤ tt) all.fit)
 
 pub meets_no_limit : MeetsNoLimit
-meets_no_limit outcome tells input entries closing built p =
-    let run = run_is built_in outcome input closing entries built_in_is_runnable tells built p in
+meets_no_limit outcome tells earlier input ended end entries closing built p =
+    let run = run_is built_in outcome earlier input ended end closing entries built_in_is_runnable tells built p in
     let few = few_messages MAX_MESSAGE input in
     sym run.closes ∙ goes_on outcome tells 0 0 0 (stream MAX_MESSAGE input).messages built_in_is_runnable.single.no_lanes built.pings run.behind run.replies (omega (arith, few, built.few)) (omega (arith, few, built.few)) run.runs
 

@@ -15,8 +15,8 @@ use Rattle.ping_laws.specs.Telling.{TellPriorities}
 use Rattle.pipe_laws.specs.Said.{reply_status, reply_body, bare, said}
 use Rattle.lane_machine.specs.Histories.{History}
 use Rattle.pipe_laws.specs.Setup.{pipe_conn}
-use Rattle.heard_calls.specs.declared.ending.Ending.TheVariants.{Ended}
-use Rattle.pipe_runs.specs.Runs.{IsRunOf}
+use Rattle.conn_engine.specs.Streams.{IsRunOf}
+use Rattle.conn_engine.specs.declared.read_end.ReadEnd.{ReadEnd}
 use Rattle.ping_laws.specs.Built.{IsBuilt, IsPing}
 use Rattle.ping_laws.specs.declared.place.Place.{Place}
 use Rattle.ping_laws.specs.Setup.{IsRunnable, place_of}
@@ -45,12 +45,13 @@ AreRepliesTo setup [] (r ∷ rs) = ⊥
 AreRepliesTo setup (m ∷ ms) [] = ⊥
 AreRepliesTo setup (m ∷ ms) (r ∷ rs) = IsReplyTo setup m r × AreRepliesTo setup ms rs
 
--- what the pipe of a setup of one thread, whose servants tell priorities, writes in groups of one to such an input, behind which no limit of the run is met, is read as
--- one reply to each request of the input, in the order in which the requests were completed, and as nothing else
+-- what the pipe of a setup of one thread, whose servants tell priorities, writes in groups of one to such bytes, however their reading came
+-- out, and where no limit of the run is met, is read as one reply to each request of the bytes, in the order in which the requests were completed, and as nothing else
 abbrev pub PingsReplied : Type 0
 PingsReplied =
     (setup : SetupData) → IsRunnable setup → (outcome : List ℕ → JobRecord → Outcome) → TellPriorities setup outcome
-    → (input : List ℕ) (entries : History) → IsBuilt setup input → IsRunOf setup outcome 1 input Ended false entries
+    → (earlier input : List ℕ) (ended : Bool) (end : ReadEnd) (entries : History) → IsBuilt setup input
+    → IsRunOf setup outcome 1 earlier input ended end false entries
     → (replies : List (Order × Message)) × AreRepliesTo setup (stream MAX_MESSAGE input).messages replies
     × (stream MAX_MESSAGE (said pipe_conn entries) ≡ record { messages = wholes_from 0 replies; rest = None; bad = None })
 
@@ -58,9 +59,9 @@ PingsReplied =
 abbrev pub PingRunsAt100 : Type 0
 PingRunsAt100 = (key : List ℕ) (place : Place) → place_of built_in key ≡ Some place → (key ≡ codes "ping") × (place.level ≡ 100)
 
--- with such servants no input of the built-in setup meets a limit of the run. It has at most 8,192 bytes, and so no more requests; each is one of the 65,536 calls
+-- with such servants no such bytes meet a limit of the run in the built-in setup. They are at most 8,192, and so no more requests; each is one of the 65,536 calls
 -- that a run may hear, and of its 67,108,864 bytes a request takes 48 and the answer 2 at most
 abbrev pub MeetsNoLimit : Type 0
 MeetsNoLimit = (outcome : List ℕ → JobRecord → Outcome) → TellPriorities built_in outcome
-    → (input : List ℕ) (entries : History) (closing : Bool) → IsBuilt built_in input
-    → IsRunOf built_in outcome 1 input Ended closing entries → closing ≡ false
+    → (earlier input : List ℕ) (ended : Bool) (end : ReadEnd) (entries : History) (closing : Bool) → IsBuilt built_in input
+    → IsRunOf built_in outcome 1 earlier input ended end closing entries → closing ≡ false
