@@ -38,7 +38,7 @@ use Rattle.pipe_laws.specs.Piped.{Run, settled, closed_by, answer_of, piped}
 use Rattle.pipe_laws.proofs.Folds.{groups_are_folded}
 use Rattle.ping_laws.specs.Built.{IsBuilt, IsPing}
 use Rattle.ping_laws.specs.PingRun.{ping_job, offers, outcome_at, IsAnswered, Ran, Runs, farewell, IsRun}
-use Rattle.ping_laws.specs.Telling.{TellPriorities}
+use Rattle.ping_laws.specs.Telling.{IsTold, TellPriorities}
 use Rattle.ping_laws.specs.Replied.{IsReplyTo, AreRepliesTo, PingsReplied, PingRunsAt100, MeetsNoLimit}
 use Rattle.ping_laws.proofs.HearingLaws.{jobs_of, no_jobs, more_jobs_of}
 use Rattle.lane_machine.specs.Histories.{History}
@@ -58,7 +58,7 @@ use Rattle.ping_laws.proofs.CanOpen.{opens_free, built_in_is_runnable}
 use Rattle.ping_laws.proofs.Places.{pings_place}
 use Rattle.ping_laws.proofs.ReplyLengths.{reply_short}
 use Rattle.heard_calls.proofs.StreamCounts.{few_messages}
-use Rattle.ping_laws.proofs.PingSizes.{ping_size, not_over}
+use Rattle.ping_laws.proofs.PingSizes.{ping_size, answer_size, not_over}
 use Rattle.lane_driver.specs.Driving.{run_at as at}
 use Rattle.lane_driver.specs.Feeding.{group_at}
 use Rattle.ping_laws.proofs.Tellings.{jobs_told, told_short, told_spares}
@@ -232,7 +232,9 @@ goes_on outcome tells n c b (m ∷ ms) no_lanes (ping, all) s bytes calls few ru
           let never : true ≡ false = sym refused.over ∙ not_over c b size (omega (arith, calls)) (omega (arith, few, sized)) in
           absurd cc
       | inr ran ↦
-          XX
+          let told = tells ping.asked.key ping.place ping.asked.placed n size id m.order in
+          let at_100 : IsTold built_in outcome job = subst (λ (q : Place). IsTold built_in outcome (ping_job n m.order size id q.target q.level)) is.place_is told in
+          let adds = answer_size m.order ran.3.answer (subst (IsAnswered ran.3.answer) at_100 ran.3.came) in
           let onward : Runs (outcome_at built_in outcome) jobs (idle (opened built_in) (c + 1) (b + size + body_len ran.3.answer)) s ran.2 =
           subst (λ (x : State). Runs (outcome_at built_in outcome) jobs x s ran.2) ran.3.moved ran.4 in
           goes_on outcome tells (suc n) (c + 1) (b + size + body_len ran.3.answer) ms no_lanes all s ran.2 (omega (arith, calls)) (omega (arith, few, sized, adds)) onward
