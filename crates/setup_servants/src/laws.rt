@@ -2,13 +2,11 @@
 ghost use Rattle.setup_servants.specs.Laws.{BuiltInIsServed, BuiltInHasServants};
 
 /// The built-in setup's servants serve `Orb::Ping` by its own servant.
-#[tactic(auto, using(crate::proofs::BuiltInServed::built_in_is_served))]
 pub fn built_in_setup_is_served()
     ensures { BuiltInIsServed }
 {}
 
 /// The built-in setup has servants, unless memory is wanting.
-#[tactic(auto, using(crate::proofs::BuiltInServed::built_in_has_servants))]
 pub fn built_in_setup_has_servants()
     ensures { BuiltInHasServants }
 {}
