@@ -1,5 +1,5 @@
 -- The setup without a configuration has the empty texts, and is served.
-use Rattle.std.proofs.Common.{◌≡◌, List, [], Some, None, false, inl, inr, refl, sym, ap, ◌∙◌, lit<}
+use Rattle.std.proofs.Common.{◌≡◌, List, [], Some, None, false, true, inl, inr, refl, sym, ap, ◌∙◌, lit<}
 use Rattle.std.specs.Prelude.{Result, Ok, Err, not, is_some}
 use Rattle.cdr_core.proofs.CallerLemmas.{ok_is}
 use Rattle.orb_base.specs.Filing.{FilesState}
@@ -10,7 +10,10 @@ use Rattle.idl_types.specs.Things.{Thing}
 use Rattle.idl_grammar.specs.declared.fault.IdlFault.{IdlFault}
 use Rattle.idl_reader.specs.Whole.{text_things}
 use Rattle.script_grammar.specs.declared.fault.ScriptFault.{ScriptFault}
-use Rattle.servant_scripts.specs.Scripts.{script_reading}
+use Rattle.grammar.specs.Reading.{read_whole, read_rule, repeated, ended}
+use Rattle.idl_tokens.specs.Cutting.{cut}
+use Rattle.idl_tokens.specs.Placed.{same_kind}
+use Rattle.servant_scripts.specs.Scripts.{tokens_reading, script_reading}
 use Rattle.servant_scripts.specs.Trees.{ServantSaid}
 use Rattle.dynamic_servants.specs.Outcome.{Served}
 use Rattle.dynamic_servants.specs.PingLaw.{ServesPing}
@@ -26,10 +29,12 @@ use Rattle.setup_servants.specs.declared.fault.ServingFault.TheVariants as fault
 
 -- the empty text declares nothing
 nothing_declared : text_things [] ≡ Ok []
+unfolding read_whole read_rule repeated ended cut same_kind
 nothing_declared = refl
 
 -- the empty text has no servants
 nothing_said : script_reading [] ≡ Ok []
+unfolding tokens_reading read_whole read_rule repeated ended cut same_kind
 nothing_said = refl
 
 declared_none : (old : FilesState) (answer : Result (List Thing) IdlFault) → InterfacesGive old None answer → answer ≡ Ok []
@@ -66,6 +71,9 @@ no_object old f things said h judged =
     let none : Some f ≡ None = sym judged.first ∙ all_served judged.served (served_so old things said judged.served h judged.checks) in
     absurd cc
 
+unnamed : false ≡ true → ⊥
+unnamed e = cc
+
 pub built_in_has_servants : BuiltInHasServants
 built_in_has_servants (fault.Idl f) old new h = let e : Err f ≡ Ok [] = declared_none old (Err f) h.0 in absurd cc
 built_in_has_servants (fault.Script f) old new h = let e : Err f ≡ Ok [] = said_none old (Err f) h.1 in absurd cc
@@ -79,5 +87,5 @@ built_in_has_servants (fault.Absent role.Idl) old new h = absurd h.0
 built_in_has_servants (fault.Absent role.Scripts) old new h = absurd h.1
 built_in_has_servants (fault.TooLong role.Idl) old new h = absurd h.0
 built_in_has_servants (fault.TooLong role.Scripts) old new h = absurd h.1
-built_in_has_servants fault.ReadFault old new h = elim h.0 [ inl n ↦ absurd n | inr n ↦ absurd n ]
+built_in_has_servants fault.ReadFault old new h = elim h.0 [ inl n ↦ absurd (unnamed n) | inr n ↦ absurd (unnamed n) ]
 built_in_has_servants fault.NoMemory old new h = refl
