@@ -71,7 +71,7 @@ fn bytes(alloc: Global, digits: &str) -> Result<List<u8>, Fail> {
 }
 
 /// A row by its parts.
-fn row(alloc: Global, text: &str) -> Result<Row<'_>, Fail> {
+fn row_of(alloc: Global, text: &str) -> Result<Row<'_>, Fail> {
     let mut parts = text.split(';');
     let name = parts.next().ok_or("a name")?;
     let input = bytes(alloc, parts.next().ok_or("an input")?)?;
@@ -108,7 +108,7 @@ fn is_so(alloc: Global, row: Row<'_>) -> Result<bool, Fail> {
 #[test]
 fn any_input_is_answered_by_the_rules(rt: HostRuntime) -> Result<(), Fail> {
     for text in ROWS.split('/') {
-        let row = row(rt.alloc(), text)?;
+        let row = row_of(rt.alloc(), text)?;
         let name = row.name;
         assert!(rt; is_so(rt.alloc(), row)?, "{name}");
     }

@@ -97,7 +97,7 @@ fn run_servants<I: Source, O: Sink>(
 }
 
 /// Runs the pipe of a setup over the servants that its files give, and answers the note and the run.
-#[tactic(auto, using(crate::proofs::PipeNotes::setup_ran, crate::proofs::PipeNotes::setup_not_run))]
+#[tactic(auto, using(crate::proofs::PipeNotes::setup_not_run))]
 fn run_setup<F: Files, I: Source, O: Sink>(
     alloc: Global,
     files: &mut F,
