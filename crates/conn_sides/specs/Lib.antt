@@ -1,0 +1,8 @@
+pub mod Entering
+pub mod ReadSides
+pub mod Calling
+pub mod Pieces
+pub mod Heads
+pub mod Saying
+pub mod WriteSides
+pub mod Working

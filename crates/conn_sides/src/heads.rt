@@ -1,0 +1,106 @@
+//! Messages that are written from their parts: a head in bytes of its own, and the body where it lies. Takes no memory.
+//! CORBA 3.0.3, section 15.4.
+ghost use Rattle.std.specs.Prelude.{◌≡◌, ◌≤◌, ◌<◌, ◌+◌, ◌^◌, [], ◌++◌, length};
+ghost use Rattle.std.specs.Int.{w32};
+ghost use Rattle.cdr_core.specs.Encapsulation.{order_byte};
+ghost use Rattle.cdr_core.specs.Field.{number_bytes};
+ghost use Rattle.giop_messages.specs.Layout.{header};
+ghost use Rattle.text_streams.specs.Streams.{WritesAll};
+ghost use Rattle.conn_sides.specs.Heads.{numbered_head, reply_head};
+
+use arrayvec::ArrayVec;
+use cdr_core::bytes_of_u32;
+use orb_base::{Order, Sink};
+use text_streams::{WriteAll, write_all};
+
+/// Bytes of a head: what stands before a body, and with it a body that is short enough to be written at once.
+pub const HEAD_LEN: usize = 128;
+
+/// Bytes of the head of a reply without contexts.
+pub const REPLY_HEAD: u32 = 24;
+
+/// The head of a message.
+pub type Head = ArrayVec<u8, HEAD_LEN>;
+
+/// Appends bytes for which there is room.
+pub fn put(head: &mut Head, bytes: &[u8])
+    requires { length head.old.items + length bytes.now ≤ 128 }
+    ensures { head.new.items ≡ head.old.items ++ bytes.now }
+{
+    match head.try_extend_from_slice(bytes) {
+        Ok(()) => {}
+        Err(_) => unreachable!(),
+    }
+}
+
+/// Appends an unsigned long.
+pub fn put_u32(head: &mut Head, order: Order, n: u32)
+    requires { length head.old.items + 4 ≤ 128 }
+    ensures { head.new.items ≡ head.old.items ++ number_bytes order w32 n }
+{
+    put(head, &bytes_of_u32(order, n));
+}
+
+/// Bit 0 of the flags.
+fn flag(order: Order) -> u8
+    ensures { result ≡ order_byte order }
+{
+    match order {
+        Order::Big => 0,
+        Order::Little => 1,
+    }
+}
+
+/// The header of a message: its kind, and how many bytes stand behind the header.
+pub fn header_of(order: Order, kind: u8, size: u32) -> Head
+    ensures { result.items ≡ header order (order_byte order) kind size }
+{
+    let mut head = ArrayVec::new();
+    put(
+        &mut head,
+        &[b'G', b'I', b'O', b'P', 1, 2, flag(order), kind],
+    );
+    put_u32(&mut head, order, size);
+    head
+}
+
+/// The header with two numbers behind it.
+pub fn numbered(order: Order, kind: u8, size: u32, id: u32, status: u32) -> Head
+    ensures { result.items ≡ numbered_head order kind size id status }
+{
+    let mut head = header_of(order, kind, size);
+    put_u32(&mut head, order, id);
+    put_u32(&mut head, order, status);
+    head
+}
+
+/// The head of a reply without contexts in front of so many bytes.
+pub fn reply_head_of(order: Order, id: u32, status: u32, len: u32) -> Head
+    requires { len + 12 < 2 ^ 32 }
+    ensures { result.items ≡ reply_head order id status len }
+{
+    let mut head = numbered(order, 1, len + 12, id, status);
+    put_u32(&mut head, order, 0);
+    head
+}
+
+/// Writes a head, and then a body.
+fn write_both<O: Sink>(sink: &mut O, head: &[u8], body: &[u8]) -> WriteAll
+    ensures { WritesAll result (head.now ++ body.now) (O.state sink.old) (O.state sink.new) }
+{
+    match write_all(sink, head) {
+        WriteAll::Whole => write_all(sink, body),
+        WriteAll::Failed => WriteAll::Failed,
+    }
+}
+
+/// Writes a head and the body behind it, at once where both fit into the head's bytes.
+pub fn write_message<O: Sink>(sink: &mut O, head: Head, body: &[u8]) -> WriteAll
+    ensures { WritesAll result (head.items ++ body.now) (O.state sink.old) (O.state sink.new) }
+{
+    let mut whole = head;
+    match whole.try_extend_from_slice(body) {
+        Ok(()) => write_all(sink, whole.as_slice()),
+        Err(_) => write_both(sink, whole.as_slice(), body),
+    }
+}
