@@ -11,8 +11,16 @@ use Rattle.lane_pool.specs.Pass.{Pass}
 use Rattle.lane_pool.specs.Turns.{Reads, Listens, heard_by}
 use Rattle.conn_sides.specs.Entering.{Entered}
 use Rattle.conn_sides.specs.ReadSides.{MadeAll, MadeUpToClosing}
+use Rattle.conn_sides.specs.declared.calling.Called.{Called}
+use Rattle.conn_sides.specs.declared.calling.Called.TheVariants as called
 use Rattle.conn_sides.specs.declared.read_side_end.ReadSideEnd.{ReadSideEnd}
 use Rattle.conn_sides.specs.declared.read_side_end.ReadSideEnd.TheVariants as side
+
+-- how the reading side came out with a piece, if it did
+abbrev pub out_of : Called → Option Ending → Option ReadSideEnd
+out_of called.Closing ending = Some side.RunClosed
+out_of called.Heard (Some ending) = Some (side.Read (read.Ended ending))
+out_of called.Heard None = None
 
 -- one piece more was heard, with this ending, and all its calls were made
 pub record MadePiece (cell : CellView State) (h h' : Hearer) (piece : List ℕ) (ending : Option Ending) (old new : Pass) : Type 0 where

@@ -2,6 +2,7 @@
 ghost use Rattle.std.specs.Prelude.{◌≡◌, true, false, reverse};
 ghost use Rattle.pipe_laws.specs.Legality.{IsHeardCall, AreHeardCalls};
 ghost use Rattle.pipe_laws.specs.Serials.{IsNumbered, CountsFrom};
+ghost use Rattle.lane_machine.specs.declared.call.LaneCall.TheVariants.{Offer, Post, Cancel};
 ghost use Rattle.lane_pool.specs.Pass.{conn_of};
 ghost use Rattle.lane_pool.specs.Turns.{Reads, Listens, GoesOn, heard_by};
 ghost use Rattle.conn_sides.specs.Calling.{is_shut, MakesOne, CallsAll};
@@ -21,6 +22,7 @@ pub enum Called {
 }
 
 /// Offers a request.
+#[tactic(auto, using(crate::proofs::CallsMade::makes_one))]
 fn offer<R: Wait>(rt: &R, pool: &LanePool, pass: &mut ReaderPass, job: Arc<Job>) -> Called
     requires listens { Listens pool.now.cell pass.old }
     requires heard { IsHeardCall pool.now.cell.terms.opening.pool (conn_of pass.old) (Offer job) }
@@ -37,6 +39,7 @@ fn offer<R: Wait>(rt: &R, pool: &LanePool, pass: &mut ReaderPass, job: Arc<Job>)
 }
 
 /// Posts an answer of the reading side.
+#[tactic(auto, using(crate::proofs::CallsMade::makes_one))]
 fn post<R: Wait>(rt: &R, pool: &LanePool, pass: &mut ReaderPass, notice: Notice) -> Called
     requires listens { Listens pool.now.cell pass.old }
     requires conn { notice.conn ≡ conn_of pass.old }
@@ -50,6 +53,7 @@ fn post<R: Wait>(rt: &R, pool: &LanePool, pass: &mut ReaderPass, notice: Notice)
 }
 
 /// Withdraws a request.
+#[tactic(auto, using(crate::proofs::CallsMade::makes_one))]
 fn cancel<R: Wait>(rt: &R, pool: &LanePool, pass: &mut ReaderPass, id: u32) -> Called
     requires listens { Listens pool.now.cell pass.old }
     ensures made { MakesOne pool.now.cell (Cancel (conn_of pass.old) id) (is_shut result) pass.old pass.new }
@@ -63,6 +67,7 @@ fn cancel<R: Wait>(rt: &R, pool: &LanePool, pass: &mut ReaderPass, id: u32) -> C
 }
 
 /// Makes a call that the bytes of the pass's connection mean.
+#[tactic(auto, using(crate::proofs::CallsMade::makes_cancel))]
 fn make<R: Wait>(rt: &R, pool: &LanePool, pass: &mut ReaderPass, call: LaneCall) -> Called
     requires listens { Listens pool.now.cell pass.old }
     requires heard { IsHeardCall pool.now.cell.terms.opening.pool (conn_of pass.old) call }

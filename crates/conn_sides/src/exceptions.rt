@@ -52,6 +52,7 @@ fn completion_of(completed: Completed) -> u32
 }
 
 /// The body of a reply without contexts whose status is SYSTEM_EXCEPTION.
+#[tactic(auto, using(crate::proofs::Spelling::exception_spelled))]
 pub fn exception_body_of(order: Order, system: Sys) -> Head
     ensures { result.items ≡ exception_body order system }
 {

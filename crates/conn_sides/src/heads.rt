@@ -16,16 +16,14 @@ use text_streams::{WriteAll, write_all};
 /// Bytes of a head: what stands before a body, and with it a body that is short enough to be written at once.
 pub const HEAD_LEN: usize = 128;
 
-/// Bytes of the head of a reply without contexts.
-pub const REPLY_HEAD: u32 = 24;
-
 /// The head of a message.
 pub type Head = ArrayVec<u8, HEAD_LEN>;
 
 /// Appends bytes for which there is room.
 pub fn put(head: &mut Head, bytes: &[u8])
     requires { length head.old.items + length bytes.now ≤ 128 }
-    ensures { head.new.items ≡ head.old.items ++ bytes.now }
+    ensures items { head.new.items ≡ head.old.items ++ bytes.now }
+    ensures len { length head.new.items ≡ length head.old.items + length bytes.now }
 {
     match head.try_extend_from_slice(bytes) {
         Ok(()) => {}
@@ -36,7 +34,8 @@ pub fn put(head: &mut Head, bytes: &[u8])
 /// Appends an unsigned long.
 pub fn put_u32(head: &mut Head, order: Order, n: u32)
     requires { length head.old.items + 4 ≤ 128 }
-    ensures { head.new.items ≡ head.old.items ++ number_bytes order w32 n }
+    ensures items { head.new.items ≡ head.old.items ++ number_bytes order w32 n }
+    ensures len { length head.new.items ≡ length head.old.items + 4 }
 {
     put(head, &bytes_of_u32(order, n));
 }
@@ -53,7 +52,8 @@ fn flag(order: Order) -> u8
 
 /// The header of a message: its kind, and how many bytes stand behind the header.
 pub fn header_of(order: Order, kind: u8, size: u32) -> Head
-    ensures { result.items ≡ header order (order_byte order) kind size }
+    ensures items { result.items ≡ header order (order_byte order) kind size }
+    ensures len { length result.items ≡ 12 }
 {
     let mut head = ArrayVec::new();
     put(
@@ -66,7 +66,8 @@ pub fn header_of(order: Order, kind: u8, size: u32) -> Head
 
 /// The header with two numbers behind it.
 pub fn numbered(order: Order, kind: u8, size: u32, id: u32, status: u32) -> Head
-    ensures { result.items ≡ numbered_head order kind size id status }
+    ensures items { result.items ≡ numbered_head order kind size id status }
+    ensures len { length result.items ≡ 20 }
 {
     let mut head = header_of(order, kind, size);
     put_u32(&mut head, order, id);
@@ -85,6 +86,7 @@ pub fn reply_head_of(order: Order, id: u32, status: u32, len: u32) -> Head
 }
 
 /// Writes a head, and then a body.
+#[tactic(auto, using(crate::proofs::Saying::whole_both, crate::proofs::Saying::failed_first))]
 fn write_both<O: Sink>(sink: &mut O, head: &[u8], body: &[u8]) -> WriteAll
     ensures { WritesAll result (head.now ++ body.now) (O.state sink.old) (O.state sink.new) }
 {

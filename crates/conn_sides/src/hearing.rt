@@ -4,7 +4,7 @@ ghost use Rattle.orb_base.specs.Pool.{IsWellFormed};
 ghost use Rattle.conn_engine.specs.Hearers.{IsGoing};
 ghost use Rattle.lane_pool.specs.Pass.{conn_of};
 ghost use Rattle.lane_pool.specs.Turns.{Listens, heard_by};
-ghost use Rattle.conn_sides.specs.Pieces.{HearsPiece};
+ghost use Rattle.conn_sides.specs.Pieces.{HearsPiece, out_of};
 
 use crate::calling::{Called, make_all};
 use crate::read_side_end::ReadSideEnd;
@@ -16,7 +16,9 @@ use std::alloc::Global;
 use std::sync::Wait;
 
 /// How the reading side came out with a piece whose calls were made, if it did.
-fn out_of(called: Called, ending: Option<Ending>) -> Option<ReadSideEnd> {
+fn out_of(called: Called, ending: Option<Ending>) -> Option<ReadSideEnd>
+    ensures { result ≡ out_of called ending }
+{
     match (called, ending) {
         (Called::Closing, _) => Some(ReadSideEnd::RunClosed),
         (Called::Heard, Some(ending)) => Some(ReadSideEnd::Read(ReadEnd::Ended(ending))),

@@ -20,6 +20,7 @@ use orb_base::{Answer, Completed, Item, Job, Notice, Order, Outcome, Sink, Sys, 
 use text_streams::WriteAll;
 
 /// Writes a reply without contexts.
+#[tactic(auto, using(crate::proofs::Spelling::reply_spelled))]
 fn write_reply<O: Sink>(sink: &mut O, order: Order, id: u32, status: u32, body: &[u8]) -> WriteAll
     requires { length body.now ≤ MAX_BODY }
     ensures { WritesAll result (spelled order (reply (bare id status body.now))) (O.state sink.old) (O.state sink.new) }
@@ -69,6 +70,7 @@ fn write_transient<O: Sink>(sink: &mut O, job: &Job) -> WriteAll
 }
 
 /// Writes the LocateReply that tells whether an object is here.
+#[tactic(auto, using(crate::proofs::Spelling::located_spelled))]
 fn write_located<O: Sink>(sink: &mut O, order: Order, id: u32, here: bool) -> WriteAll
     ensures { WritesAll result (spelled order (located (record { id = id; status = if here then 1 else 0 }))) (O.state sink.old) (O.state sink.new) }
 {
@@ -110,6 +112,7 @@ pub fn write_item<O: Sink>(sink: &mut O, item: &Item) -> WriteAll
 }
 
 /// Writes CloseConnection.
+#[tactic(auto, using(crate::proofs::Spelling::close_spelled))]
 pub fn write_close<O: Sink>(sink: &mut O) -> WriteAll
     ensures { WritesAll result (spelled Big close) (O.state sink.old) (O.state sink.new) }
 {
@@ -117,6 +120,7 @@ pub fn write_close<O: Sink>(sink: &mut O) -> WriteAll
 }
 
 /// Writes MessageError.
+#[tactic(auto, using(crate::proofs::Spelling::error_spelled))]
 pub fn write_error<O: Sink>(sink: &mut O) -> WriteAll
     ensures { WritesAll result (spelled Big error) (O.state sink.old) (O.state sink.new) }
 {

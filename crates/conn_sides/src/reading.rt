@@ -43,7 +43,7 @@ fn hear_reads<I: Source, R: Wait>(
     pass: &mut ReaderPass,
     hearing: Hearing<'_>,
 ) -> ReadSideEnd
-    requires new { IsNew setup.now (conn_of pass.old) hearing.entry }
+    requires new { IsNew setup.now (conn_of pass.old) hearing }
     requires listens { Listens pool.now.cell pass.old }
     requires unheard { heard_by pass.old ≡ 0 }
     requires well_formed { IsWellFormed setup.now.pool }
@@ -60,8 +60,9 @@ fn hear_reads<I: Source, R: Wait>(
             Got::Bytes(n) => {
                 taken += n;
                 let bytes = &piece[..n];
-                if let Some(end) = hear_piece(rt, alloc, pool, pass, &mut hearing, bytes) {
-                    return end;
+                match hear_piece(rt, alloc, pool, pass, &mut hearing, bytes) {
+                    Some(end) => return end,
+                    None => {}
                 }
             }
             Got::End => return ReadSideEnd::Read(ReadEnd::Ended(hearing.at_end())),

@@ -23,7 +23,7 @@ fn no_interface(alloc: Global) -> Text
 }
 
 /// Has the servant of the job's object carry it out.
-#[tactic(auto, using(crate::proofs::Outcomes::came_or_wanting))]
+#[tactic(auto, using(lane_driver::proofs::Driving::came_or_wanting))]
 fn invoke<S: Serving>(alloc: Global, setup: &Setup, servants: &S, job: &Job) -> Outcome
     ensures came { CameOf (served setup.now (S.outcome servants.now)) job.now result }
     ensures few { body_len result ≤ MAX_BODY }

@@ -18,6 +18,7 @@ use std::sync::Wait;
 use text_streams::WriteAll;
 
 /// Collects once. What is handed over is short.
+#[tactic(auto, using(crate::proofs::Collecting::hands_short))]
 fn collect<R: Wait>(rt: &R, pool: &LanePool, pass: &mut WriterPass) -> Collected
     requires writes { Writes pool.now.cell pass.old }
     ensures made { Makes pool.now.cell (Collect (conn_of pass.old)) (collected_reply result) pass.old pass.new }
@@ -40,6 +41,7 @@ fn close_failed<O: Sink>(sink: &mut O, wrote: WriteAll) -> WriteAll
 }
 
 /// Writes an item, unless a write has failed before.
+#[tactic(auto, using(crate::proofs::Saying::says_same))]
 fn say<O: Sink>(sink: &mut O, before: WriteAll, item: &Item) -> WriteAll
     requires { IsShort item.now }
     ensures { SaysOn before result (item_bytes item.now) (O.state sink.old) (O.state sink.new) }
@@ -76,6 +78,7 @@ fn whole_end(last: LastCollect) -> WriteEnd
 }
 
 /// Ends the writing: what is said at last is written and the sink closed, unless a write has failed before.
+#[tactic(auto, using(crate::proofs::Saying::says_same))]
 fn end_with<O: Sink>(sink: &mut O, before: WriteAll, last: LastCollect) -> WriteEnd
     ensures last { Spec.last_of result ≡ last }
     ensures says { SaysOn before (Spec.course_of result) (handed_bytes (Spec.last_reply last)) (O.state sink.old) (O.state sink.new) }
