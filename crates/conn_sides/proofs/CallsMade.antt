@@ -1,6 +1,6 @@
 -- The calls of a reading side, one after another.
-use Rattle.std.proofs.Common.{◌≡◌, ℕ, ◌+◌, Bool, true, false, List, [], ◌∷◌, ◌++◌, length, refl, sym, ap, ◌∙◌, subst, append_assoc, append-nil, arith, length-append}
-use Rattle.std.specs.Prelude.{◌||◌, ◌-◌, take, reverse}
+use Rattle.std.proofs.Common.{◌≡◌, ℕ, ◌+◌, ◌-◌, take, Bool, true, false, List, [], ◌∷◌, ◌++◌, length, refl, sym, ap, ◌∙◌, subst, append_assoc, append-nil, arith, length-append}
+use Rattle.std.specs.Prelude.{reverse}
 use Rattle.std.proofs.lemmas.List.{reverse-append}
 use Rattle.turn_cell.specs.Seats.{CellView}
 use Rattle.orb_base.specs.declared.conn_id.ConnId.{ConnId}
@@ -68,7 +68,7 @@ module _ (cell : CellView State) where
   next_numbered all left front call old new x is = (subst (CountsFrom (heard_by new)) (turned_next left front call is) x.counts).0
 
   one_open : (call : LaneCall) (mid new : Pass) (m : MakesOne cell call false mid new) → met_closing (entry mid.seat.number call m.reply ∷ []) ≡ false
-  one_open call mid new m = ap (λ (b : Bool). b || false) m.closes
+  one_open call mid new m = rw m.closes refl
 
   calls_behind : (entries : History) (calls : List LaneCall) (call : LaneCall) (n : ℕ) (r : LaneReply) → calls_of entries ≡ calls → calls_of (entries ++ (entry n call r ∷ [])) ≡ calls ++ (call ∷ [])
   calls_behind entries calls call n r is = calls_both entries (entry n call r ∷ []) ∙ ap (λ (cs : List LaneCall). cs ++ (call ∷ [])) is
@@ -120,17 +120,12 @@ module _ (cell : CellView State) where
         entered = entered_then cell x.entries e old mid new x.entered (entered_one cell call m.reply mid new x.listens.reads.serves.in_cell m.makes);
       }
 
-  nothing_left : (left : List LaneCall) → length left ≡ 0 → left ≡ []
-  nothing_left [] e = refl
-  nothing_left (x ∷ xs) e = absurd (omega arith)
+  -- a list from which nothing can be popped is empty
+  pub nothing_popped : (left front : List LaneCall) (n : ℕ) → n ≡ 0 → front ≡ take (n - 1) left → left ≡ front ++ [] → left ≡ []
+  nothing_popped left front n none rest items = items ∙ append-nil front ∙ rest ∙ ap (λ (k : ℕ). take (k - 1) left) none
 
-  -- where nothing was popped, nothing is left
-  pub popped_none : (old new : List LaneCall) (n : ℕ) → old ≡ new ++ [] → new ≡ take (n - 1) old → n ≡ 0 → length old ≡ 0
-  popped_none old new n items rest none = ap length (items ∙ append-nil new ∙ rest ∙ ap (λ (k : ℕ). take (k - 1) old) none)
-
-  pub turned_all : (all left : List LaneCall) (old new : Pass) → TurnedSoFar cell all left old new → length left ≡ 0 → CallsAll cell all false old new
-  turned_all all left old new x empty =
-      let none : left ≡ [] = nothing_left left empty in
+  pub turned_all : (all left : List LaneCall) (old new : Pass) → TurnedSoFar cell all left old new → left ≡ [] → CallsAll cell all false old new
+  turned_all all left old new x none =
       let is : x.calls ≡ all = sym (x.parts ∙ ap (λ (cs : List LaneCall). x.calls ++ reverse cs) none ∙ append-nil x.calls) in
       record {
         entries = x.entries;

@@ -1,4 +1,4 @@
-use Rattle.conn_sides.proofs.CallsMade.{turned_start, next_heard, next_numbered, turned_more, turned_closed, turned_all, popped_none}
+use Rattle.conn_sides.proofs.CallsMade.{nothing_popped, turned_start, next_heard, next_numbered, turned_more, turned_closed, turned_all}
 use Rattle.conn_sides.proofs.calling.make_turned.Goals as goal
 
 pub loop-call-init : goal.loop-call-init
@@ -17,4 +17,6 @@ pub returns-in-Closing : goal.returns-in-Closing
 returns-in-Closing g c = turned_closed c.args.pool.now.cell _ _ _ _ _ _ _ c.loop-call.invariant c.in-Some.ensures.items c.in-Closing.ensures.made c.in-Closing.ensures.next
 
 pub returns : goal.returns
-returns g c = turned_all c.args.pool.now.cell _ _ _ _ c.loop-call.invariant (popped_none c.args.pool.now.cell _ _ _ c.in_default.ensures.items c.in_default.ensures.rest c.in_default.ensures.cases.0)
+returns g c =
+    turned_all c.args.pool.now.cell _ _ _ _ c.loop-call.invariant
+    (nothing_popped c.args.pool.now.cell c.loop-call.left.items _ _ c.in_default.ensures.cases.0 c.in_default.ensures.rest c.in_default.ensures.items)
