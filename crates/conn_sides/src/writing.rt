@@ -42,13 +42,13 @@ fn close_failed<O: Sink>(sink: &mut O, wrote: WriteAll) -> WriteAll
 
 /// Writes an item, unless a write has failed before.
 #[tactic(auto, using(crate::proofs::Saying::says_same))]
-fn say<O: Sink>(sink: &mut O, before: WriteAll, item: &Item) -> WriteAll
-    requires { IsShort item.now }
-    ensures { SaysOn before result (item_bytes item.now) (O.state sink.old) (O.state sink.new) }
+fn say<O: Sink>(sink: &mut O, before: WriteAll, item: Item) -> WriteAll
+    requires { IsShort item }
+    ensures { SaysOn before result (item_bytes item) (O.state sink.old) (O.state sink.new) }
 {
     match before {
         WriteAll::Whole => {
-            let wrote = write_item(sink, item);
+            let wrote = write_item(sink, &item);
             close_failed(sink, wrote)
         }
         WriteAll::Failed => WriteAll::Failed,
@@ -111,7 +111,7 @@ pub fn write_side<O: Sink, R: Wait>(
     let mut wrote = WriteAll::Whole;
     for _ in rt.forever() {
         match collect(rt, pool, pass) {
-            Collected::Item(item) => wrote = say(sink, wrote, &item),
+            Collected::Item(item) => wrote = say(sink, wrote, item),
             Collected::Close => return end_with(sink, wrote, LastCollect::Close),
             Collected::Error => return end_with(sink, wrote, LastCollect::Error),
             Collected::Done => return end_with(sink, wrote, LastCollect::Done),

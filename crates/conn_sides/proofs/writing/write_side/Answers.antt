@@ -5,28 +5,8 @@ use Rattle.conn_sides.proofs.writing.write_side.Goals as goal
 pub loop-init : goal.loop-init
 loop-init g c = said_start c.args.pool.now.cell c.args.pass.now (g.O.Sink.state c.args.sink.now) c.requires
 
-pub loop-preserved-in-Item : goal.loop-preserved-in-Item
-loop-preserved-in-Item g c =
-    said_item c.args.pool.now.cell c.loop.wrote c.say-wrote.result c.in-Item.item c.args.pass.now c.loop.pass c.collect.new.pass (g.O.Sink.state c.args.sink.now) (g.O.Sink.state c.loop.sink)
-    (g.O.Sink.state c.say-wrote.new.sink) c.loop.invariant c.in-Item.ensures.made c.in-Item.ensures.next c.say-wrote.ensures
-
-pub loop-preserved-in-Item-2 : goal.loop-preserved-in-Item-2
-loop-preserved-in-Item-2 g c =
-    said_item c.args.pool.now.cell c.loop.wrote c.say-wrote.result c.in-Item.item c.args.pass.now c.loop.pass c.collect.new.pass (g.O.Sink.state c.args.sink.now) (g.O.Sink.state c.loop.sink)
-    (g.O.Sink.state c.say-wrote.new.sink) c.loop.invariant c.in-Item.ensures.made c.in-Item.ensures.next c.say-wrote.ensures
-
-pub loop-preserved-in-Item-3 : goal.loop-preserved-in-Item-3
-loop-preserved-in-Item-3 g c =
-    said_item c.args.pool.now.cell c.loop.wrote c.say-wrote.result c.in-Item.item c.args.pass.now c.loop.pass c.collect.new.pass (g.O.Sink.state c.args.sink.now) (g.O.Sink.state c.loop.sink)
-    (g.O.Sink.state c.say-wrote.new.sink) c.loop.invariant c.in-Item.ensures.made c.in-Item.ensures.next c.say-wrote.ensures
-
-pub loop-preserved-in-Item-4 : goal.loop-preserved-in-Item-4
-loop-preserved-in-Item-4 g c =
-    said_item c.args.pool.now.cell c.loop.wrote c.say-wrote.result c.in-Item.item c.args.pass.now c.loop.pass c.collect.new.pass (g.O.Sink.state c.args.sink.now) (g.O.Sink.state c.loop.sink)
-    (g.O.Sink.state c.say-wrote.new.sink) c.loop.invariant c.in-Item.ensures.made c.in-Item.ensures.next c.say-wrote.ensures
-
-pub loop-preserved-in-Item-5 : goal.loop-preserved-in-Item-5
-loop-preserved-in-Item-5 g c =
+pub loop-preserved : goal.loop-preserved
+loop-preserved g c =
     said_item c.args.pool.now.cell c.loop.wrote c.say-wrote.result c.in-Item.item c.args.pass.now c.loop.pass c.collect.new.pass (g.O.Sink.state c.args.sink.now) (g.O.Sink.state c.loop.sink)
     (g.O.Sink.state c.say-wrote.new.sink) c.loop.invariant c.in-Item.ensures.made c.in-Item.ensures.next c.say-wrote.ensures
 
