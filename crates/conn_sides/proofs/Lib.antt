@@ -1,0 +1,9 @@
+pub mod Entering
+pub mod Saying
+pub mod CallsMade
+pub mod Pieces
+pub mod ReadRuns
+pub mod Ends
+pub mod Collecting
+pub mod Tasks
+pub mod Opened
