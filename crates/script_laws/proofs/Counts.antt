@@ -90,7 +90,7 @@ sound_members ms e =
     let c = and_parts (nat_le (leaves_of_members m) most_leaves) (nat_le (levels_of_members m) most_levels) b.1 in
     record { lawful = a.0; leaves = leb-true (leaves_of_members m) 65536 c.0; levels = leb-true (levels_of_members m) 64 c.1 }
 
-all_every : {A : Type 0} (p : A → Bool) (xs : List A) → list_all p xs ≡ true → Every (λ (x : A). p x ≡ true) xs
+pub all_every : {A : Type 0} (p : A → Bool) (xs : List A) → list_all p xs ≡ true → Every (λ (x : A). p x ≡ true) xs
 all_every p [] e = tt
 all_every p (x ∷ xs) e = let h = and_parts (p x) (list_all p xs) e in (h.0, all_every p xs h.1)
 

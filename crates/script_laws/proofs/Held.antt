@@ -173,13 +173,13 @@ module _ (ts : List Thing) (d : AreDeclared [] ts) (plain : ArePlain ts) where
         (λ h. find_front (has_id (id_of t)) ts (built.ping ∷ []) t (found_itself [] ts i t d h))
         (λ h. subst (λ (x : Thing). thing_named (ts ++ built.ping ∷ []) (id_of x) ≡ Some x) h (find_behind (has_id ping_id) ts (built.ping ∷ []) (ping_nowhere [] ts d).0))
         (either_at ts built.ping i t e);
-    texts = λ i x e. ⊎_elim (λ h. plain.texts i x h) (λ h. absurd cc) (either_at ts built.ping i (exception x) e);
-    places = let a = plain.few in let b = length-append ts (built.ping ∷ []) in omega (arith, a, b);
+    texts = λ i x e. ⊎_elim (λ h. plain.counted.texts i x h) (λ h. absurd cc) (either_at ts built.ping i (exception x) e);
+    places = let a = plain.counted.few in let b = length-append ts (built.ping ∷ []) in omega (arith, a, b);
     members = λ i t e. members_few t (took_at i (named t) e).0;
     fields = λ i x e. fields_few x (took_at i (exception x) e).0;
     operations = λ i x e. operations_few x (took_at i (interface x) e).1;
     params = λ i x o op e at. let t = took_at i (interface x) e in params_few x o op t.0 t.1 at;
-    raises = λ i x o op e at. ⊎_elim (λ h. plain.raises i x o op h at)
+    raises = λ i x o op e at. ⊎_elim (λ h. plain.counted.raises i x o op h at)
         (λ h. few_raised o op (subst (λ (y : InterfaceView). slice_get y.operations o ≡ Some op) (sym (interface_is ping_view x h)) at)) (either_at ts built.ping i (interface x) e);
     steps = λ i t r k e at. part_near r t k (took_at i t e).0 at;
   }

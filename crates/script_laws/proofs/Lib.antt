@@ -16,3 +16,6 @@ pub mod Zeros
 pub mod Counts
 pub mod Served
 pub mod Held
+pub mod KeptConstants
+pub mod Labelled
+pub mod Texts

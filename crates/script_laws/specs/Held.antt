@@ -40,12 +40,15 @@ abbrev pub AreDeclared : List Thing → List Thing → Type 0
 AreDeclared before [] = Unit {0}
 AreDeclared before (t ∷ ts) = (may_declare before t ≡ true) × AreDeclared (before ++ t ∷ []) ts
 
--- what a repository doesn't ask: constants have values of their kinds, ids of exceptions are texts, enums of parameters have labels, and
--- there are no more things, and no more exceptions of an operation, than references count
-pub record ArePlain (ts : List Thing) : Type 0 where
-  pub constants : (i : ℕ) (c : ConstantView) → slice_get ts i ≡ Some (constant c) → HasKind c.kind c.value
+-- ids of exceptions are texts, and there are no more things, and no more exceptions of an operation, than references count
+pub record AreCounted (ts : List Thing) : Type 0 where
   pub texts : (i : ℕ) (e : ExceptionView) → slice_get ts i ≡ Some (exception e) → is_of (text e.id) (words 0) ≡ true
-  pub labels : (i : ℕ) (x : InterfaceView) (o : ℕ) (op : OperationView) (j : ℕ) (p : ParamView) → slice_get ts i ≡ Some (interface x) → slice_get x.operations o ≡ Some op
-      → slice_get op.params j ≡ Some p → has_labels p.kind ≡ true
   pub few : length ts < 2 ^ 32
   pub raises : (i : ℕ) (x : InterfaceView) (o : ℕ) (op : OperationView) → slice_get ts i ≡ Some (interface x) → slice_get x.operations o ≡ Some op → length op.raises ≤ 2 ^ 32
+
+-- what a repository doesn't ask: constants have values of their kinds, enums of parameters have labels, and that
+pub record ArePlain (ts : List Thing) : Type 0 where
+  pub constants : (i : ℕ) (c : ConstantView) → slice_get ts i ≡ Some (constant c) → HasKind c.kind c.value
+  pub labels : (i : ℕ) (x : InterfaceView) (o : ℕ) (op : OperationView) (j : ℕ) (p : ParamView) → slice_get ts i ≡ Some (interface x) → slice_get x.operations o ≡ Some op
+      → slice_get op.params j ≡ Some p → has_labels p.kind ≡ true
+  pub counted : AreCounted ts

@@ -11,6 +11,7 @@ use Rattle.idl_types.specs.Things.{Thing, interface, ParamView, OperationView, I
 use Rattle.idl_types.specs.Finding.{place_named}
 use Rattle.idl_types.specs.Sound.{ping_id}
 use Rattle.idl_types.specs.BuiltIn.{ping, with_ping}
+use Rattle.idl_reader.specs.Whole.{Declares}
 use Rattle.servant_scripts.specs.Trees.{Said, MethodSaid, ServantSaid}
 use Rattle.script_names.specs.Known.{known}
 use Rattle.script_values.specs.Operations.{or_blank}
@@ -24,7 +25,7 @@ use Rattle.dynamic_servants.specs.Zeros.{zero_of}
 use Rattle.script_laws.specs.Evaluation.{defined_value}
 use Rattle.script_laws.specs.Kinds.{HasKind, Stands}
 use Rattle.script_laws.specs.Things.{IsSound, AreOf}
-use Rattle.script_laws.specs.Held.{AreDeclared, ArePlain}
+use Rattle.script_laws.specs.Held.{AreDeclared, AreCounted, ArePlain}
 use Rattle.script_laws.specs.Outcome.{defined_work, defined_outcome}
 
 -- A checked expression, over slots that hold values of the variables: what its evaluation gives is defined without defaults, and a value
@@ -65,4 +66,11 @@ abbrev pub ScriptsAreDefined : Type 0
 ScriptsAreDefined =
     (ts : List Thing) (script : List ServantSaid) (s : Served) (id : Name) (job : JobRecord)
     → AreDeclared [] ts → ArePlain ts → AreBytes job.body → served_by (with_ping ts) script ≡ Ok s
+    → defined_outcome s id job ≡ Some (outcome_of s id job)
+
+-- The same of servants that were checked over the things that a text declares, with the built-in interface behind them.
+abbrev pub TextsAreDefined : Type 0
+TextsAreDefined =
+    (text : List ℕ) (ts : List Thing) (script : List ServantSaid) (s : Served) (id : Name) (job : JobRecord)
+    → Declares text ts → AreCounted ts → AreBytes job.body → served_by (with_ping ts) script ≡ Ok s
     → defined_outcome s id job ≡ Some (outcome_of s id job)

@@ -1,5 +1,5 @@
 //! That checks leave no default, each law the contract of a call that does nothing.
-ghost use Rattle.script_laws.specs.Laws.{ExpressionsAreDefined, MethodsAreDefined, ScriptsAreDefined, ServedAreDefined};
+ghost use Rattle.script_laws.specs.Laws.{ExpressionsAreDefined, MethodsAreDefined, ScriptsAreDefined, ServedAreDefined, TextsAreDefined};
 
 /// What a checked expression evaluates to, over slots that hold values of their variables, is defined without defaults, and
 /// its value is of the kind that the check has told.
@@ -20,4 +20,9 @@ pub fn checked_servants_are_defined()
 /// The same over the things that a repository takes one by one, with the built-in interface behind them.
 pub fn checked_scripts_are_defined()
     ensures { ScriptsAreDefined }
+{}
+
+/// The same over the things that a text of IDL declares.
+pub fn checked_texts_are_defined()
+    ensures { TextsAreDefined }
 {}

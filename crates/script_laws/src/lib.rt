@@ -10,5 +10,5 @@ mod laws;
 
 pub use laws::{
     checked_expressions_are_defined, checked_methods_are_defined, checked_scripts_are_defined,
-    checked_servants_are_defined,
+    checked_servants_are_defined, checked_texts_are_defined,
 };
