@@ -173,7 +173,7 @@ module _ (ts : List Thing) (d : AreDeclared [] ts) (plain : ArePlain ts) where
         (λ h. find_front (has_id (id_of t)) ts (built.ping ∷ []) t (found_itself [] ts i t d h))
         (λ h. subst (λ (x : Thing). thing_named (ts ++ built.ping ∷ []) (id_of x) ≡ Some x) h (find_behind (has_id ping_id) ts (built.ping ∷ []) (ping_nowhere [] ts d).0))
         (either_at ts built.ping i t e);
-    texts = λ i x e. ⊎_elim (λ h. plain.counted.texts i x h) (λ h. absurd cc) (either_at ts built.ping i (exception x) e);
+    texts = λ i x e. ⊎_elim (λ h. plain.texts i x h) (λ h. absurd cc) (either_at ts built.ping i (exception x) e);
     places = let a = plain.counted.few in let b = length-append ts (built.ping ∷ []) in omega (arith, a, b);
     members = λ i t e. members_few t (took_at i (named t) e).0;
     fields = λ i x e. fields_few x (took_at i (exception x) e).0;

@@ -18,4 +18,7 @@ pub mod Served
 pub mod Held
 pub mod KeptConstants
 pub mod Labelled
+pub mod CleanNames
+pub mod KeptClean
+pub mod CleanIds
 pub mod Texts

@@ -1,5 +1,5 @@
 -- What texts declare is plain.
-use Rattle.std.proofs.Common.{◌≡◌, ℕ, zero, suc, ◌+◌, ℤ, pos, negsuc, true, List, [], ◌∷◌, ◌++◌, Some, Ok, refl, sym, subst, slice_get}
+use Rattle.std.proofs.Common.{◌≡◌, ℕ, zero, suc, ◌+◌, ℤ, pos, negsuc, true, List, [], ◌∷◌, ◌++◌, Some, None, Ok, refl, sym, ap, subst, slice_get, ◌<◌, ◌^◌, length, is_some, arith}
 use Rattle.std.specs.List.{list_all}
 use Rattle.std.proofs.lemmas.Bool.{and_parts}
 use Rattle.cdr_values.specs.Trees as trees
@@ -15,6 +15,9 @@ use Rattle.idl_reader.specs.Declared.{declared_at, listed, declared_from}
 use Rattle.idl_reader.specs.Accepted.{Each, is_result_so, has_types_so, HasTypes, MayDeclare}
 use Rattle.idl_reader.proofs.TypedThings.{each_typed}
 use Rattle.idl_reader.proofs.TakenThings.{repositories_take_texts}
+use Rattle.orb_base.specs.NulFree.{nul_at}
+use Rattle.cdr_values.specs.Fitting.{is_of}
+use Rattle.dynamic_servants.proofs.Spellings.{id_fits}
 use Rattle.script_laws.specs.Kinds.{Every, HasKind}
 use Rattle.script_laws.specs.Held.{AreDeclared, has_labels}
 use Rattle.script_laws.specs.Laws.{TextsAreDefined}
@@ -22,6 +25,8 @@ use Rattle.script_laws.proofs.Checks.{some_is, none_is}
 use Rattle.script_laws.proofs.Shapes.{every_at}
 use Rattle.script_laws.proofs.Names.{both_every}
 use Rattle.script_laws.proofs.Counts.{all_every}
+use Rattle.script_laws.proofs.KeptClean.{IsClean, names_clean}
+use Rattle.script_laws.proofs.CleanIds.{id_has_none}
 use Rattle.script_laws.proofs.KeptConstants.{HasFitting, constants_fit}
 use Rattle.script_laws.proofs.Labelled.{members_labelled, labelled_text}
 use Rattle.script_laws.proofs.Held.{scripts_defined}
@@ -75,26 +80,27 @@ fits_type (array k n) v e = absurd cc
 fits_type (structure name ms) v e = absurd cc
 fits_type (union name d cs) v e = absurd cc
 
--- a constant has a value of its kind
+-- a constant has a value of its kind, and the id of an exception no NUL
 abbrev IsKept : things.Thing → Type 0
 IsKept (things.constant c) = HasKind c.kind c.value
 IsKept (things.named t) = Unit {0}
-IsKept (things.exception e) = Unit {0}
+IsKept (things.exception e) = nul_at e.id ≡ None
 IsKept (things.interface x) = Unit {0}
 
-one_kept : (table : Table) (all : List names.Thing) (i : ℕ) (x : names.Thing) → HasFitting x → Every IsKept (listed (declared_at table all i x))
-one_kept table all i (names.constant k v) h = (fits_type k v h, tt)
-one_kept table all i names.nothing h = tt
-one_kept table all i (names.interface bs os) h = (tt, tt)
-one_kept table all i (names.type k) h = (tt, tt)
-one_kept table all i (names.exception ms) h = (tt, tt)
-one_kept table all i (names.enumerator enum n) h = tt
-one_kept table all i (names.operations os n) h = tt
+one_kept : (table : Table) → IsClean table → (all : List names.Thing) (i : ℕ) (x : names.Thing) → HasFitting x → Every IsKept (listed (declared_at table all i x))
+one_kept table clean all i (names.constant k v) h = (fits_type k v h, tt)
+one_kept table clean all i names.nothing h = tt
+one_kept table clean all i (names.interface bs os) h = (tt, tt)
+one_kept table clean all i (names.type k) h = (tt, tt)
+one_kept table clean all i (names.exception ms) h = (id_has_none table clean i, tt)
+one_kept table clean all i (names.enumerator enum n) h = tt
+one_kept table clean all i (names.operations os n) h = tt
 
-all_kept : (table : Table) (all : List names.Thing) (i : ℕ) (rest : List names.Thing) → ((j : ℕ) (x : names.Thing) → slice_get rest j ≡ Some x → HasFitting x) → Every IsKept (declared_from table all i rest)
-all_kept table all i [] h = tt
-all_kept table all i (x ∷ rest) h =
-    both_every IsKept (listed (declared_at table all i x)) (declared_from table all (i + 1) rest) (one_kept table all i x (h 0 x refl)) (all_kept table all (i + 1) rest (λ j y e. h (suc j) y e))
+all_kept : (table : Table) → IsClean table → (all : List names.Thing) (i : ℕ) (rest : List names.Thing) → ((j : ℕ) (x : names.Thing) → slice_get rest j ≡ Some x → HasFitting x)
+    → Every IsKept (declared_from table all i rest)
+all_kept table clean all i [] h = tt
+all_kept table clean all i (x ∷ rest) h =
+    both_every IsKept (listed (declared_at table all i x)) (declared_from table all (i + 1) rest) (one_kept table clean all i x (h 0 x refl)) (all_kept table clean all (i + 1) rest (λ j y e. h (suc j) y e))
 
 -- ---- each of several things
 
@@ -107,14 +113,18 @@ each_declared : (b ts : List things.Thing) → Each MayDeclare b ts → AreDecla
 each_declared b [] h = tt
 each_declared b (t ∷ ts) h = (h.0, each_declared (b ++ t ∷ []) ts h.1)
 
+id_is_text : (id : Name) → nul_at id ≡ None → length id + 1 < 2 ^ 32 → is_of (trees.text id) (words 0) ≡ true
+id_is_text id none short = ap is_some (id_fits id none (omega (arith, short)))
+
 pub texts_defined : TextsAreDefined
 texts_defined source ts script s id job w counted bytes e =
     let new = w.new in
-    let kept : Every IsKept ts = subst (Every IsKept) (sym w.told) (all_kept new.scopes new.things 0 new.things (constants_fit source new w.names)) in
+    let kept : Every IsKept ts = subst (Every IsKept) (sym w.told) (all_kept new.scopes (names_clean source new w.names) new.things 0 new.things (constants_fit source new w.names)) in
     let typed : Each (HasTypes has_labels members_labelled) [] ts =
     subst (Each (HasTypes has_labels members_labelled) []) (sym w.told) (each_typed has_labels members_labelled new.scopes new.things (labelled_text source new w.names).things) in
     scripts_defined ts script s id job (each_declared [] ts (repositories_take_texts source ts w)) (record {
       constants = λ i c at. every_at IsKept ts i (things.constant c) kept at;
+      texts = λ i x at. id_is_text x.id (every_at IsKept ts i (things.exception x) kept at) (counted.ids i x at);
       labels = λ i x o op j p at is here.
           let h = each_at (HasTypes has_labels members_labelled) [] ts i (things.interface x) typed at in
           let one = every_at (λ (q : OperationView). has_types_so has_labels q ≡ true) x.operations o op (all_every (has_types_so has_labels) x.operations h.1) is in

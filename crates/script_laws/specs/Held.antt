@@ -1,5 +1,5 @@
 -- Things as a repository takes them, and what else files give.
-use Rattle.std.specs.Prelude.{◌≡◌, ◌≤◌, ◌<◌, ◌^◌, ℕ, ◌&&◌, Bool, true, false, List, [], ◌∷◌, ◌++◌, length, slice_get, Some}
+use Rattle.std.specs.Prelude.{◌≡◌, ◌≤◌, ◌<◌, ◌^◌, ℕ, ◌+◌, ◌&&◌, Bool, true, false, List, [], ◌∷◌, ◌++◌, length, slice_get, Some}
 use Rattle.cdr_values.specs.Trees.{Scalar, boolean, char, unsigned, signed, enumeration, Kind, scalar, words, sequence, array, structure, union, Members, no_members, member, Cases, no_cases, case, text}
 use Rattle.cdr_values.specs.Fitting.{is_of}
 use Rattle.idl_types.specs.Things.{Thing, constant, exception, interface, ParamView, OperationView, ConstantView, ExceptionView, InterfaceView}
@@ -40,15 +40,17 @@ abbrev pub AreDeclared : List Thing → List Thing → Type 0
 AreDeclared before [] = Unit {0}
 AreDeclared before (t ∷ ts) = (may_declare before t ≡ true) × AreDeclared (before ++ t ∷ []) ts
 
--- ids of exceptions are texts, and there are no more things, and no more exceptions of an operation, than references count
+-- there are no more things, no more exceptions of an operation, and no longer ids of exceptions than four bytes count
 pub record AreCounted (ts : List Thing) : Type 0 where
-  pub texts : (i : ℕ) (e : ExceptionView) → slice_get ts i ≡ Some (exception e) → is_of (text e.id) (words 0) ≡ true
   pub few : length ts < 2 ^ 32
+  pub ids : (i : ℕ) (e : ExceptionView) → slice_get ts i ≡ Some (exception e) → length e.id + 1 < 2 ^ 32
   pub raises : (i : ℕ) (x : InterfaceView) (o : ℕ) (op : OperationView) → slice_get ts i ≡ Some (interface x) → slice_get x.operations o ≡ Some op → length op.raises ≤ 2 ^ 32
 
--- what a repository doesn't ask: constants have values of their kinds, enums of parameters have labels, and that
+-- what a repository doesn't ask: constants have values of their kinds, ids of exceptions are texts, enums of parameters have labels, and
+-- the things are counted
 pub record ArePlain (ts : List Thing) : Type 0 where
   pub constants : (i : ℕ) (c : ConstantView) → slice_get ts i ≡ Some (constant c) → HasKind c.kind c.value
+  pub texts : (i : ℕ) (e : ExceptionView) → slice_get ts i ≡ Some (exception e) → is_of (text e.id) (words 0) ≡ true
   pub labels : (i : ℕ) (x : InterfaceView) (o : ℕ) (op : OperationView) (j : ℕ) (p : ParamView) → slice_get ts i ≡ Some (interface x) → slice_get x.operations o ≡ Some op
       → slice_get op.params j ≡ Some p → has_labels p.kind ≡ true
   pub counted : AreCounted ts

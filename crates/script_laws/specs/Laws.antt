@@ -68,7 +68,8 @@ ScriptsAreDefined =
     → AreDeclared [] ts → ArePlain ts → AreBytes job.body → served_by (with_ping ts) script ≡ Ok s
     → defined_outcome s id job ≡ Some (outcome_of s id job)
 
--- The same of servants that were checked over the things that a text declares, with the built-in interface behind them.
+-- The same of servants that were checked over the things that a text declares, with the built-in interface behind them. Of the things
+-- only counts are asked.
 abbrev pub TextsAreDefined : Type 0
 TextsAreDefined =
     (text : List ℕ) (ts : List Thing) (script : List ServantSaid) (s : Served) (id : Name) (job : JobRecord)

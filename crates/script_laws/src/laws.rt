@@ -22,7 +22,7 @@ pub fn checked_scripts_are_defined()
     ensures { ScriptsAreDefined }
 {}
 
-/// The same over the things that a text of IDL declares.
+/// The same over the things that a text of IDL declares, of which only counts are asked.
 pub fn checked_texts_are_defined()
     ensures { TextsAreDefined }
 {}
