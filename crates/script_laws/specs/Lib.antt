@@ -1,0 +1,9 @@
+pub mod Defined
+pub mod Operators
+pub mod Evaluation
+pub mod Running
+pub mod Kinds
+pub mod Things
+pub mod Outcome
+pub mod Held
+pub mod Laws
