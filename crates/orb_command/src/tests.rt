@@ -239,6 +239,17 @@ fn the_pipe_answers_each_ping(rt: HostRuntime) -> Result<(), Fail> {
             output: LITTLE_SEVEN,
             ..EMPTY
         },
+    ] {
+        let is_so = is_row(rt.alloc(), &row)?;
+        assert!(rt; is_so, "{}", row.name);
+    }
+    Ok(())
+}
+
+/// What the pipe can't answer, and a failed read or write, are told.
+#[test]
+fn the_pipe_tells_its_faults(rt: HostRuntime) -> Result<(), Fail> {
+    for row in [
         Row {
             name: "an unknown key",
             input: PONG_REQUEST,
