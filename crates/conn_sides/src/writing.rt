@@ -12,7 +12,6 @@ ghost use Rattle.conn_sides.specs.Saying.{SaysOn};
 
 use crate::write_end::{LastCollect, WriteEnd};
 use item_writer::{write_close, write_error, write_item};
-use item_writer::{write_close, write_error, write_item};
 use lane_pool::{Collected, LanePool, WriterPass};
 use orb_base::{Item, Sink};
 use std::sync::Wait;

@@ -45,4 +45,4 @@ module _ {A I O : Type 0} (state : A → AcceptorState I O) (source : I → Sour
 
   pub done_all : (jobs xs : List (SlotJob A I O)) (x : SlotJob A I O) (ds : List (SlotDone A I O)) → jobs ≡ xs ++ x ∷ [] → AreDone state source sink setup cell 0 (acceptors_of xs ++ x.acceptor ∷ []) ds
       → AreDone state source sink setup cell 0 (acceptors_of jobs) ds
-  done_all jobs xs x ds e h = subst (λ (as' : List A). AreDone state source sink setup cell 0 as' ds) (sym (map-append (λ (j : SlotJob A I O). j.acceptor) xs (x ∷ [])) ∙ ap acceptors_of (sym e)) h
+  done_all jobs xs x ds e h = subst (λ (every : List A). AreDone state source sink setup cell 0 every ds) (sym (map-append (λ (j : SlotJob A I O). j.acceptor) xs (x ∷ [])) ∙ ap acceptors_of (sym e)) h

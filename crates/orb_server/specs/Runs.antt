@@ -7,6 +7,7 @@ use Rattle.orb_base.specs.Links.{AcceptorState}
 use Rattle.orb_base.specs.Outside.{SourceState, SinkState}
 use Rattle.orb_base.specs.declared.outcome.Outcome.{Outcome}
 use Rattle.thread_borrowing.specs.ThreadList.{pool_threads}
+use Rattle.turn_cell.specs.Seats.{CellView}
 use Rattle.lane_machine.specs.Callers.{of, slot_seat, worker_seat, AreFit}
 use Rattle.lane_machine.specs.Histories.{History, IsLegal}
 use Rattle.lane_machine.specs.State.{State, opening}
@@ -14,7 +15,8 @@ use Rattle.adapter_policies.specs.SetupData.{SetupData}
 use Rattle.orb_server.specs.Connections.{Conn, AreWritten}
 use Rattle.orb_server.specs.SlotEnds.{closed_behind, HasCause}
 use Rattle.orb_server.specs.Slots.{leaving, read_by, ServesLinks}
-use Rattle.orb_server.specs.Threads.{WorkedOff}
+use Rattle.orb_server.specs.Threads.{AreDone, WorkedOff}
+use Rattle.orb_server.specs.declared.job.SlotDone.{SlotDone}
 use Rattle.orb_server.specs.declared.run.ConnLog.{ConnLog}
 use Rattle.orb_server.specs.declared.run.SlotEnd.{SlotEnd}
 
@@ -59,6 +61,12 @@ module _ {A I O : Type 0} (state : A → AcceptorState I O) (source : I → Sour
     pub conns_are : conns ≡ flat_map (λ (s : Slot A I O). s.conns) slots
     pub ends_are : ends ≡ map (λ (s : Slot A I O). s.end) slots
     pub ran : SlotsRan 0 slots
+
+-- so it is with any acceptors with which the slots left this
+abbrev pub SlotsRanOver : {A I O : Type 0} → (A → AcceptorState I O) → (I → SourceState) → (O → SinkState) → SetupData → CellView State → History
+    → List (SlotDone A I O) → List A → List (ConnLog I O) → List SlotEnd → Type 0
+SlotsRanOver {A} state source sink setup cell h done behind conns ends =
+    (before : List A) → AreDone state source sink setup cell 0 before done → AllSlotsRan state source sink setup h before behind conns ends
 
 -- the entries of each worker's number are its tasks, each carried out as the servants do, and at last that all has ended
 abbrev pub WorkersRan : SetupData → (List ℕ → JobRecord → Outcome) → History → Type 0

@@ -2,7 +2,7 @@
 ghost use Rattle.std.specs.Prelude.{◌≡◌, ◌+◌, ◌*◌, ◌≤◌, [], length, IfOk};
 ghost use Rattle.std.specs.Vec.{vec_capacity};
 ghost use Rattle.thread_borrowing.specs.ThreadList.{pool_threads};
-ghost use Rattle.lane_machine.specs.State.{CanOpen};
+ghost use Rattle.orb_base.specs.Pool.{IsWellFormed};
 ghost use Rattle.lane_pool.specs.Passes.{MainAt, IsOpen};
 ghost use Rattle.lane_pool.specs.Turns.{AllRest, AllIdle};
 ghost use Rattle.orb_server.specs.Threads.{IsPoolOf, AreResting, AreStarts, AreJobs, acceptors_of, AreIdle};
@@ -24,6 +24,17 @@ pub struct Prepared<A, I, O> {
     pub jobs: Vec<SlotJob<A, I, O>>,
     pub done: Vec<SlotDone<A, I, O>>,
     pub parts: Parts<A, I, O>,
+}
+
+/// Opens the setup's pool.
+#[tactic(auto, using(crate::proofs::Starting::can_open))]
+fn open_pool(alloc: Global, setup: &Setup) -> Result<Opened, NoMemory>
+    ensures opened { IfOk result (λ o. IsOpen setup.now.pool setup.now.slots setup.now.per_slot o.pool.cell o.root o.slots.items o.workers.items) }
+    ensures slots { IfOk result (λ o. AllRest o.pool.cell 0 o.slots.items) }
+    ensures workers { IfOk result (λ o. AllIdle o.pool.cell 0 o.workers.items) }
+    ensures well_formed { IsWellFormed setup.now.pool }
+{
+    open(alloc, setup.pool(), setup.slots(), setup.per_slot())
 }
 
 /// Takes room for what the connections of each slot leave, and puts it beside the slot's pass.
@@ -109,15 +120,14 @@ pub fn prepare<A: Drop, I: Drop, O: Drop>(
     ensures room { IfOk result (λ p. (setup.now.slots ≤ vec_capacity p.parts.passes) × (setup.now.slots ≤ vec_capacity p.parts.acceptors)
         × (setup.now.slots * setup.now.per_slot ≤ vec_capacity p.parts.conns) × (setup.now.slots ≤ vec_capacity p.parts.ends)) }
 {
-    let slots = setup.slots();
-    let count = usize::from(slots);
+    let count = usize::from(setup.slots());
     let conns = count * usize::from(setup.per_slot());
     let Opened {
         pool,
         root,
         slots: passes,
         workers,
-    } = open(alloc, setup.pool(), slots, setup.per_slot())?;
+    } = open_pool(alloc, setup)?;
     let Ok(none) = Vec::with_capacity(alloc, count) else {
         return Err(NoMemory);
     };

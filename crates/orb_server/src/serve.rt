@@ -1,13 +1,13 @@
 //! A run of the server.
-ghost use Rattle.std.specs.Prelude.{◌≡◌, ◌+◌, ◌*◌, ◌≤◌, [], length, List, IfOk, OnErr};
+ghost use Rattle.std.specs.Prelude.{◌≡◌, ◌+◌, ◌*◌, ◌≤◌, [], length, IfOk, OnErr};
 ghost use Rattle.std.specs.Vec.{vec_capacity};
 ghost use Rattle.thread_borrowing.specs.ThreadList.{pool_threads};
 ghost use Rattle.lane_pool.specs.Passes.{MainAt};
 ghost use Rattle.lane_pool.specs.Returned.{AllHome};
-ghost use Rattle.orb_server.specs.Threads.{IsPoolOf, AreStarts, AreIdle, AreDone, HaveWorked};
+ghost use Rattle.orb_server.specs.Threads.{IsPoolOf, AreStarts, AreIdle, HaveWorked};
 ghost use Rattle.orb_server.specs.Giving.{passes_of, conns_of};
 ghost use Rattle.orb_server.specs.Fates.{RunsOnce, RunsInLanes, RunsAdmitted};
-ghost use Rattle.orb_server.specs.Runs.{opening_of, IsLawful, AllSlotsRan, WorkersRan};
+ghost use Rattle.orb_server.specs.Runs.{opening_of, IsLawful, AllSlotsRan, SlotsRanOver, WorkersRan};
 
 use crate::give::{Parts, take_apart};
 use crate::prepare::{Prepared, give_acceptors, prepare};
@@ -40,9 +40,8 @@ fn close_run<A: Acceptor + Drop, S: Serving>(
     requires room { (setup.now.slots ≤ vec_capacity none.passes) × (setup.now.slots ≤ vec_capacity none.acceptors)
         × (length (conns_of staff.slots.items) ≤ vec_capacity none.conns) × (setup.now.slots ≤ vec_capacity none.ends) }
     ensures lawful { IsLawful setup.now result.0.history.items }
-    ensures slots { (before : List A) → AreDone A.state A.In.state A.Out.state setup.now pool.cell 0 before staff.slots.items
-        → AllSlotsRan A.state A.In.state A.Out.state setup.now result.0.history.items before result.1.items result.0.conns.items
-            result.0.slots.items }
+    ensures slots { SlotsRanOver A.state A.In.state A.Out.state setup.now pool.cell result.0.history.items staff.slots.items result.1.items
+        result.0.conns.items result.0.slots.items }
     ensures workers { WorkersRan setup.now (S.outcome servants.now) result.0.history.items }
     ensures once { RunsOnce (opening_of setup.now) result.0.history.items }
     ensures lanes { RunsInLanes (opening_of setup.now) result.0.history.items }
