@@ -199,7 +199,7 @@ admitted_from before s (e ∷ es) k l =
     , admitted_from (before ++ e ∷ []) (step s e.call).0 es
       (step_known (WasAdmitted (before ++ e ∷ [])) s e.call (known_more before e s k) (offers_admits (WasAdmitted (before ++ e ∷ [])) e.call (step s e.call).1 new)) l.3)
 
-none_waits : (k : ℕ) (job : Job) → slice_get {A = Job} [] k ≡ Some job → ⊥
+none_waits : (k : ℕ) (job : Job) → slice_get {X = Job} [] k ≡ Some job → ⊥
 none_waits k job g = none-some job g
 
 pub runs_admitted : (pool : Pool) (slots per_slot : ℕ) (h : History) → IsLegal (opening pool slots per_slot) h → RunsAdmitted [] h

@@ -73,7 +73,10 @@ said_of cell end writer writer' from to n u w =
 
 writers_grow : {I O : Type 0} (slot nth : ℕ) (cs : List (Conn I O)) (c : Conn I O)
     → writers_left slot nth (cs ++ c ∷ []) ≡ writers_left slot nth cs ++ (record { number = writer_seat (conn_at slot (nth + length cs)); calls = c.written; splits = 0 } ∷ [])
-writers_grow slot nth [] c = let e : nth ≡ nth + 0 = omega arith in ap (λ (k : ℕ). ◌∷◌ {A = Leaving} (record { number = writer_seat (conn_at slot k); calls = c.written; splits = 0 }) []) e
+writers_grow slot nth [] c =
+    let e : nth ≡ nth + 0 = omega arith in
+    let mark : ℕ → Leaving = λ k. record { number = writer_seat (conn_at slot k); calls = c.written; splits = 0 } in
+    ap (λ (k : ℕ). mark k ∷ []) e
 writers_grow slot nth (x ∷ xs) c =
     let e : nth + 1 + length xs ≡ nth + length (x ∷ xs) = omega arith in
     ap (λ (z : List Leaving). record { number = writer_seat (conn_at slot nth); calls = x.written; splits = 0 } ∷ z)

@@ -57,6 +57,10 @@ module _ {I O : Type 0} (setup : SetupData) (cell : CellView State) where
       let h : k ≡ 0 + length ss = omega arith in
       grow 0 ss s a (subst (λ (j : ℕ). IsStart setup cell j s) h (record { rests = r; fresh = f; empty = n; room = m }))
 
+  pub starts_more : (k : ℕ) (ss all : List (SlotStart I O)) (s : SlotStart I O) → AreStarts setup cell 0 ss → length ss ≡ k → Rests cell s.pass → IsFresh cell (1 + k) k s.pass → s.logs.items ≡ []
+      → setup.per_slot ≤ vec_capacity s.logs → all ≡ ss ++ s ∷ [] → AreStarts setup cell 0 all
+  starts_more k ss all s a e r f n m is = subst (AreStarts setup cell 0) (sym is) (starts_grow k ss s a e r f n m)
+
   cut_starts : (slot : ℕ) (xs : List (SlotStart I O)) (x : SlotStart I O) → AreStarts setup cell slot (xs ++ x ∷ []) → AreStarts setup cell slot xs × IsStart setup cell (slot + length xs) x
   cut_starts slot [] x a = (tt, subst (λ (k : ℕ). IsStart setup cell k x) (omega arith) a.0)
   cut_starts slot (y ∷ ys) x a = let r = cut_starts (slot + 1) ys x a.1 in ((a.0, r.0), subst (λ (k : ℕ). IsStart setup cell k x) (omega arith) r.1)
@@ -80,6 +84,10 @@ module _ {A I O : Type 0} (setup : SetupData) (cell : CellView State) where
       let h : k ≡ 0 + length js = omega arith in
       let job : SlotJob A I O = record { pass = s.pass; acceptor = a; logs = s.logs } in
       grow_jobs 0 js job js_are (subst (λ (j : ℕ). IsJob setup cell j job) h (record { rests = i.rests; fresh = i.fresh; empty = i.empty; room = i.room }))
+
+  pub jobs_more : (k : ℕ) (js all : List (SlotJob A I O)) (a : A) (s : SlotStart I O) → AreJobs setup cell 0 js → length js ≡ k → IsStart setup cell k s → all ≡ js ++ record { pass = s.pass; acceptor = a; logs = s.logs } ∷ []
+      → AreJobs setup cell 0 all
+  jobs_more k js all a s are e i is = subst (AreJobs setup cell 0) (sym is) (jobs_grow k js a s are e i)
 
 pub same_lengths : {X Y : Type 0} (all xs : List X) (x : X) (every ys : List Y) (y : Y) → all ≡ xs ++ x ∷ [] → every ≡ ys ++ y ∷ [] → length all ≡ length every → length xs ≡ length ys
 same_lengths all xs x every ys y e f n =

@@ -15,7 +15,7 @@ use std::thread;
 use std::thread::Threads;
 
 /// The last slot in a thread of its own, or last where none can be made, and the others from here.
-#[tactic(auto, using(crate::proofs::Forking::job_own, crate::proofs::Forking::done_grows))]
+#[tactic(auto, using(crate::proofs::Forking::done_grows))]
 #[cycle(slots)]
 fn with_rest<A: Acceptor + Send + Drop, R: Wait + Threads + Sync>(
     rt: &R,
@@ -26,7 +26,8 @@ fn with_rest<A: Acceptor + Send + Drop, R: Wait + Threads + Sync>(
     jobs: Vec<SlotJob<A, A::In, A::Out>>,
     done: Vec<SlotDone<A, A::In, A::Out>>,
 ) -> Vec<SlotDone<A, A::In, A::Out>>
-    requires job { IsJob setup.now pool.now.cell (length jobs.items) job }
+    requires job { IsJob setup.now pool.now.cell job.pass.who job }
+    requires at { job.pass.who ≡ length jobs.items }
     requires jobs { AreJobs setup.now pool.now.cell 0 jobs.items }
     requires opened { IsPoolOf setup.now pool.now.cell }
     requires room { (done.items ≡ []) × (length jobs.items + 1 ≤ vec_capacity done) }

@@ -1,4 +1,5 @@
-use Rattle.std.proofs.Common.{◌≡◌, ◌+◌, ◌++◌, length, length-map, ap, sym, ◌∙◌, refl}
+use Rattle.std.proofs.Common.{◌≡◌, ◌+◌, ◌++◌, length, ap, sym, ◌∙◌, refl}
+use Rattle.std.proofs.lemmas.List.{length-map}
 use Rattle.thread_borrowing.specs.ThreadList.{pool_threads}
 use Rattle.orb_server.specs.Giving.{passes_of}
 use Rattle.orb_server.proofs.Closing.{closing_in, closing_back, lawful, all_slots, all_workers, all_alone, runs_once, own_lanes, own_admitted, left_as}
