@@ -1,0 +1,33 @@
+//! The running server: each slot serves the links of its acceptor, one after another, and each link's two sides, and each worker of the
+//! pool, have a thread of their own where one can be made. All call one lane machine, and what a run leaves is told of its one history.
+//! Own profile, over CORBA 3.0.3, section 15.4, and Real-time CORBA 1.2, Threadpools.
+//!
+//! Threads are started by `std::thread::join` alone, two closures at a time: first the workers, one inside another, then the slots, and in
+//! each slot the writing side beside the reading side. A thread that can't be made has its part done behind the others'; nothing is said of
+//! progress then, and a slot may wait for ever for a worker that hasn't begun. All memory of a run but that of its reading sides and of its
+//! requests is taken before the first thread.
+//!
+//! | What `serve_run` promises | Clause |
+//! |---|---|
+//! | All calls are one legal history, in which each call was fit for its caller | `lawful` |
+//! | Each connection's calls are what its bytes mean, and its output is what the history says; each slot's end has its cause | `slots` |
+//! | Each worker carried out its tasks as the servants do | `workers` |
+//! | Each admitted request was finished or withdrawn, once | `once` |
+//! | A thread takes only what was admitted, of its lane or lent from a lower one | `lanes`, `admitted` |
+#![tactic(auto)]
+
+mod fork;
+mod give;
+mod job;
+mod link;
+mod prepare;
+mod run;
+mod serve;
+mod slot;
+mod staff;
+
+pub use run::{ConnLog, Run, SlotEnd};
+pub use serve::serve_run;
+
+#[cfg(test)]
+mod tests;
