@@ -1,5 +1,5 @@
 -- What waits and what a thread has in hand was admitted.
-use Rattle.std.proofs.Common.{◌≡◌, ℕ, ◌+◌, Bool, true, false, List, [], ◌∷◌, ◌++◌, Option, Some, None, inl, inr, ◌⊎◌, refl, sym, ap, subst, ◌∙◌}
+use Rattle.std.proofs.Common.{◌≡◌, ℕ, Bool, true, false, List, [], ◌∷◌, ◌++◌, Option, Some, None, inl, inr, refl, sym, ap, subst, ◌∙◌}
 use Rattle.std.specs.Prelude.{slice_get, slice_set, remove, position}
 use Rattle.std.proofs.lemmas.Option.{none-some, same_Some}
 use Rattle.orb_base.specs.Pool.{Pool}
@@ -194,10 +194,11 @@ known_more before e s k = ((λ i job g. admitted_before before e job (k.0 i job 
 admitted_from : (before : History) (s : State) (h : History) → AreKnown (WasAdmitted before) s → IsLegal s h → RunsAdmitted before h
 admitted_from before s [] k l = tt
 admitted_from before s (e ∷ es) k l =
-    let new : (j : Job) → Admits e.call (step s e.call).1 j → WasAdmitted (before ++ e ∷ []) j = λ j a. admitted_last before e j (subst (λ (r : LaneReply). Admits e.call r j) (sym l.2) a) in
-    ( takes_admitted before s e.call e.reply k l.2
-    , admitted_from (before ++ e ∷ []) (step s e.call).0 es
-      (step_known (WasAdmitted (before ++ e ∷ [])) s e.call (known_more before e s k) (offers_admits (WasAdmitted (before ++ e ∷ [])) e.call (step s e.call).1 new)) l.3)
+    let new : (j : Job) → Admits e.call (step s e.call).1 j → WasAdmitted (before ++ e ∷ []) j = λ j a. admitted_last before e j (subst (λ (r : LaneReply). Admits e.call r j) (sym l.2) a) in (
+      takes_admitted before s e.call e.reply k l.2,
+      admitted_from (before ++ e ∷ []) (step s e.call).0 es
+          (step_known (WasAdmitted (before ++ e ∷ [])) s e.call (known_more before e s k) (offers_admits (WasAdmitted (before ++ e ∷ [])) e.call (step s e.call).1 new)) l.3,
+    )
 
 none_waits : (k : ℕ) (job : Job) → slice_get {X = Job} [] k ≡ Some job → ⊥
 none_waits k job g = none-some job g

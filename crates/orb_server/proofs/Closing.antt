@@ -1,5 +1,5 @@
 -- All passes came back, and the one history says what each did.
-use Rattle.std.proofs.Common.{◌≡◌, ℕ, zero, suc, ◌+◌, ◌*◌, ◌<◌, ◌≤◌, Bool, List, [], ◌∷◌, ◌++◌, length, map, Option, Some, None, refl, sym, ap, subst, ◌∙◌, append-nil, arith}
+use Rattle.std.proofs.Common.{◌≡◌, ℕ, zero, suc, ◌+◌, ◌*◌, ◌<◌, ◌≤◌, Bool, List, [], ◌∷◌, ◌++◌, length, map, Some, None, refl, sym, ap, subst, ◌∙◌, arith}
 use Rattle.std.specs.List.{flat_map}
 use Rattle.std.proofs.lemmas.List.{length-append}
 use Rattle.orb_base.specs.JobRecord.{JobRecord}
@@ -8,10 +8,9 @@ use Rattle.orb_base.specs.Outside.{SourceState, SinkState}
 use Rattle.orb_base.specs.declared.conn_id.ConnId.{ConnId}
 use Rattle.orb_base.specs.declared.outcome.Outcome.{Outcome}
 use Rattle.thread_borrowing.specs.ThreadList.{pool_threads}
-use Rattle.turn_cell.specs.Calls.{gone}
 use Rattle.turn_cell.specs.Numbers.{Each}
 use Rattle.turn_cell.specs.Seats.{CellView}
-use Rattle.lane_machine.specs.Callers.{of, latest, slot_seat, worker_seat, AreFit}
+use Rattle.lane_machine.specs.Callers.{of, latest, worker_seat, AreFit}
 use Rattle.lane_machine.specs.Entries.{latest_push}
 use Rattle.lane_machine.specs.Fates.{admitted, taken, finished, removed, waiting_of, given_of, busy_of}
 use Rattle.lane_machine.specs.Histories.{History, IsLegal, replay}
@@ -27,9 +26,9 @@ use Rattle.lane_pool.proofs.Returned.{all_back, home_in, alone_in}
 use Rattle.orb_server.specs.Connections.{Conn, AreWritten, writers_left}
 use Rattle.orb_server.specs.Fates.{RunsOnce, RunsInLanes, RunsAdmitted}
 use Rattle.orb_server.specs.Giving.{passes_of, given_back, conns_of, ends_of}
-use Rattle.orb_server.specs.Runs.{opening_of, IsLawful, Slot, SlotRan, SlotsRan, AllSlotsRan, WorkersRan}
+use Rattle.orb_server.specs.Runs.{opening_of, IsLawful, Slot, SlotsRan, AllSlotsRan, WorkersRan}
 use Rattle.orb_server.specs.SlotEnds.{HasCause}
-use Rattle.orb_server.specs.Threads.{IsPoolOf, AreDone, HasWorked, HaveWorked, WorkedOff}
+use Rattle.orb_server.specs.Threads.{IsPoolOf, AreDone, HaveWorked, WorkedOff}
 use Rattle.orb_server.proofs.Admitting.{runs_admitted}
 use Rattle.orb_server.proofs.Lanes.{runs_in_lanes}
 use Rattle.orb_server.specs.declared.job.SlotDone.{SlotDone}
@@ -118,14 +117,16 @@ module _ {A I O : Type 0} (state : A → AcceptorState I O) (source : I → Sour
   slots_ran h slot [] (d ∷ ds) a o = absurd a
   slots_ran h slot (x ∷ xs) [] a o = absurd a
   slots_ran h slot (x ∷ xs) (d ∷ ds) a o =
-      let parts = each_cut h d.pass.seat.ended (left_by (passes_of ds)) o.1 in
-      (record {
-        cs = a.0.cs;
-        serves = a.0.serves;
-        read = ap (λ (n : ℕ). of n h) (sym a.0.knows.home.number) ∙ (sym o.0 ∙ a.0.knows.read);
-        written = written_of h slot 0 a.0.cs (subst (Each (Own h)) a.0.knows.written parts.0);
-        cause = a.0.cause;
-      }, slots_ran h (slot + 1) xs ds a.1 parts.1)
+      let parts = each_cut h d.pass.seat.ended (left_by (passes_of ds)) o.1 in (
+        record {
+          cs = a.0.cs;
+          serves = a.0.serves;
+          read = ap (λ (n : ℕ). of n h) (sym a.0.knows.home.number) ∙ (sym o.0 ∙ a.0.knows.read);
+          written = written_of h slot 0 a.0.cs (subst (Each (Own h)) a.0.knows.written parts.0);
+          cause = a.0.cause;
+        },
+        slots_ran h (slot + 1) xs ds a.1 parts.1,
+      )
 
   pub all_slots : (h : History) (ws : List Pass) (left : List Leaving) (before behind : List A) (ds : List (SlotDone A I O)) (conns : List (ConnLog I O)) (ends : List SlotEnd)
       → Each (Own h) left → left ≡ left_by (passes_of ds) ++ left_by ws → AreDone state source sink setup cell 0 before ds → length ds ≡ setup.slots
@@ -180,7 +181,7 @@ ended_last setup outcome h w t l = let k = w t l in ap (latest None) k.parts ∙
 pub runs_once : (setup : SetupData) (outcome : List ℕ → JobRecord → Outcome) (cell : CellView State) (root : Sitting) (left : List Leaving) (h : History) → IsPoolOf setup cell → IsHistory cell root left h → WorkersRan setup outcome h
     → ((s : State) (h : History) → Opens s → IsLegal s h → AreFit s h → ((t : ℕ) → t < length s.threads → latest None (of (worker_seat s.slots t) h) ≡ Some Ended) → (conn : ConnId) (serial : ℕ) → finished conn serial h + removed conn serial s h ≡ admitted conn serial h)
     → ((conn : ConnId) (serial : ℕ) (s : State) (h : History) → Opens s → IsLegal s h
-      → waiting_of conn serial (replay s h) + given_of conn serial (replay s h) + busy_of conn serial (replay s h) + finished conn serial h + removed conn serial s h ≡ admitted conn serial h)
+    → waiting_of conn serial (replay s h) + given_of conn serial (replay s h) + busy_of conn serial (replay s h) + finished conn serial h + removed conn serial s h ≡ admitted conn serial h)
     → ((conn : ConnId) (serial : ℕ) (s : State) (h : History) → Opens s → IsLegal s h → busy_of conn serial (replay s h) + finished conn serial h ≡ taken conn serial h)
     → ((conn : ConnId) (serial : ℕ) (s : State) (h : History) → Opens s → IsLegal s h → AreFit s h → admitted conn serial h ≤ 1)
     → RunsOnce (opening_of setup) h

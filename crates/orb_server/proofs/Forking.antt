@@ -1,12 +1,11 @@
 -- Slots in a row, from the last one on.
-use Rattle.std.proofs.Common.{◌≡◌, ℕ, ◌+◌, List, [], ◌∷◌, ◌++◌, length, map, refl, sym, ap, subst, ◌∙◌, arith}
+use Rattle.std.proofs.Common.{◌≡◌, ℕ, ◌+◌, List, [], ◌∷◌, ◌++◌, length, sym, ap, subst, ◌∙◌, arith}
 use Rattle.std.proofs.lemmas.List.{map-append, length-map}
 use Rattle.orb_base.specs.Links.{AcceptorState}
 use Rattle.orb_base.specs.Outside.{SourceState, SinkState}
 use Rattle.turn_cell.specs.Seats.{CellView}
 use Rattle.lane_machine.specs.State.{State}
 use Rattle.adapter_policies.specs.SetupData.{SetupData}
-use Rattle.lane_pool.specs.Passes.{IsFresh}
 use Rattle.orb_server.specs.Threads.{IsJob, AreJobs, acceptors_of, IsDone, AreDone}
 use Rattle.orb_server.specs.declared.job.SlotJob.{SlotJob}
 use Rattle.orb_server.specs.declared.job.SlotDone.{SlotDone}

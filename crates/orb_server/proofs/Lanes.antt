@@ -1,5 +1,5 @@
 -- Each thread runs requests of its lane, or is lent to a higher one.
-use Rattle.std.proofs.Common.{◌≡◌, ℕ, zero, suc, ◌+◌, Bool, true, false, ◌&&◌, List, [], ◌∷◌, ◌++◌, Option, Some, None, inl, inr, ◌⊎◌, refl, sym, ap, subst, ◌∙◌, arith}
+use Rattle.std.proofs.Common.{◌≡◌, ℕ, zero, suc, ◌+◌, Bool, true, false, List, [], ◌∷◌, ◌++◌, Option, Some, None, inl, inr, ◌⊎◌, refl, sym, ap, subst, ◌∙◌}
 use Rattle.std.specs.Prelude.{slice_get, slice_set}
 use Rattle.std.proofs.lemmas.Bool.{and_parts}
 use Rattle.std.proofs.lemmas.Option.{none-some, same_Some}
@@ -9,12 +9,11 @@ use Rattle.orb_base.specs.declared.lane_spec.LaneSpec.{LaneSpec}
 use Rattle.thread_borrowing.specs.declared.doing.Doing.{Doing}
 use Rattle.thread_borrowing.specs.declared.doing.Doing.TheVariants.{Free, Given, Busy}
 use Rattle.thread_borrowing.specs.ThreadList.{Thread, some_threads, pool_threads, is_free, job_of, doing, given}
-use Rattle.thread_borrowing.specs.Choice.{may_run, can_start, chosen_thread}
+use Rattle.thread_borrowing.specs.Choice.{may_run}
 use Rattle.thread_borrowing.proofs.Chosen.{chosen_is}
 use Rattle.thread_borrowing.proofs.Places.{set_cases}
-use Rattle.request_buffer.specs.Next.{next_job}
 use Rattle.request_buffer.proofs.NextJobs.{next_is}
-use Rattle.lane_machine.specs.State.{State, Opens, opening}
+use Rattle.lane_machine.specs.State.{State, opening}
 use Rattle.lane_machine.specs.Machine.{step, taken, begun}
 use Rattle.lane_machine.specs.Changes.{Change, changes}
 use Rattle.lane_machine.specs.Changes.Change.{same, starts, keeps, drops, begins, frees, passes}

@@ -1,7 +1,6 @@
 -- One connection of a slot behind another.
-use Rattle.std.proofs.Common.{◌≡◌, ℕ, zero, suc, ◌+◌, ◌<◌, ◌≤◌, Bool, true, false, List, [], ◌∷◌, ◌++◌, length, map, Option, Some, None, refl, sym, ap, subst, ◌∙◌, append_assoc, append-nil, arith}
+use Rattle.std.proofs.Common.{◌≡◌, ℕ, ◌+◌, ◌<◌, Bool, true, false, List, [], ◌∷◌, ◌++◌, length, Option, Some, None, refl, sym, ap, subst, ◌∙◌, append_assoc, append-nil, arith}
 use Rattle.std.specs.Prelude.{IfSome, option_map}
-use Rattle.std.specs.List.{flat_map}
 use Rattle.std.proofs.lemmas.List.{map-append, length-append, length-map}
 use Rattle.std.proofs.lemmas.List.Concat.{flat_map-append}
 use Rattle.orb_base.specs.Links.{AcceptorState, Accepts, CountsAcceptFault, CountsDone}
@@ -13,7 +12,6 @@ use Rattle.turn_cell.specs.Seats.{CellView}
 use Rattle.lane_machine.specs.State.{State}
 use Rattle.lane_machine.specs.Callers.{slot_seat, writer_seat}
 use Rattle.lane_machine.specs.Histories.{History}
-use Rattle.lane_machine.specs.declared.call.How.{How}
 use Rattle.lane_machine.specs.declared.call.LaneCall.TheVariants.{Collect, End, Leave}
 use Rattle.lane_machine.specs.declared.call.LaneReply.TheVariants.{Noted}
 use Rattle.adapter_policies.specs.SetupData.{SetupData}
@@ -24,12 +22,12 @@ use Rattle.conn_sides.specs.declared.read_side_end.ReadSideEnd.{ReadSideEnd}
 use Rattle.conn_sides.specs.declared.write_end.WriteEnd.{WriteEnd}
 use Rattle.lane_pool.specs.Pass.{Pass, Leaving, conn_of}
 use Rattle.lane_pool.specs.Passes.{IsLinked, IsUnlinked, Makes, IsFresh}
-use Rattle.lane_pool.specs.Returned.{IsSame, IsHome}
-use Rattle.lane_pool.specs.Turns.{Listens, Writes, Rests}
+use Rattle.lane_pool.specs.Returned.{IsHome}
+use Rattle.lane_pool.specs.Turns.{Writes, Rests}
 use Rattle.lane_pool.proofs.Staying.{fresh_home, home_linked, home_same, same_leave}
 use Rattle.orb_server.specs.Connections.{Conn, IsHeard, IsSaid, IsServed, AreServed, conn_at, writers_left}
-use Rattle.orb_server.specs.SlotEnds.{closed_behind, was_closed, HasCause}
-use Rattle.orb_server.specs.Slots.{leaving, read_by, logs_of, links_of, HandsOut, ServesLinks, KnowsCalls, GoesOn, ComesOut, ServesOne}
+use Rattle.orb_server.specs.SlotEnds.{closed_behind, was_closed}
+use Rattle.orb_server.specs.Slots.{leaving, read_by, logs_of, links_of, ServesLinks, KnowsCalls, GoesOn, ComesOut, ServesOne}
 use Rattle.orb_server.specs.Threads.{IsPoolOf}
 use Rattle.orb_server.specs.declared.run.ConnLog.{ConnLog}
 use Rattle.orb_server.specs.declared.run.SlotEnd.{SlotEnd}
@@ -146,22 +144,23 @@ module _ {I O : Type 0} (source : I → SourceState) (sink : O → SinkState) (s
       let nth : pass.nth ≡ 0 + length g.cs = (let c = g.count in omega arith) in
       let id : conn_of pass ≡ conn_at slot (0 + length g.cs) = λ k. record { slot = who k; nth = nth k } in
       let mark : ConnId → Leaving = λ c. record { number = writer_seat c; calls = s.one.written; splits = 0 } in
-      let all : pass.seat.ended ++ mark (conn_of pass) ∷ [] ≡ writers_left slot 0 g.cs ++ mark (conn_at slot (0 + length g.cs)) ∷ [] = λ k. g.knows.written k ++ mark (id k) ∷ [] in
-      ( record {
-        logs_are = ap (λ (z : List (ConnLog I O)). z ++ log ∷ []) g.serves.logs_are
-            ∙ (ap (λ (z : ConnLog I O). logs_of g.cs ++ z ∷ []) (sym s.log_is) ∙ sym (map-append (λ (c : Conn I O). c.log) g.cs (s.one ∷ [])));
-        served = served_grows slot 0 g.cs s.one g.serves.served (subst (λ (c : ConnId). IsServed source sink setup c s.one) id s.served);
-        links = subst (λ (z : List (I × O)). old.links ≡ option_map (λ rest. z ++ rest) acc'.links)
-            (ap (λ (z : I × O). links_of g.cs ++ z ∷ []) (sym s.link_is) ∙ sym (map-append (λ (c : Conn I O). c.link) g.cs (s.one ∷ [])))
-            (hands_one (links_of g.cs) (i, o) old.links acc.links acc'.links g.serves.links a);
-      }
-      , record {
-        home = subst (λ (k : ℕ). IsHome cell k pass') (s.who_is ∙ who) s.home;
-        read = s.read ∙ (ap (λ (z : History). z ++ s.one.read) (g.knows.read ∙ append-nil (read_by g.cs))
-            ∙ (ap (λ (z : History). read_by g.cs ++ z) (sym (append-nil s.one.read))
-            ∙ (sym (flat_map-append (λ (c : Conn I O). c.read) g.cs (s.one ∷ [])) ∙ sym (append-nil (read_by (g.cs ++ s.one ∷ []))))));
-        written = s.written ∙ (all ∙ sym (writers_grow slot 0 g.cs s.one));
-      })
+      let all : pass.seat.ended ++ mark (conn_of pass) ∷ [] ≡ writers_left slot 0 g.cs ++ mark (conn_at slot (0 + length g.cs)) ∷ [] = λ k. g.knows.written k ++ mark (id k) ∷ [] in (
+        record {
+          logs_are = ap (λ (z : List (ConnLog I O)). z ++ log ∷ []) g.serves.logs_are
+              ∙ (ap (λ (z : ConnLog I O). logs_of g.cs ++ z ∷ []) (sym s.log_is) ∙ sym (map-append (λ (c : Conn I O). c.log) g.cs (s.one ∷ [])));
+          served = served_grows slot 0 g.cs s.one g.serves.served (subst (λ (c : ConnId). IsServed source sink setup c s.one) id s.served);
+          links = subst (λ (z : List (I × O)). old.links ≡ option_map (λ rest. z ++ rest) acc'.links)
+              (ap (λ (z : I × O). links_of g.cs ++ z ∷ []) (sym s.link_is) ∙ sym (map-append (λ (c : Conn I O). c.link) g.cs (s.one ∷ [])))
+              (hands_one (links_of g.cs) (i, o) old.links acc.links acc'.links g.serves.links a);
+        },
+        record {
+          home = subst (λ (k : ℕ). IsHome cell k pass') (s.who_is ∙ who) s.home;
+          read = s.read ∙ (ap (λ (z : History). z ++ s.one.read) (g.knows.read ∙ append-nil (read_by g.cs))
+              ∙ (ap (λ (z : History). read_by g.cs ++ z) (sym (append-nil s.one.read))
+              ∙ (sym (flat_map-append (λ (c : Conn I O). c.read) g.cs (s.one ∷ [])) ∙ sym (append-nil (read_by (g.cs ++ s.one ∷ []))))));
+          written = s.written ∙ (all ∙ sym (writers_grow slot 0 g.cs s.one));
+        },
+      )
 
   pub goes_first : (slot : ℕ) (old : AcceptorState I O) (pass : Pass) (logs : List (ConnLog I O)) → IsFresh cell (1 + slot) slot pass → logs ≡ [] → GoesOn source sink setup cell slot old pass old logs
   goes_first slot old pass logs f e = subst (GoesOn source sink setup cell slot old pass old) (sym e) (record {

@@ -9,7 +9,6 @@ use Rattle.lane_machine.specs.declared.call.LaneReply.TheVariants.{Ended}
 use Rattle.adapter_policies.specs.SetupData.{SetupData}
 use Rattle.pipe_laws.specs.Lacking.{served}
 use Rattle.lane_pool.specs.Pass.{Pass}
-use Rattle.lane_pool.specs.Passes.{IsFresh}
 use Rattle.lane_pool.proofs.Staying.{fresh_alone, alone_same}
 use Rattle.conn_sides.specs.Working.{WorksOut, take_entry}
 use Rattle.orb_server.specs.Threads.{IsIdle, AreIdle, HasWorked, HaveWorked}

@@ -1,15 +1,14 @@
 -- What slots begin with, from the last one on.
-use Rattle.std.proofs.Common.{◌≡◌, ℕ, ◌+◌, ◌≤◌, List, [], ◌∷◌, ◌++◌, length, refl, sym, ap, subst, ◌∙◌, arith, vec_capacity}
+use Rattle.std.proofs.Common.{◌≡◌, ℕ, ◌+◌, ◌≤◌, List, [], ◌∷◌, ◌++◌, length, sym, ap, subst, ◌∙◌, arith, vec_capacity}
 use Rattle.std.proofs.lemmas.List.{length-append, map-append}
 use Rattle.orb_base.specs.Pool.{Pool, IsWellFormed, HasSlots}
-use Rattle.thread_borrowing.specs.ThreadList.{pool_threads}
 use Rattle.turn_cell.specs.Seats.{CellView}
-use Rattle.lane_machine.specs.State.{State, CanOpen, opening}
+use Rattle.lane_machine.specs.State.{State, CanOpen}
 use Rattle.adapter_policies.specs.SetupData.{SetupData}
 use Rattle.lane_pool.specs.Pass.{Pass, Sitting}
 use Rattle.lane_pool.specs.Passes.{IsFresh, AreFrom, IsOpen}
 use Rattle.lane_pool.specs.Turns.{Rests, AllRest, AllIdle}
-use Rattle.orb_server.specs.Threads.{IsPoolOf, AreResting, IsStart, AreStarts, IsJob, AreJobs, acceptors_of, IsIdle, AreIdle}
+use Rattle.orb_server.specs.Threads.{IsPoolOf, AreResting, IsStart, AreStarts, IsJob, AreJobs, acceptors_of, AreIdle}
 use Rattle.orb_server.specs.declared.job.SlotJob.{SlotJob}
 use Rattle.orb_server.specs.declared.job.SlotStart.{SlotStart}
 

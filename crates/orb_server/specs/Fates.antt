@@ -1,5 +1,5 @@
 -- What becomes of the requests of a run: Real-time CORBA 1.2, Threadpools.
-use Rattle.std.specs.Prelude.{◌≡◌, ◌≤◌, ◌+◌, ◌⊎◌, ℕ, true, List, [], ◌∷◌, ◌++◌, Some, slice_get}
+use Rattle.std.specs.Prelude.{◌≡◌, ◌≤◌, ◌+◌, ◌⊎◌, ℕ, true, [], ◌∷◌, ◌++◌, Some, slice_get}
 use Rattle.orb_base.specs.declared.conn_id.ConnId.{ConnId}
 use Rattle.orb_base.specs.declared.job.Job.{Job}
 use Rattle.thread_borrowing.specs.ThreadList.{Thread}

@@ -1,6 +1,6 @@
 -- What the one history of a run says of its connections, workers and requests: own profile, over CORBA 3.0.3, section 15.4, and
 -- Real-time CORBA 1.2, Threadpools.
-use Rattle.std.specs.Prelude.{◌≡◌, ◌<◌, ◌+◌, ℕ, Bool, false, List, [], ◌∷◌, ◌++◌, length, map}
+use Rattle.std.specs.Prelude.{◌≡◌, ◌<◌, ◌+◌, ℕ, false, List, [], ◌∷◌, ◌++◌, length, map}
 use Rattle.std.specs.List.{flat_map}
 use Rattle.orb_base.specs.JobRecord.{JobRecord}
 use Rattle.orb_base.specs.Links.{AcceptorState}

@@ -1,5 +1,5 @@
 -- What one slot did: own profile.
-use Rattle.std.specs.Prelude.{◌≡◌, ℕ, ◌+◌, Bool, false, List, [], ◌∷◌, ◌++◌, length, map, option_map}
+use Rattle.std.specs.Prelude.{◌≡◌, ℕ, ◌+◌, false, List, [], ◌∷◌, ◌++◌, length, map, option_map}
 use Rattle.std.specs.List.{flat_map}
 use Rattle.orb_base.specs.Links.{AcceptorState}
 use Rattle.orb_base.specs.Outside.{SourceState, SinkState}

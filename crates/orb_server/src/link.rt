@@ -57,12 +57,7 @@ fn read_whole<I: Source, R: Wait>(
 }
 
 /// The writing side of a connection.
-fn write_whole<O: Sink, R: Wait>(
-    rt: &R,
-    pool: &LanePool,
-    pass: WriterPass,
-    sink: O,
-) -> WriteSide<O>
+fn write_whole<O: Sink, R: Wait>(rt: &R, pool: &LanePool, pass: WriterPass, sink: O) -> WriteSide<O>
     requires { Writes pool.now.cell pass }
     ensures { WritesSide pool.now.cell result.end pass result.pass (O.state sink) (O.state result.sink) }
 {

@@ -70,12 +70,7 @@ fn close_run<A: Acceptor + Drop, S: Serving>(
 }
 
 /// Runs all workers and slots over these acceptors, and closes the pool.
-fn run_all<
-    A: Acceptor + Send + Drop,
-    S: Serving + Sync,
-    G: Gate + Sync,
-    R: Wait + Threads + Sync,
->(
+fn run_all<A: Acceptor + Send + Drop, S: Serving + Sync, G: Gate + Sync, R: Wait + Threads + Sync>(
     rt: &R,
     alloc: Global,
     setup: &Setup,
@@ -124,6 +119,9 @@ fn run_all<
 /// Runs the server of a setup: each slot serves the links of its acceptor, one after another, by two threads each, and one thread works
 /// for each of the pool. It comes back once every slot has left; the acceptors stand in their places then. Where a thread can't be made,
 /// its part is done behind the others', and the run may wait for ever. NoMemory comes before any thread runs, and leaves the acceptors.
+///
+/// It costs what its connections cost; two threads a slot and one for each thread of the pool; and room for the log of each connection that
+/// may come, `slots` times `per_slot`, which is taken at the start.
 pub fn serve_run<
     A: Acceptor + Send + Drop,
     S: Serving + Sync,

@@ -89,7 +89,11 @@ fn with_staff<
                 × (length result.workers.items ≡ length workers.items) × (vec_capacity result.workers ≡ vec_capacity workers)
                 × AreDone A.state A.In.state A.Out.state setup.entry.now pool.entry.now.cell 0 (acceptors_of jobs.items) result.slots.items
                 × (length result.slots.items ≡ length jobs.items) }
-        { run_staff(rt, alloc, setup, pool, servants, gate, first, workers, jobs, done) },
+        {
+            run_staff(
+                rt, alloc, setup, pool, servants, gate, first, workers, jobs, done,
+            )
+        },
     );
     staff.workers.push_reserved(last);
     staff

@@ -266,7 +266,10 @@ fn busy(alloc: Global, fails: bool) -> Result<MemAcceptor, Fail> {
         put_request(&mut bytes, 2, b"fast")?;
         put_request(&mut bytes, 3, b"slow")?;
         put_request(&mut bytes, 4, b"fast")?;
-        links.push_back(link(alloc, bytes, &[])?).ok().ok_or("memory")?;
+        links
+            .push_back(link(alloc, bytes, &[])?)
+            .ok()
+            .ok_or("memory")?;
     }
     let mut failing = List::new(alloc);
     if fails {

@@ -24,13 +24,27 @@ kept_quiet {D} n k = Quiet-if {D = D} (k (of_param n)) unseen unseen (λ x w. tt
 
 pub with_rest-join-last-requires-after_bounds : goal.with_rest-join-last-requires-after_bounds
 with_rest-join-last-requires-after_bounds g t c κs within =
-  let a : IsSend (param 0 g.row.A) = search rules in
-  let i : IsSend (param 2 g.row.A-In) = search rules in
-  let o : IsSend (param 3 g.row.A-Out) = search rules in
-  (
-  ((search rules, c.requires.job, c.requires.opened), (record { owned = a.owned; leaving = kept_quiet 0 }, record { owned = i.owned; leaving = kept_quiet 2 }, record { owned = o.owned; leaving = kept_quiet 3 }, search rules)),
-  (search rules, (λ a m. m, (λ a m. m, (λ a m. m, (λ a m. m, (
-    (search rules, a, i, o, c.requires.jobs, c.requires.opened, c.requires.room.0, c.requires.room.1),
-    (a, i, o, search rules),
-  )))))),
-  )
+    let a : IsSend (param 0 g.row.A) = search rules in
+    let i : IsSend (param 2 g.row.A-In) = search rules in
+    let o : IsSend (param 3 g.row.A-Out) = search rules in (
+      ((search rules, c.requires.job, c.requires.opened), (record { owned = a.owned; leaving = kept_quiet 0 }, record { owned = i.owned; leaving = kept_quiet 2 }, record { owned = o.owned; leaving = kept_quiet 3 }, search rules)),
+      (
+        search rules,
+        (
+          λ a m. m,
+          (
+            λ a m. m,
+            (
+              λ a m. m,
+              (
+                λ a m. m,
+                (
+                  (search rules, a, i, o, c.requires.jobs, c.requires.opened, c.requires.room.0, c.requires.room.1),
+                  (a, i, o, search rules),
+                ),
+              ),
+            ),
+          ),
+        ),
+      ),
+    )

@@ -1,5 +1,4 @@
-use Rattle.std.proofs.Common.{◌≡◌, ℕ, ◌+◌, ◌≤◌, ◌++◌, length, ap, ◌∙◌, arith}
-use Rattle.std.specs.Vec.{vec_capacity}
+use Rattle.std.proofs.Common.{◌≡◌, ◌+◌, length, ap, ◌∙◌, arith}
 use Rattle.std.proofs.lemmas.List.{length-append}
 use Rattle.orb_server.specs.Giving.{conns_of}
 use Rattle.orb_server.proofs.Giving.{conns_more}
@@ -8,6 +7,6 @@ use Rattle.orb_server.proofs.give.+take_apart.Goals as goal
 pub put_behind-requires-clause-conns : goal.put_behind-requires-clause-conns
 put_behind-requires-clause-conns g t c =
     let all : length (conns_of c.args.done.items) ≡ length (conns_of c.pop.new.self.items) + length c.in-Some.last.logs.items
-        = ap length (conns_more c.args.done.items c.pop.new.self.items c.in-Some.last c.in-Some.ensures.items) ∙ length-append (conns_of c.pop.new.self.items) c.in-Some.last.logs.items in
+    = ap length (conns_more c.args.done.items c.pop.new.self.items c.in-Some.last c.in-Some.ensures.items) ∙ length-append (conns_of c.pop.new.self.items) c.in-Some.last.logs.items in
     let held : length c.take_apart.result.conns.items ≡ length (conns_of c.pop.new.self.items) = ap length c.take_apart.ensures.conns.0 in
     omega (arith, all, held, c.requires.room.2, c.take_apart.ensures.conns.1)

@@ -1,4 +1,4 @@
-use Rattle.std.proofs.Common.{rules, ◌≡◌, ◌≤◌, length, refl}
+use Rattle.std.proofs.Common.{rules, ◌≤◌, length}
 use Rattle.std.specs.Vec.{vec_capacity}
 use Rattle.orb_server.proofs.Starting.{resting_last, starts_more}
 use Rattle.orb_server.proofs.prepare.+make_starts.Goals as goal
@@ -8,4 +8,4 @@ returns-in-Ok-clause-starts g t c =
     let r = resting_last c.args.pool.now.cell c.args.passes.items c.pop.new.self.items c.in-Some.pass c.requires.passes c.in-Some.ensures.items in
     let room : c.args.setup.now.per_slot ≤ vec_capacity c.in-Ok.logs = search rules in
     starts_more c.args.setup.now c.args.pool.now.cell (length c.pop.new.self.items) c.in_ok-starts-in-Some.starts.items _ _ c.in_ok-starts-in-Some.ensures.starts c.in_ok-starts-in-Some.ensures.all
-        r.0 r.1 c.in-Ok.ensures.items room c.push_reserved.ensures.items
+    r.0 r.1 c.in-Ok.ensures.items room c.push_reserved.ensures.items

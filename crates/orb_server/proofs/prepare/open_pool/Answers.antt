@@ -1,6 +1,6 @@
-use Rattle.std.proofs.Common.{◌≡◌, ℕ, subst, sym}
+use Rattle.std.proofs.Common.{ℕ, subst, sym}
 use Rattle.std.specs.Prelude.{IfOk}
-use Rattle.orb_base.specs.Pool.{Pool, IsWellFormed, HasSlots}
+use Rattle.orb_base.specs.Pool.{Pool, IsWellFormed}
 use Rattle.lane_pool.specs.Passes.{IsOpen}
 use Rattle.lane_machine.specs.State.{CanOpen}
 use Rattle.orb_server.proofs.Starting.{can_open}

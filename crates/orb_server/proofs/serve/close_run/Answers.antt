@@ -1,4 +1,4 @@
-use Rattle.std.proofs.Common.{◌≡◌, ◌+◌, ◌++◌, length, ap, sym, ◌∙◌, refl}
+use Rattle.std.proofs.Common.{◌+◌, length, ◌∙◌}
 use Rattle.std.proofs.lemmas.List.{length-map}
 use Rattle.thread_borrowing.specs.ThreadList.{pool_threads}
 use Rattle.orb_server.specs.Giving.{passes_of}
@@ -35,9 +35,9 @@ returns-clause-workers g c = all_workers c.args.setup.now (g.S.Serving.outcome c
 pub returns-clause-once : goal.returns-clause-once
 returns-clause-once g c = runs_once c.args.setup.now (g.S.Serving.outcome c.args.servants.now) c.args.pool.cell c.args.root _ c.close-history.result.items c.requires.opened c.close-history.ensures.history
     (all_workers c.args.setup.now (g.S.Serving.outcome c.args.servants.now) c.args.pool.cell c.close-history.result.items (passes_of c.args.staff.slots.items) c.args.staff.workers.items _
-      c.close-history.ensures.history.calls
-      (left_as c.from_vec-homes.result.items c.from_vec-alones.result.items (passes_of c.args.staff.slots.items) c.args.staff.workers.items (c.from_vec-homes.ensures ∙ c.take_apart-passes.ensures.passes.0) c.from_vec-alones.ensures)
-      c.requires.workers.0 c.requires.workers.1)
+    c.close-history.ensures.history.calls
+    (left_as c.from_vec-homes.result.items c.from_vec-alones.result.items (passes_of c.args.staff.slots.items) c.args.staff.workers.items (c.from_vec-homes.ensures ∙ c.take_apart-passes.ensures.passes.0) c.from_vec-alones.ensures)
+    c.requires.workers.0 c.requires.workers.1)
     c.all_is_done.ensures c.each_in_one_place.ensures.place c.each_in_one_place.ensures.taken c.each_in_one_place.ensures.once
 
 pub returns-clause-lanes : goal.returns-clause-lanes

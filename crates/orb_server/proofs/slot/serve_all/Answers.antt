@@ -1,6 +1,4 @@
-use Rattle.std.proofs.Common.{◌≡◌, ℕ, ◌+◌, ◌<◌, ◌≤◌, List, [], ◌∷◌, ◌++◌, length, length-append, ap, subst, sym, ◌∙◌, arith}
-use Rattle.std.specs.Vec.{vec_capacity}
-use Rattle.orb_server.specs.SlotEnds.{was_closed}
+use Rattle.std.proofs.Common.{◌≡◌, ℕ, ◌+◌, ◌<◌, ◌≤◌, List, [], ◌∷◌, length, length-append, ap, subst, sym, ◌∙◌, arith}
 use Rattle.orb_server.specs.Slots.{GoesOn, ComesOut}
 use Rattle.orb_server.specs.declared.run.ConnLog.{ConnLog}
 use Rattle.orb_server.specs.declared.run.SlotEnd.TheVariants.{Closed}
@@ -24,19 +22,18 @@ returns-then-closed-clause-stops g c =
     subst (λ (z : List (ConnLog g.row.A-In.Denot g.row.A-Out.Denot)). ComesOut g.A.In.Source.state g.A.Out.Sink.state c.args.setup.now c.args.pool.now.cell [] c.args.job.pass.who (g.A.Acceptor.state c.args.job.acceptor) c.serve_link-back.result.0 (g.A.Acceptor.state c.accept.new.self) z Closed)
     (sym c.push_reserved.ensures.items)
     (comes_closed g.A.In.Source.state g.A.Out.Sink.state c.args.setup.now c.args.pool.now.cell c.args.job.pass.who (g.A.Acceptor.state c.args.job.acceptor) (g.A.Acceptor.state c.loop.acceptor) (g.A.Acceptor.state c.accept.new.self)
-      c.loop.pass c.serve_link-back.result.0 c.in-Link.source c.in-Link.sink c.loop.logs.items c.serve_link-back.result.1
-      c.loop.invariant.0 c.in-Link.ensures.links c.in-Link.ensures.fault c.in-Link.ensures.end c.serve_link-back.ensures.one (sym c.was_closed-closed.ensures ∙ c.if-closed.true) few)
+    c.loop.pass c.serve_link-back.result.0 c.in-Link.source c.in-Link.sink c.loop.logs.items c.serve_link-back.result.1
+    c.loop.invariant.0 c.in-Link.ensures.links c.in-Link.ensures.fault c.in-Link.ensures.end c.serve_link-back.ensures.one (sym c.was_closed-closed.ensures ∙ c.if-closed.true) few)
 
 pub loop-preserved : goal.loop-preserved
 loop-preserved g c =
     let n = c.loop.invariant.2 in
-    let more : length c.push_reserved.new.self.items ≡ length c.loop.logs.items + 1 = ap length c.push_reserved.ensures.items ∙ length-append c.loop.logs.items (c.serve_link-back.result.1 ∷ []) in
-    (
+    let more : length c.push_reserved.new.self.items ≡ length c.loop.logs.items + 1 = ap length c.push_reserved.ensures.items ∙ length-append c.loop.logs.items (c.serve_link-back.result.1 ∷ []) in (
       subst (λ (z : List (ConnLog g.row.A-In.Denot g.row.A-Out.Denot)). GoesOn g.A.In.Source.state g.A.Out.Sink.state c.args.setup.now c.args.pool.now.cell c.args.job.pass.who (g.A.Acceptor.state c.args.job.acceptor) c.serve_link-back.result.0 (g.A.Acceptor.state c.accept.new.self) z)
-      (sym c.push_reserved.ensures.items)
-      (goes_further g.A.In.Source.state g.A.Out.Sink.state c.args.setup.now c.args.pool.now.cell c.args.job.pass.who (g.A.Acceptor.state c.args.job.acceptor) (g.A.Acceptor.state c.loop.acceptor) (g.A.Acceptor.state c.accept.new.self)
-        c.loop.pass c.serve_link-back.result.0 c.in-Link.source c.in-Link.sink c.loop.logs.items c.serve_link-back.result.1
-        c.loop.invariant.0 c.in-Link.ensures.links c.in-Link.ensures.fault c.in-Link.ensures.end c.serve_link-back.ensures.one (sym c.was_closed-closed.ensures ∙ c.if-closed.false)),
+          (sym c.push_reserved.ensures.items)
+          (goes_further g.A.In.Source.state g.A.Out.Sink.state c.args.setup.now c.args.pool.now.cell c.args.job.pass.who (g.A.Acceptor.state c.args.job.acceptor) (g.A.Acceptor.state c.loop.acceptor) (g.A.Acceptor.state c.accept.new.self)
+          c.loop.pass c.serve_link-back.result.0 c.in-Link.source c.in-Link.sink c.loop.logs.items c.serve_link-back.result.1
+          c.loop.invariant.0 c.in-Link.ensures.links c.in-Link.ensures.fault c.in-Link.ensures.end c.serve_link-back.ensures.one (sym c.was_closed-closed.ensures ∙ c.if-closed.false)),
       c.serve_link-back.ensures.rests,
       more ∙ ap (λ (k : ℕ). k + 1) n,
       subst (λ (k : ℕ). c.args.setup.now.per_slot ≤ k) (sym c.push_reserved.ensures.capacity) c.loop.invariant.3,

@@ -1,4 +1,4 @@
-use Rattle.std.proofs.Common.{◌≡◌, ℕ, ◌+◌, ap, subst, sym, ◌∙◌}
+use Rattle.std.proofs.Common.{ℕ, ◌+◌, ap, subst, sym, ◌∙◌}
 use Rattle.orb_server.specs.Threads.{HaveWorked}
 use Rattle.orb_server.proofs.Staffing.{idle_last, idle_front, worked_grows}
 use Rattle.orb_server.proofs.staff.+staff.Goals as goal
@@ -15,4 +15,4 @@ with_staff-returns-clause-workers g t c =
     let who = c.requires.pass.fresh.who_is in
     subst (HaveWorked c.args.setup.now outcome c.args.pool.now.cell c.args.first 0) (sym c.push_reserved.ensures.items)
     (worked_grows c.args.setup.now outcome c.args.pool.now.cell c.args.first c.args.pass.seat.number c.args.pass.who c.join-last.result.1.workers.items c.join-last.result.0
-      c.join-last.ensures.second.0 c.join-last.ensures.first (c.requires.pass.fresh.number_is ∙ ap (λ (k : ℕ). c.args.first + k) (sym who)) (who ∙ sym c.join-last.ensures.second.1))
+    c.join-last.ensures.second.0 c.join-last.ensures.first (c.requires.pass.fresh.number_is ∙ ap (λ (k : ℕ). c.args.first + k) (sym who)) (who ∙ sym c.join-last.ensures.second.1))
