@@ -9,8 +9,8 @@ use conn_sides::{LastCollect, ReadSideEnd, WriteEnd};
 use heard_calls::Ending;
 use lane_machine::{LaneCall, Lanes};
 use orb_base::{
-    Completed, ConnId, Gate, Job, List, MemAcceptor, MemLink, MemSink, MemSource, NoMemory,
-    Outcome, Serving, SharedOctets, Sys, SysName, Text,
+    Accepted, Acceptor, Completed, ConnId, Gate, Got, Job, List, MemAcceptor, MemLink, MemSink,
+    MemSource, NoMemory, Outcome, Put, Serving, SharedOctets, Sink, Source, Sys, SysName, Text,
 };
 use std::alloc::Global;
 use std::collections::LinkedList;
@@ -85,6 +85,159 @@ impl Gate for Behind {
         }
     }
 }
+
+/// Holds the worker of request 1 until the source has met its end.
+#[derive(Drop)]
+struct Until<'a> {
+    met: &'a AtomicU64,
+}
+
+impl Gate for Until<'_> {
+    fn enter(&self, job: &Job) {
+        if job.id == 1 {
+            let _ = look(self.met, 1);
+        }
+    }
+
+    fn leave(&self, _job: &Job) {}
+}
+
+/// Looks until a number is at least this; whether it was, before it was looked at too often.
+fn look(at: &AtomicU64, least: u64) -> bool {
+    for _ in 0..LOOKS {
+        if at.load(Ordering::SeqCst) >= least {
+            return true;
+        }
+        thread::yield_now();
+    }
+    false
+}
+
+/// A source that gives its second piece once so many bytes were written, or not at all, and then tells that it met its end.
+#[derive(Drop)]
+struct Asking<'a> {
+    pieces: [&'a [u8]; 2],
+    given: usize,
+    written: &'a AtomicU64,
+    least: u64,
+    met: &'a AtomicU64,
+    ends: u64,
+}
+
+impl Source for Asking<'_> {
+    ghost use Rattle.std.specs.Prelude.{None};
+
+    ghost state = { λ s. record { left = None; taken = None; faults = 0; ends = s.ends } };
+
+    fn read(&mut self, into: &mut [u8]) -> Got {
+        let given = self.given;
+        let comes = given == 0 || look(self.written, self.least);
+        if comes
+            && given < 2
+            && self.pieces[given].len() <= into.len()
+            && !self.pieces[given].is_empty()
+        {
+            let piece = self.pieces[given];
+            into[..piece.len()].copy_from_slice(piece);
+            self.given = given + 1;
+            return Got::Bytes(piece.len());
+        }
+        self.met.store(1, Ordering::SeqCst);
+        self.ends = self.ends.saturating_add(1);
+        Got::End
+    }
+}
+
+/// A sink that tells how many bytes were written.
+#[derive(Drop)]
+struct Telling<'a> {
+    held: MemSink,
+    written: &'a AtomicU64,
+}
+
+impl Sink for Telling<'_> {
+    ghost state = { λ s. ⟦<MemSink as Sink>⟧.state s.held };
+
+    fn write(&mut self, piece: &[u8]) -> Put {
+        let put = self.held.write(piece);
+        if let Put::Took(n) = put {
+            self.written.fetch_add(n as u64, Ordering::SeqCst);
+        }
+        put
+    }
+
+    fn close(&mut self) {
+        self.held.close();
+    }
+}
+
+/// An acceptor of one such link.
+#[derive(Drop)]
+struct Once<'a> {
+    alloc: Global,
+    pieces: [&'a [u8]; 2],
+    written: &'a AtomicU64,
+    least: u64,
+    met: &'a AtomicU64,
+    left: bool,
+    ends: u64,
+}
+
+impl<'a> Acceptor for Once<'a> {
+    type In = Asking<'a>;
+
+    type Out = Telling<'a>;
+
+    ghost use Rattle.std.specs.Prelude.{None};
+
+    ghost state = { λ a. record { links = None; faults = 0; ends = a.ends } };
+
+    fn accept(&mut self) -> Accepted<Asking<'a>, Telling<'a>> {
+        if !self.left {
+            self.ends = self.ends.saturating_add(1);
+            return Accepted::Done;
+        }
+        self.left = false;
+        let source = Asking {
+            pieces: self.pieces,
+            given: 0,
+            written: self.written,
+            least: self.least,
+            met: self.met,
+            ends: 0,
+        };
+        let sink = Telling {
+            held: MemSink::new(self.alloc, List::new(self.alloc), List::new(self.alloc)),
+            written: self.written,
+        };
+        Accepted::Link(source, sink)
+    }
+}
+
+/// What one connection of two pieces leaves, the second of which comes once so many bytes were written: its output, and how many requests
+/// were finished.
+fn asked<'a, G: Gate + Sync, R: Abort + Wait + Threads + Sync>(
+    rt: &R,
+    alloc: Global,
+    gate: &G,
+    once: Once<'a>,
+) -> Result<(Vec<u8>, u32), Fail> {
+    let setup = read_setup(alloc, QUEUE).ok().ok_or("a setup")?;
+    let mut slots = List::new(alloc);
+    slots.push(once).ok().ok_or("memory")?;
+    assert!(rt; slots.len() == usize::from(setup.slots()));
+    let run = serve_run(rt, alloc, &setup, &Quick { alloc }, &mut slots, gate)?;
+    let log = run.conns.get(0).ok_or("a connection")?;
+    let held = Vec::from_slice(alloc, log.sink.held.held())?;
+    Ok((held, count_finished(run.history.as_slice())))
+}
+
+/// One slot of one connection, one thread, and room for three requests.
+const QUEUE: &[u8] =
+    b"server = { slots = 1, per_slot = 1 }\npool = { static = 1, dynamic = 0, default_priority = 10, buffering = true, max_buffered_requests = 3, max_request_buffer_size = 200 }\nadapter = [{ name = \"prop\", model = \"CLIENT_PROPAGATED\", priority = 10 }]\nobject = [{ key = \"ping\", adapter = \"prop\", interface = \"i\" }]\n";
+
+/// The cancel of request 2: CORBA 3.0.3, section 15.4.4.
+const CANCEL_2: &[u8] = b"GIOP\x01\x02\0\x02\0\0\0\x04\0\0\0\x02";
 
 /// Two slots of one connection each, two threads, and `ping` under CLIENT_PROPAGATED.
 const PAIR: &[u8] =
@@ -313,5 +466,85 @@ fn a_slot_is_done_where_no_link_is_left(rt: HostRuntime) -> Result<(), Fail> {
     assert!(rt; run.slots.as_slice() == [SlotEnd::Served, SlotEnd::Done].as_slice());
     let first = run.conns.get(0).ok_or("a connection")?;
     assert!(rt; first.id.is_same(ConnId { slot: 0, nth: 0 }));
+    Ok(())
+}
+
+#[test]
+fn a_reply_comes_before_the_next_request_is_sent(rt: HostRuntime) -> Result<(), Fail> {
+    let alloc = rt.alloc();
+    let written = AtomicU64::new(0);
+    let met = AtomicU64::new(0);
+    let first = pings(alloc, &[1])?;
+    let second = pings(alloc, &[2])?;
+    let once = Once {
+        alloc,
+        pieces: [first.as_slice(), second.as_slice()],
+        written: &written,
+        least: 24,
+        met: &met,
+        left: true,
+        ends: 0,
+    };
+    let (held, finished) = asked(&rt, alloc, &Free, once)?;
+    assert!(rt; held.as_slice() == replies(alloc, &[1, 2])?.as_slice());
+    assert_eq!(rt; finished, 2);
+    Ok(())
+}
+
+#[test]
+fn a_cancelled_request_never_runs(rt: HostRuntime) -> Result<(), Fail> {
+    let alloc = rt.alloc();
+    let written = AtomicU64::new(0);
+    let met = AtomicU64::new(0);
+    let requests = pings(alloc, &[1, 2, 3])?;
+    let once = Once {
+        alloc,
+        pieces: [requests.as_slice(), CANCEL_2],
+        written: &written,
+        least: 0,
+        met: &met,
+        left: true,
+        ends: 0,
+    };
+    let (held, finished) = asked(&rt, alloc, &Until { met: &met }, once)?;
+    assert!(rt; held.as_slice() == replies(alloc, &[1, 3])?.as_slice());
+    assert_eq!(rt; finished, 2);
+    Ok(())
+}
+
+/// Eight slots of sixteen connections each over three lanes, with an object in each lane.
+const MANY: &[u8] =
+    b"server = { slots = 8, per_slot = 16 }\npool = { borrowing = true, buffering = true, max_buffered_requests = 500, max_request_buffer_size = 1000000, lanes = [{ priority = 10, static = 1, dynamic = 0 }, { priority = 20, static = 1, dynamic = 0 }, { priority = 30, static = 1, dynamic = 0 }] }\nadapter = [{ name = \"low\", model = \"SERVER_DECLARED\", priority = 10 }, { name = \"high\", model = \"SERVER_DECLARED\", priority = 20 }, { name = \"top\", model = \"SERVER_DECLARED\", priority = 30 }]\nobject = [{ key = \"slow\", adapter = \"low\", interface = \"i\" }, { key = \"fast\", adapter = \"high\", interface = \"i\" }, { key = \"best\", adapter = \"top\", interface = \"i\" }]\n";
+
+#[test]
+fn many_connections_are_served_over_three_lanes(rt: HostRuntime) -> Result<(), Fail> {
+    let alloc = rt.alloc();
+    let mut slots = Vec::new(alloc);
+    for _ in 0..8 {
+        let mut links = LinkedList::new(alloc);
+        for _ in 0..16 {
+            let mut bytes = Vec::new(alloc);
+            for id in 1..11 {
+                let key = match id % 3 {
+                    0 => b"slow",
+                    1 => b"fast",
+                    _ => b"best",
+                };
+                put_request(&mut bytes, id, key)?;
+            }
+            links
+                .push_back(link(alloc, bytes, &[])?)
+                .ok()
+                .ok_or("memory")?;
+        }
+        slots.push(MemAcceptor::new(links, 16, List::new(alloc)))?;
+    }
+    let run = run(&rt, alloc, MANY, slots, &Free)?;
+    assert_eq!(rt; run.conns.len(), 128);
+    for log in run.conns.as_slice() {
+        assert!(rt; log.read == ENDED && log.write == WriteEnd::Done);
+        assert!(rt; log.sink.held().len() == 240);
+    }
+    assert_eq!(rt; count_finished(run.history.as_slice()), 1_280);
     Ok(())
 }
