@@ -10,7 +10,7 @@ use Rattle.pipe_runs.specs.Batches.{batch}
 use Rattle.pipe_runs.specs.declared.shown.Shown.{Shown}
 use Rattle.pipe_runs.specs.declared.shown.Shown.TheVariants.{Bytes, Text}
 use Rattle.command_words.specs.declared.meaning.Meaning.{Meaning}
-use Rattle.command_words.specs.declared.meaning.Meaning.TheVariants.{Pipe, Dump, Refs, RefsAt, Idl, Unbuilt, Unread}
+use Rattle.command_words.specs.declared.meaning.Meaning.TheVariants.{Pipe, Serve, Dump, Refs, RefsAt, Idl, Unbuilt, Unread}
 
 -- one of the seven commands
 abbrev pub is_command : List ℕ → Bool
@@ -18,7 +18,7 @@ is_command word =
     bytes_eq word (codes "pipe") || bytes_eq word (codes "serve") || bytes_eq word (codes "call") || bytes_eq word (codes "refs")
     || bytes_eq word (codes "dump") || bytes_eq word (codes "idl") || bytes_eq word (codes "load")
 
--- a command other than `pipe`, `refs` and `idl`: `dump` alone is built
+-- a command other than `pipe`, `serve`, `refs` and `idl`: `dump` alone is built
 abbrev pub alone_of : {W : Type 0} → List ℕ → List W → Meaning
 alone_of word [] = if bytes_eq word (codes "dump") then Dump else Unbuilt
 alone_of word (_ ∷ _) = Unbuilt
@@ -113,12 +113,31 @@ idl_of spelling (option ∷ name ∷ []) =
     if bytes_eq (spelling option) (codes "--file") then listed_by (name_of (spelling name)) else Unbuilt
 idl_of spelling (_ ∷ _ ∷ _ ∷ _) = Unbuilt
 
+-- the server of a configuration at an address, both of which have to be there
+abbrev pub serve_at : Option (List ℕ) → Option Place → Meaning
+serve_at (Some config) (Some at) = Serve (record { config = config; at = at })
+serve_at (Some config) None = Unbuilt
+serve_at None at = Unbuilt
+
+-- the words behind `serve`: `--config` and a name, and `--listen` and an address
+abbrev pub serve_of : {W : Type 0} → (W → List ℕ) → List W → Meaning
+serve_of spelling [] = Unbuilt
+serve_of spelling (_ ∷ []) = Unbuilt
+serve_of spelling (_ ∷ _ ∷ []) = Unbuilt
+serve_of spelling (_ ∷ _ ∷ _ ∷ []) = Unbuilt
+serve_of spelling (option ∷ name ∷ other ∷ place ∷ []) =
+    if bytes_eq (spelling option) (codes "--config") && bytes_eq (spelling other) (codes "--listen")
+    then serve_at (name_of (spelling name)) (place_of (spelling place))
+    else Unbuilt
+serve_of spelling (_ ∷ _ ∷ _ ∷ _ ∷ _ ∷ _) = Unbuilt
+
 -- what is built of a command; what else begins with a command isn't yet
 abbrev pub built_of : {W : Type 0} → (W → List ℕ) → List ℕ → List W → Meaning
 built_of spelling word words =
     if bytes_eq word (codes "refs") then refs_of spelling words
     else if bytes_eq word (codes "pipe") then pipe_of spelling words
     else if bytes_eq word (codes "idl") then idl_of spelling words
+    else if bytes_eq word (codes "serve") then serve_of spelling words
     else alone_of word words
 
 -- `spelling` gives the bytes of a word
@@ -129,6 +148,7 @@ command_of spelling (word ∷ words) = if is_command (spelling word) then built_
 -- the words mean references at an address, or name a file
 abbrev pub NamesThings : Meaning → Type 0
 NamesThings (Pipe words) = IsSome words.config
+NamesThings (Serve words) = Unit {0}
 NamesThings (RefsAt place config) = Unit {0}
 NamesThings (Idl name) = Unit {0}
 NamesThings Dump = ⊥

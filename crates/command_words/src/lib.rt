@@ -4,7 +4,7 @@
 mod meaning;
 mod words;
 
-pub use meaning::{Meaning, PipeWords};
+pub use meaning::{Meaning, PipeWords, ServeWords};
 pub use words::read_words;
 
 #[cfg(test)]

@@ -15,11 +15,22 @@ pub struct PipeWords {
     pub shown: Shown,
 }
 
+/// The options of `serve`.
+#[derive(Debug, Drop)]
+pub struct ServeWords {
+    /// The name of the configuration.
+    pub config: Text,
+    /// Where to listen.
+    pub at: Address,
+}
+
 /// What the words of a command line mean.
 #[derive(Debug, Drop)]
 pub enum Meaning {
     /// The command `pipe`.
     Pipe(PipeWords),
+    /// The command `serve`.
+    Serve(ServeWords),
     /// The command `dump`.
     Dump,
     /// The command `refs`.

@@ -10,6 +10,7 @@ use std::test::Fail;
 enum Said {
     /// Whether a configuration is named, the batch, and what is shown.
     Pipe(bool, u8, Shown),
+    Serve,
     Dump,
     Refs,
     /// Whether a configuration is named.
@@ -26,6 +27,7 @@ fn said_by(meaning: &Meaning) -> Said {
             words.batch.calls(),
             words.shown,
         ),
+        Meaning::Serve(_) => Said::Serve,
         Meaning::Dump => Said::Dump,
         Meaning::Refs => Said::Refs,
         Meaning::RefsAt(_, config) => Said::RefsAt(config.is_some()),
@@ -112,6 +114,21 @@ fn the_other_commands_have_theirs(rt: HostRuntime) -> Result<(), Fail> {
         )?
     );
     assert!(rt; means(alloc, &["idl", "--file", "f"], Said::Idl)?);
-    assert!(rt; means(alloc, &["serve"], Said::Unbuilt)?);
+    let served: [(&[&str], Said); 5] = [
+        (&["serve", "--config", "c", "--listen", "h:1"], Said::Serve),
+        (
+            &["serve", "--config", "c", "--listen", "h:0"],
+            Said::Unbuilt,
+        ),
+        (
+            &["serve", "--config", "-c", "--listen", "h:1"],
+            Said::Unbuilt,
+        ),
+        (&["serve", "--config", "c"], Said::Unbuilt),
+        (&["serve"], Said::Unbuilt),
+    ];
+    for (words, want) in served {
+        assert!(rt; means(alloc, words, want)?, "{words:?}");
+    }
     Ok(())
 }

@@ -3,7 +3,7 @@ ghost use Rattle.std.specs.Prelude.{◌≡◌, IfOk, OnErr, IsSome, None, option
 ghost use Rattle.orb_base.specs.NulFree.{nul_at};
 ghost use Rattle.command_words.specs.Words as Spec;
 
-use crate::meaning::{Meaning, PipeWords};
+use crate::meaning::{Meaning, PipeWords, ServeWords};
 use object_lines::{Address, read_address};
 use object_refs::port_number;
 use orb_base::{NoMemory, Text};
@@ -25,6 +25,8 @@ pub fn read_words(alloc: Global, words: &[String]) -> Result<Meaning, NoMemory>
                 read_pipe(alloc, options)
             } else if word.as_str() == "idl" {
                 read_idl(alloc, options)
+            } else if word.as_str() == "serve" {
+                read_serve(alloc, options)
             } else {
                 Ok(alone(word.as_str(), options))
             }
@@ -44,7 +46,7 @@ fn is_command(word: &str) -> bool
         || word == "load"
 }
 
-/// What a command other than `pipe`, `refs` and `idl` means.
+/// What a command other than `pipe`, `serve`, `refs` and `idl` means.
 fn alone(word: &str, options: &[String]) -> Meaning
     ensures { result ≡ Spec.alone_of word.now options.now }
 {
@@ -177,6 +179,43 @@ fn listing_of(alloc: Global, name: &str) -> Result<Meaning, NoMemory>
     }
     let name = text_of(alloc, name.as_bytes())?;
     Ok(Meaning::Idl(name))
+}
+
+/// What `serve` means with these words behind it: the options stand in one order.
+fn read_serve(alloc: Global, options: &[String]) -> Result<Meaning, NoMemory>
+    ensures { Spec.Means result (Spec.serve_of string_bytes options.now) }
+{
+    match options {
+        [option, name, other, place] => {
+            if option.as_str() == "--config" && other.as_str() == "--listen" {
+                serve_by(alloc, name.as_str(), place.as_str())
+            } else {
+                Ok(Meaning::Unbuilt)
+            }
+        }
+        [_, _, _, _, _, ..] => Ok(Meaning::Unbuilt),
+        [_, _, _] => Ok(Meaning::Unbuilt),
+        [_, _] => Ok(Meaning::Unbuilt),
+        [_] => Ok(Meaning::Unbuilt),
+        [] => Ok(Meaning::Unbuilt),
+    }
+}
+
+/// The server of a configuration at an address, where the words are a name and an address.
+#[tactic(auto, using(crate::proofs::Places::served_there))]
+fn serve_by(alloc: Global, name: &str, place: &str) -> Result<Meaning, NoMemory>
+    ensures { Spec.Means result (Spec.serve_at (Spec.name_of name.now) (Spec.place_of place.now)) }
+{
+    if !is_name(name.as_bytes()) {
+        return Ok(Meaning::Unbuilt);
+    }
+    match read_place(alloc, place.as_bytes())? {
+        Some(at) => {
+            let config = text_of(alloc, name.as_bytes())?;
+            Ok(Meaning::Serve(ServeWords { config, at }))
+        }
+        None => Ok(Meaning::Unbuilt),
+    }
 }
 
 /// What `refs` means with these words behind it.
