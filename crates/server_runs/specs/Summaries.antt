@@ -1,0 +1,106 @@
+-- What a run did, in numbers over its history, and their line: own profile.
+use Rattle.std.specs.Prelude.{ℕ, Bool, true, false, not, ◌&&◌, List, ◌++◌, codes, count_by}
+use Rattle.std.specs.Fmt.{decimal}
+use Rattle.lane_machine.specs.Entries.{One}
+use Rattle.lane_machine.specs.Histories.{History}
+use Rattle.lane_machine.specs.declared.call.LaneCall.{LaneCall}
+use Rattle.lane_machine.specs.declared.call.LaneCall.TheVariants.{Offer, Post, Cancel, End}
+use Rattle.lane_machine.specs.declared.call.LaneReply.{LaneReply}
+use Rattle.lane_machine.specs.declared.call.LaneReply.TheVariants as reply
+use Rattle.server_runs.specs.declared.summary.Counted.{Counted}
+use Rattle.server_runs.specs.declared.summary.Counted.TheVariants.{Heard, Own, Lent, Kept, Full, Removed, Ended}
+use Rattle.server_runs.specs.declared.summary.Summary.{Summary}
+
+-- a call that a connection's bytes mean
+abbrev pub is_heard : LaneCall → Bool
+is_heard (Offer job) = true
+is_heard (Post notice) = true
+is_heard (Cancel conn id) = true
+is_heard call = false
+
+-- a limit of the run was met
+abbrev pub is_closing : LaneReply → Bool
+is_closing reply.Closing = true
+is_closing r = false
+
+-- the request was given to a thread, which is lent or not
+abbrev pub is_run : Bool → LaneReply → Bool
+is_run true (reply.Run thread lent) = lent
+is_run false (reply.Run thread lent) = not lent
+is_run lent r = false
+
+-- the request waits
+abbrev pub is_kept : LaneReply → Bool
+is_kept reply.Kept = true
+is_kept r = false
+
+-- the request was refused
+abbrev pub is_full : LaneReply → Bool
+is_full reply.Full = true
+is_full r = false
+
+-- the request was withdrawn
+abbrev pub is_removed : LaneReply → Bool
+is_removed reply.Removed = true
+is_removed r = false
+
+-- the reading of a connection has ended
+abbrev pub is_ending : LaneCall → Bool
+is_ending (End conn how) = true
+is_ending call = false
+
+-- the same of an entry: a heard call by which no limit was met
+abbrev pub counts : One → Bool
+counts e = is_heard e.call && not (is_closing e.reply)
+
+abbrev pub gives : Bool → One → Bool
+gives lent e = is_run lent e.reply
+
+abbrev pub keeps : One → Bool
+keeps e = is_kept e.reply
+
+abbrev pub refuses : One → Bool
+refuses e = is_full e.reply
+
+abbrev pub removes : One → Bool
+removes e = is_removed e.reply
+
+abbrev pub is_end : One → Bool
+is_end e = is_ending e.call
+
+-- an entry is counted so
+abbrev pub is_counted : Counted → One → Bool
+is_counted Heard = counts
+is_counted Own = gives false
+is_counted Lent = gives true
+is_counted Kept = keeps
+is_counted Full = refuses
+is_counted Removed = removes
+is_counted Ended = is_end
+
+-- how many entries are counted so
+abbrev pub count : Counted → History → ℕ
+count what h = count_by (is_counted what) h
+
+-- the numbers of a history
+abbrev pub summary_of : History → Summary
+summary_of h = record {
+  calls = count Heard h;
+  run = count Own h;
+  lent = count Lent h;
+  kept = count Kept h;
+  full = count Full h;
+  removed = count Removed h;
+  connections = count Ended h;
+}
+
+-- what became of the requests when they came
+abbrev pub given_text : Summary → List ℕ
+given_text s =
+    codes "run " ++ decimal s.run ++ codes " lent " ++ decimal s.lent ++ codes " kept " ++ decimal s.kept ++ codes " full " ++ decimal s.full
+
+-- the line of these numbers
+abbrev pub summary_line : Summary → List ℕ
+summary_line s =
+    codes "calls " ++ decimal s.calls ++ codes " " ++ given_text s ++ codes " removed " ++ decimal s.removed
+    ++ codes " connections " ++ decimal s.connections ++ codes "\n"
