@@ -16,12 +16,12 @@ use Rattle.setup_servants.specs.declared.fault.TextRole.TheVariants as role
 use Rattle.orb_command.specs.ServingNotes.{serving_note}
 use Rattle.text_streams.proofs.CallerLemmas.{gave_none}
 use Rattle.text_streams.specs.Streams.{GaveFew}
-use Rattle.orb_command.specs.declared.answered.Answered.{Answered}
+use Rattle.orb_command.specs.declared.answered.Reported.{Reported}
 use Rattle.command_words.specs.declared.meaning.Meaning.TheVariants.{RefsAt}
 use Rattle.orb_command.specs.declared.note.Note.TheVariants.{Memory}
 use Rattle.orb_command.specs.Moment.{Moment}
 use Rattle.orb_command.specs.AtAnswer.{at_note}
-use Rattle.orb_command.specs.Command.{status_of, Answers}
+use Rattle.orb_command.specs.Command.{status_of, Reports}
 use Rattle.orb_command.specs.Faults.{FiledFaults}
 
 -- where a setup is given, no read failed
@@ -30,7 +30,7 @@ none_failed (Some name) setup old new h = h.1
 none_failed None setup old new h = ap (λ (s : FilesState). s.faults) h.1
 
 -- the counts where a setup has no servants
-unserved_faults : (why : ServingFault) (setup : SetupData) (behind : FilesState) (before after : Moment) → behind.faults ≡ before.files.faults
+pub unserved_faults : (why : ServingFault) (setup : SetupData) (behind : FilesState) (before after : Moment) → behind.faults ≡ before.files.faults
     → GivesServants (Err why) setup behind after.files → after.out ≡ before.out → FiledFaults (serving_note why) before after
 unserved_faults (fault.Idl f) setup behind before after same h out = (h.1 ∙ same, ap (λ (o : SinkState). o.faults) out)
 unserved_faults (fault.Script f) setup behind before after same h out = (h.2 ∙ same, ap (λ (o : SinkState). o.faults) out)
@@ -57,7 +57,7 @@ comes_faults end.WriteFault setup host port behind before after same h = (h.0.1.
 comes_faults end.NoMemory setup host port behind before after same h = (h.0.1.1 ∙ same, ap (λ (o : SinkState). o.faults) h.1)
 
 -- the counts where there is no setup
-none_faults : (answer : AtEnd) (config : Option (List ℕ)) (before after : Moment) → GivesSetup (Err answer) config before.files after.files
+pub none_faults : (answer : AtEnd) (config : Option (List ℕ)) (before after : Moment) → GivesSetup (Err answer) config before.files after.files
     → after.out ≡ before.out → FiledFaults (at_note answer) before after
 none_faults end.Done (Some name) before after h out = absurd h
 none_faults (end.Refused f) (Some name) before after h out = (h.1, ap (λ (o : SinkState). o.faults) out)
@@ -83,9 +83,9 @@ at_faults answer place config before after (inl (setup, behind, given, kept, com
     comes_faults answer setup place.host place.port behind before after (none_failed config setup before.files behind given) comes
 at_faults answer place config before after (inr none) = none_faults answer config before after none.0 none.1
 
-pub at_answers : (answer : AtEnd) (place : Place) (config : Option (List ℕ)) (answered : Answered) (before after : Moment)
+pub at_answers : (answer : AtEnd) (place : Place) (config : Option (List ℕ)) (answered : Reported) (before after : Moment)
     → after.input ≡ before.input → At answer config place.host place.port before.files after.files before.out after.out
-    → answered.note ≡ at_note answer → answered.status ≡ status_of (at_note answer) → answered.piped ≡ None → Answers (RefsAt place config) answered before after
+    → answered.note ≡ at_note answer → answered.status ≡ status_of (at_note answer) → answered.piped ≡ None → Reports (RefsAt place config) answered before after
 at_answers answer place config answered before after same h note status none = record {
   status = status ∙ ap status_of (sym note);
   means = record { answer = answer; told = note; at = h; input = same };
@@ -99,6 +99,6 @@ at_once : (place : Place) (config : Option (List ℕ)) (moment : Moment) → At 
 at_once place (Some name) moment = inr (refl, refl)
 at_once place None moment = inr (refl, refl)
 
-pub at_wanting : (place : Place) (config : Option (List ℕ)) (answered : Answered) (before : Moment) → answered.note ≡ Memory → answered.status ≡ 12 → answered.piped ≡ None
-    → Answers (RefsAt place config) answered before before
+pub at_wanting : (place : Place) (config : Option (List ℕ)) (answered : Reported) (before : Moment) → answered.note ≡ Memory → answered.status ≡ 12 → answered.piped ≡ None
+    → Reports (RefsAt place config) answered before before
 at_wanting place config answered before note status none = at_answers end.NoMemory place config answered before before refl (at_once place config before) note status none

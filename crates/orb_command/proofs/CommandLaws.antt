@@ -1,6 +1,6 @@
 -- The answers of the top call, by what its words mean.
 use Rattle.std.proofs.Common.{◌≡◌, ℕ, List, refl, ap, ◌∙◌, subst, sym}
-use Rattle.std.specs.Prelude.{Option, None, Result, Ok, Err}
+use Rattle.std.specs.Prelude.{None, Result, Ok, Err}
 use Rattle.orb_base.specs.Outside.{SinkState}
 use Rattle.orb_base.specs.declared.no_memory.NoMemory.{NoMemory}
 use Rattle.giop_dump.specs.declared.dump_end.DumpEnd.{DumpEnd}
@@ -10,13 +10,13 @@ use Rattle.reference_lines.specs.declared.refs_end.RefsEnd.{RefsEnd}
 use Rattle.reference_lines.specs.declared.refs_end.RefsEnd.TheVariants as refs
 use Rattle.reference_lines.specs.Refs.{Refs, RefsBytes}
 use Rattle.text_streams.proofs.CallerLemmas.{gave_none}
-use Rattle.orb_command.specs.declared.answered.Answered.{Answered}
+use Rattle.orb_command.specs.declared.answered.Reported.{Reported}
 use Rattle.command_words.specs.declared.meaning.Meaning.TheVariants.{Dump, Refs as RefsMeaning, Unbuilt, Unread}
 use Rattle.orb_command.specs.declared.note.Note.TheVariants.{Usage, NotBuilt}
 use Rattle.orb_command.specs.Moment.{Moment}
 use Rattle.orb_command.specs.DumpAnswer.{dump_note}
 use Rattle.orb_command.specs.RefsAnswer.{refs_note}
-use Rattle.orb_command.specs.Command.{status_of, Answers}
+use Rattle.orb_command.specs.Command.{status_of, Reports}
 use Rattle.orb_command.specs.Faults.{StreamFaults}
 
 -- ---- a dump
@@ -29,8 +29,8 @@ dump_faults (Ok dump.ReadFault) before after h = h
 dump_faults (Ok dump.WriteFault) before after h = h
 dump_faults (Err e) before after h = tt
 
-pub dump_answers : (ran : Result DumpEnd NoMemory) (answered : Answered) (before after : Moment) → after.files ≡ before.files → Dumps ran before.input after.input before.out after.out
-    → answered.note ≡ dump_note ran → answered.status ≡ status_of (dump_note ran) → answered.piped ≡ None → Answers Dump answered before after
+pub dump_answers : (ran : Result DumpEnd NoMemory) (answered : Reported) (before after : Moment) → after.files ≡ before.files → Dumps ran before.input after.input before.out after.out
+    → answered.note ≡ dump_note ran → answered.status ≡ status_of (dump_note ran) → answered.piped ≡ None → Reports Dump answered before after
 dump_answers ran answered before after same h note status none = record {
   status = status ∙ ap status_of (sym note);
   means = record { answer = ran; told = note; dumps = h };
@@ -49,8 +49,8 @@ refs_faults (Ok refs.ReadFault) bytes before after h = (h.2, ap (λ (o : SinkSta
 refs_faults (Ok refs.WriteFault) bytes before after h = (h.1, h.3.1)
 refs_faults (Err e) bytes before after h = tt
 
-pub refs_answers : (ran : Result RefsEnd NoMemory) (answered : Answered) (before after : Moment) → after.files ≡ before.files → Refs ran before.input after.input before.out after.out
-    → answered.note ≡ refs_note ran → answered.status ≡ status_of (refs_note ran) → answered.piped ≡ None → Answers RefsMeaning answered before after
+pub refs_answers : (ran : Result RefsEnd NoMemory) (answered : Reported) (before after : Moment) → after.files ≡ before.files → Refs ran before.input after.input before.out after.out
+    → answered.note ≡ refs_note ran → answered.status ≡ status_of (refs_note ran) → answered.piped ≡ None → Reports RefsMeaning answered before after
 refs_answers ran answered before after same h note status none = record {
   status = status ∙ ap status_of (sym note);
   means = record { answer = ran; told = note; refs = h };
@@ -61,7 +61,7 @@ refs_answers ran answered before after same h note status none = record {
 
 -- ---- no command that is built
 
-pub unbuilt_answers : (answered : Answered) (before : Moment) → answered.note ≡ NotBuilt → answered.status ≡ 14 → answered.piped ≡ None → Answers Unbuilt answered before before
+pub unbuilt_answers : (answered : Reported) (before : Moment) → answered.note ≡ NotBuilt → answered.status ≡ 14 → answered.piped ≡ None → Reports Unbuilt answered before before
 unbuilt_answers answered before note status none = record {
   status = status ∙ ap status_of (sym note);
   means = (note, refl);
@@ -70,7 +70,7 @@ unbuilt_answers answered before note status none = record {
   few = gave_none 0 before.input;
 }
 
-pub unread_answers : (answered : Answered) (before : Moment) → answered.note ≡ Usage → answered.status ≡ 1 → answered.piped ≡ None → Answers Unread answered before before
+pub unread_answers : (answered : Reported) (before : Moment) → answered.note ≡ Usage → answered.status ≡ 1 → answered.piped ≡ None → Reports Unread answered before before
 unread_answers answered before note status none = record {
   status = status ∙ ap status_of (sym note);
   means = (note, refl);

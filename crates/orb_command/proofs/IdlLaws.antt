@@ -9,12 +9,12 @@ use Rattle.idl_lines.specs.declared.idl_end.IdlEnd.{IdlEnd}
 use Rattle.idl_lines.specs.declared.idl_end.IdlEnd.TheVariants as end
 use Rattle.text_streams.proofs.CallerLemmas.{gave_none}
 use Rattle.text_streams.specs.Streams.{GaveFew}
-use Rattle.orb_command.specs.declared.answered.Answered.{Answered}
+use Rattle.orb_command.specs.declared.answered.Reported.{Reported}
 use Rattle.command_words.specs.declared.meaning.Meaning.TheVariants.{Idl}
 use Rattle.orb_command.specs.declared.note.Note.TheVariants.{Memory}
 use Rattle.orb_command.specs.Moment.{Moment}
 use Rattle.orb_command.specs.IdlAnswer.{idl_note}
-use Rattle.orb_command.specs.Command.{status_of, Answers}
+use Rattle.orb_command.specs.Command.{status_of, Reports}
 use Rattle.orb_command.specs.Faults.{FiledFaults}
 
 -- the counts of a run
@@ -28,11 +28,11 @@ idl_faults end.ReadFault name before after h = (h.0, ap (λ (o : SinkState). o.f
 idl_faults end.WriteFault name before after h = (h.1, h.0.ends.1)
 idl_faults end.NoMemory name before after h = (h.0, ap (λ (o : SinkState). o.faults) h.1)
 
-pub idl_answers : (answer : IdlEnd) (name : List ℕ) (answered : Answered) (before after : Moment)
+pub idl_answers : (answer : IdlEnd) (name : List ℕ) (answered : Reported) (before after : Moment)
     → after.input ≡ before.input → Lists answer name before.files after.files before.out after.out
     → ((things : List Thing) → FileTells before.files name things → OnlyLists answer things before.out after.out)
     → ((bytes : List ℕ) → IsTold before.files name bytes → ListsExactly answer (text_things bytes) before.out after.out)
-    → answered.note ≡ idl_note answer → answered.status ≡ status_of (idl_note answer) → answered.piped ≡ None → Answers (Idl name) answered before after
+    → answered.note ≡ idl_note answer → answered.status ≡ status_of (idl_note answer) → answered.piped ≡ None → Reports (Idl name) answered before after
 idl_answers answer name answered before after same h only exact note status none = record {
   status = status ∙ ap status_of (sym note);
   means = record { answer = answer; told = note; lists = h; only = only; exact = exact; input = same };
@@ -42,6 +42,6 @@ idl_answers answer name answered before after same h only exact note status none
 }
 
 -- where memory is wanting for the words, nothing was done
-pub idl_wanting : (name : List ℕ) (answered : Answered) (before : Moment) → answered.note ≡ Memory → answered.status ≡ 12 → answered.piped ≡ None
-    → Answers (Idl name) answered before before
+pub idl_wanting : (name : List ℕ) (answered : Reported) (before : Moment) → answered.note ≡ Memory → answered.status ≡ 12 → answered.piped ≡ None
+    → Reports (Idl name) answered before before
 idl_wanting name answered before note status none = idl_answers end.NoMemory name answered before before refl (refl, refl) (λ things tells. tt) (λ bytes told. tt) note status none

@@ -32,14 +32,14 @@ use Rattle.pipe_runs.specs.declared.shown.Shown.{Shown}
 use Rattle.command_words.specs.declared.meaning.PipeWords.{PipeWords}
 use Rattle.text_streams.proofs.CallerLemmas.{gave_none}
 use Rattle.text_streams.specs.Streams.{GaveFew}
-use Rattle.orb_command.specs.declared.answered.Answered.{Answered}
+use Rattle.orb_command.specs.declared.answered.Reported.{Reported}
 use Rattle.command_words.specs.declared.meaning.Meaning.{Meaning}
-use Rattle.command_words.specs.declared.meaning.Meaning.TheVariants.{Pipe, Dump, Refs, RefsAt, Idl, Unbuilt, Unread}
+use Rattle.command_words.specs.declared.meaning.Meaning.TheVariants.{Pipe, Serve, Dump, Refs, RefsAt, Idl, Unbuilt, Unread}
 use Rattle.orb_command.specs.declared.note.Note.{Note}
 use Rattle.orb_command.specs.declared.note.Note.TheVariants.{Memory}
 use Rattle.orb_command.specs.AtAnswer.{at_note}
-use Rattle.orb_command.specs.Command.{status_of, Answers}
-use Rattle.orb_command.specs.Faults.{RunFaults, ConfiguredFaults, PipeFaults}
+use Rattle.orb_command.specs.Command.{status_of, Reports}
+use Rattle.orb_command.specs.Faults.{RunFaults, ConfiguredFaults, PipeFaults, ServeFaults}
 use Rattle.orb_command.specs.Moment.{Moment}
 use Rattle.orb_command.specs.PipeAnswer.{note_of, note_of_run, piped_of, Ran, Declined, PipesSetup, PipesBy}
 use Rattle.orb_command.specs.ServingNotes.{serving_note}
@@ -218,9 +218,9 @@ few_taken : (words : PipeWords) (note : Note) (piped : Option Piped) (before aft
 few_taken words note piped before after (inl (setup, behind, given, kept, comes)) = few_setup words.shown words.batch setup behind note piped before after comes
 few_taken words note piped before after (inr (answer, none, d)) = few_of (at_note answer) note piped before after d
 
-pub pipe_answers : (words : PipeWords) (answered : Answered) (before after : Moment)
+pub pipe_answers : (words : PipeWords) (answered : Reported) (before after : Moment)
     → PipesBy words answered.note answered.piped before.files after.files before.input after.input before.out after.out
-    → answered.status ≡ status_of answered.note → Answers (Pipe words) answered before after
+    → answered.status ≡ status_of answered.note → Reports (Pipe words) answered before after
 pipe_answers words answered before after h status = record {
   status = status;
   means = h;
@@ -235,13 +235,20 @@ wants_config : (config : Option (List ℕ)) (files : FilesState) → IsSome conf
 wants_config (Some name) files h = refl
 wants_config None files h = refl
 
-pub wanting_answers : (command : Meaning) (answered : Answered) (before : Moment) → NamesThings command → answered.note ≡ Memory → answered.status ≡ 12 → answered.piped ≡ None
-    → Answers command answered before before
+pub wanting_answers : (command : Meaning) (answered : Reported) (before : Moment) → NamesThings command → answered.note ≡ Memory → answered.status ≡ 12 → answered.piped ≡ None
+    → Reports command answered before before
 wanting_answers (RefsAt place config) answered before h note status none = at_wanting place config answered before note status none
 wanting_answers (Pipe words) answered before h note status none =
     pipe_answers words answered before before (by_none words end.NoMemory answered.note answered.piped before.files before.files before.input before.out (wants_config words.config before.files h) note none)
     (status ∙ ap status_of (sym note))
 wanting_answers (Idl name) answered before h note status none = idl_wanting name answered before note status none
+wanting_answers (Serve words) answered before h note status none = record {
+  status = status ∙ ap status_of (sym note);
+  means = refl;
+  piped = none;
+  faults = (refl, subst (λ n. ServeFaults n before before) (sym note) (refl, refl));
+  few = gave_none 0 before.input;
+}
 wanting_answers Dump answered before h note status none = absurd h
 wanting_answers Refs answered before h note status none = absurd h
 wanting_answers Unbuilt answered before h note status none = absurd h

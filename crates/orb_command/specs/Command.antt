@@ -1,10 +1,14 @@
 -- The answers of the top call: for each note its cause, and what was written.
-use Rattle.std.specs.Prelude.{◌≡◌, ◌+◌, ℕ, Option, None}
+use Rattle.std.specs.Prelude.{◌≡◌, ◌+◌, ℕ, [], Option, None}
+use Rattle.orb_base.specs.Links.{AcceptorState}
+use Rattle.orb_base.specs.Outside.{SourceState, SinkState}
+use Rattle.orb_nets.specs.Nets.{NetState}
 use Rattle.command_words.specs.declared.meaning.Meaning.{Meaning}
-use Rattle.command_words.specs.declared.meaning.Meaning.TheVariants.{Pipe, Dump, Refs, RefsAt, Idl, Unbuilt, Unread}
+use Rattle.command_words.specs.declared.meaning.Meaning.TheVariants.{Pipe, Serve, Dump, Refs, RefsAt, Idl, Unbuilt, Unread}
 use Rattle.orb_command.specs.declared.answered.Answered.{Answered}
+use Rattle.orb_command.specs.declared.answered.Reported.{Reported}
 use Rattle.orb_command.specs.declared.note.Note.{Note}
-use Rattle.orb_command.specs.declared.note.Note.TheVariants.{Nothing, Usage, Config, Idl as IdlNote, Script, Check, TooLong, ReadFault, WriteFault, Input, Absent, Reference, Memory, Limit, NotBuilt}
+use Rattle.orb_command.specs.declared.note.Note.TheVariants.{Nothing, Usage, Config, Idl as IdlNote, Script, Check, TooLong, ReadFault, WriteFault, NetFault, Input, Absent, Reference, Memory, Limit, NotBuilt}
 use Rattle.conn_engine.specs.declared.read_end.TheConstants.{MAX_TAKEN}
 use Rattle.pipe_runs.specs.declared.piped.Piped.{Piped}
 use Rattle.giop_dump.specs.declared.dump_end.TheConstants.{MAX_DUMPED}
@@ -17,6 +21,7 @@ use Rattle.orb_command.specs.DumpAnswer.{DumpAnswers}
 use Rattle.orb_command.specs.RefsAnswer.{RefsAnswers}
 use Rattle.orb_command.specs.AtAnswer.{AtAnswers}
 use Rattle.orb_command.specs.IdlAnswer.{IdlAnswers}
+use Rattle.orb_command.specs.ServeAnswer.{ServesBy}
 
 -- the exit status of a note
 abbrev pub status_of : Note → ℕ
@@ -29,6 +34,7 @@ status_of (Check _) = 2
 status_of (TooLong _) = 2
 status_of ReadFault = 3
 status_of WriteFault = 4
+status_of NetFault = 5
 status_of (Input _ _) = 8
 status_of (Reference _) = 8
 status_of (Absent _) = 10
@@ -39,6 +45,7 @@ status_of NotBuilt = 14
 -- how many bytes are taken at most: of an input of `refs` one more than it may have, so that a longer one is seen
 abbrev pub most_taken : Meaning → ℕ
 most_taken (Pipe words) = MAX_TAKEN
+most_taken (Serve words) = 0
 most_taken Dump = MAX_DUMPED
 most_taken Refs = MAX_REFERENCE + 2
 most_taken (RefsAt place config) = 0
@@ -46,9 +53,11 @@ most_taken (Idl name) = 0
 most_taken Unbuilt = 0
 most_taken Unread = 0
 
--- what each note means, and what a run of the pipe says, by what the words mean; a command that isn't there does nothing
+-- what each note means, and what a run of the pipe says, by what the words mean; a command that isn't there does nothing, and the server
+-- takes no input
 abbrev pub NoteMeans : Meaning → Note → Option Piped → Moment → Moment → Type 0
 NoteMeans (Pipe words) note piped before after = PipeAnswers words note piped before after
+NoteMeans (Serve words) note piped before after = after.input ≡ before.input
 NoteMeans Dump note piped before after = DumpAnswers note before after
 NoteMeans Refs note piped before after = RefsAnswers note before after
 NoteMeans (RefsAt place config) note piped before after = AtAnswers place config note before after
@@ -59,6 +68,7 @@ NoteMeans Unread note piped before after = (note ≡ Usage) × (after ≡ before
 -- no other command than the pipe has a run of it
 abbrev pub PipedBy : Meaning → Option Piped → Type 0
 PipedBy (Pipe words) piped = Unit {0}
+PipedBy (Serve words) piped = piped ≡ None
 PipedBy Dump piped = piped ≡ None
 PipedBy Refs piped = piped ≡ None
 PipedBy (RefsAt place config) piped = piped ≡ None
@@ -66,11 +76,40 @@ PipedBy (Idl name) piped = piped ≡ None
 PipedBy Unbuilt piped = piped ≡ None
 PipedBy Unread piped = piped ≡ None
 
--- what the program answers, between two moments: the status is that of the note, which means what was read and written, and
--- an input is taken no further than its command takes it
-pub record Answers (command : Meaning) (answered : Answered) (before after : Moment) : Type 0 where
-  pub status : answered.status ≡ status_of answered.note
-  pub means : NoteMeans command answered.note answered.piped before after
-  pub piped : PipedBy command answered.piped
-  pub faults : FaultsAt command answered.note before after
+-- what a command comes to between two moments: the status is that of the note, which means what was read and written, and an input is taken
+-- no further than its command takes it
+pub record Reports (command : Meaning) (reported : Reported) (before after : Moment) : Type 0 where
+  pub status : reported.status ≡ status_of reported.note
+  pub means : NoteMeans command reported.note reported.piped before after
+  pub piped : PipedBy command reported.piped
+  pub faults : FaultsAt command reported.note before after
   pub few : GaveFew (most_taken command) before.input after.input
+
+module _ {A I O : Type 0} where
+  -- what is answered, without the server's part
+  abbrev pub report_of : Answered A I O → Reported
+  report_of answered = record { status = answered.status; note = answered.note; piped = answered.piped }
+
+  -- nothing was served
+  pub record ServesNothing (answered : Answered A I O) (net net' : NetState I O) : Type 0 where
+    pub run : answered.run ≡ None
+    pub acceptors : answered.acceptors.items ≡ []
+    pub unasked : net' ≡ net
+
+  module _ (state : A → AcceptorState I O) (source : I → SourceState) (sink : O → SinkState) where
+    -- what was served, by what the words mean: nothing but by the server
+    abbrev pub ServedBy : Meaning → Answered A I O → Moment → Moment → NetState I O → NetState I O → Type 0
+    ServedBy (Serve words) answered before after net net' =
+        ServesBy state source sink words answered.note answered.run answered.acceptors.items before.files after.files net net' before.out after.out
+    ServedBy (Pipe words) answered before after net net' = ServesNothing answered net net'
+    ServedBy Dump answered before after net net' = ServesNothing answered net net'
+    ServedBy Refs answered before after net net' = ServesNothing answered net net'
+    ServedBy (RefsAt place config) answered before after net net' = ServesNothing answered net net'
+    ServedBy (Idl name) answered before after net net' = ServesNothing answered net net'
+    ServedBy Unbuilt answered before after net net' = ServesNothing answered net net'
+    ServedBy Unread answered before after net net' = ServesNothing answered net net'
+
+    -- what the program answers, between two moments, and what it served
+    pub record Answers (command : Meaning) (answered : Answered A I O) (before after : Moment) (net net' : NetState I O) : Type 0 where
+      pub reports : Reports command (report_of answered) before after
+      pub served : ServedBy command answered before after net net'

@@ -5,9 +5,9 @@ use Rattle.pipe_runs.specs.Pipe.{MayFail}
 use Rattle.text_streams.specs.Faults.{NoneFailed, ReadFailed, WriteFailed}
 use Rattle.orb_command.specs.Moment.{Moment}
 use Rattle.command_words.specs.declared.meaning.Meaning.{Meaning}
-use Rattle.command_words.specs.declared.meaning.Meaning.TheVariants.{Pipe, Dump, Refs, RefsAt, Idl, Unbuilt, Unread}
+use Rattle.command_words.specs.declared.meaning.Meaning.TheVariants.{Pipe, Serve, Dump, Refs, RefsAt, Idl, Unbuilt, Unread}
 use Rattle.orb_command.specs.declared.note.Note.{Note}
-use Rattle.orb_command.specs.declared.note.Note.TheVariants.{Nothing, Usage, Config, Idl as IdlNote, Script, Check, TooLong, ReadFault, WriteFault, Input, Absent, Reference, Memory, Limit, NotBuilt}
+use Rattle.orb_command.specs.declared.note.Note.TheVariants.{Nothing, Usage, Config, Idl as IdlNote, Script, Check, TooLong, ReadFault, WriteFault, NetFault, Input, Absent, Reference, Memory, Limit, NotBuilt}
 
 -- of a command over the input, but for the pipe: none but at a fault, the input's alone at a read fault, and the output's alone at a
 -- write fault. A reference that is too long is told also where the next read fails. Such a command refuses no file
@@ -16,6 +16,7 @@ StreamFaults Nothing before after = NoneFailed before.input after.input before.o
 StreamFaults Usage before after = NoneFailed before.input after.input before.out after.out
 StreamFaults ReadFault before after = ReadFailed before.input after.input before.out after.out
 StreamFaults WriteFault before after = WriteFailed before.input after.input before.out after.out
+StreamFaults NetFault before after = ⊥
 StreamFaults (Input _ _) before after = after.out.faults ≡ before.out.faults
 StreamFaults (Reference _) before after = NoneFailed before.input after.input before.out after.out
 StreamFaults Memory before after = Unit {0}
@@ -44,12 +45,18 @@ FiledFaults (TooLong _) before after = NoFileFailed before after
 FiledFaults (Absent _) before after = NoFileFailed before after
 FiledFaults ReadFault before after = Rose before.files.faults after.files.faults × (after.out.faults ≡ before.out.faults)
 FiledFaults WriteFault before after = (after.files.faults ≡ before.files.faults) × Rose before.out.faults after.out.faults
+FiledFaults NetFault before after = ⊥
 FiledFaults Memory before after = NoFileFailed before after
 FiledFaults NotBuilt before after = ⊥
 FiledFaults Usage before after = ⊥
 FiledFaults (Input _ _) before after = ⊥
 FiledFaults (Reference _) before after = ⊥
 FiledFaults Limit before after = ⊥
+
+-- of the server: as of a command over files; a fault of the net is no fault of theirs
+abbrev pub ServeFaults : Note → Moment → Moment → Type 0
+ServeFaults NetFault before after = NoFileFailed before after
+ServeFaults note before after = FiledFaults note before after
 
 -- of a run of the pipe: none but at a fault, the input's alone at a read fault, and the output's at a write fault, where that of a
 -- read that failed before may stand beside it. A run refuses no file
@@ -59,6 +66,7 @@ RunFaults (Input _ _) before after = NoneFailed before.input after.input before.
 RunFaults Limit before after = NoneFailed before.input after.input before.out after.out
 RunFaults ReadFault before after = ReadFailed before.input after.input before.out after.out
 RunFaults WriteFault before after = MayFail before.input after.input × Rose before.out.faults after.out.faults
+RunFaults NetFault before after = ⊥
 RunFaults Memory before after = Unit {0}
 RunFaults (Config _) before after = ⊥
 RunFaults (IdlNote _) before after = ⊥
@@ -91,6 +99,7 @@ ConfiguredFaults ReadFault before after =
     ⊎ ((after.files.faults ≡ before.files.faults) × ReadFailed before.input after.input before.out after.out)
 ConfiguredFaults WriteFault before after =
     (after.files.faults ≡ before.files.faults) × MayFail before.input after.input × Rose before.out.faults after.out.faults
+ConfiguredFaults NetFault before after = ⊥
 ConfiguredFaults Memory before after = after.files.faults ≡ before.files.faults
 ConfiguredFaults NotBuilt before after = ⊥
 ConfiguredFaults Usage before after = ⊥
@@ -104,6 +113,7 @@ PipeFaults (Some name) note before after = ConfiguredFaults note before after
 -- by the command: one over files leaves the input as it was, and one over the input the store of files
 abbrev pub FaultsAt : Meaning → Note → Moment → Moment → Type 0
 FaultsAt (Pipe words) note before after = PipeFaults words.config note before after
+FaultsAt (Serve words) note before after = (after.input ≡ before.input) × ServeFaults note before after
 FaultsAt Dump note before after = (after.files ≡ before.files) × StreamFaults note before after
 FaultsAt Refs note before after = (after.files ≡ before.files) × StreamFaults note before after
 FaultsAt (RefsAt place config) note before after = (after.input ≡ before.input) × FiledFaults note before after

@@ -5,5 +5,6 @@ pub mod IdlAnswer
 pub mod PipeAnswer
 pub mod DumpAnswer
 pub mod RefsAnswer
+pub mod ServeAnswer
 pub mod Faults
 pub mod Command

@@ -1,11 +1,13 @@
 //! `orb refs --at` over memory: each status with its note, and what is written then.
 
 use super::*;
-use crate::tests::{is_told, told};
+use crate::tests::{Told, is_told, net, told};
 use adapter_policies::ConfigCause;
 use orb_base::{List, MemFile, MemFiles, MemSink, Octets, SteadySource, Text};
 use std::alloc::Global;
+use std::sync::Wait;
 use std::test::Fail;
+use std::thread::Threads;
 
 /// The line of the built-in object at 127.0.0.1:2809.
 const PING: &[u8] =
@@ -51,13 +53,14 @@ pub fn store(alloc: Global, bytes: Octets, failing: &[u64]) -> Result<MemFiles, 
 
 /// What `refs --at 127.0.0.1:2809` answers with this configuration, and writes; the read of a file and the writes of these numbers
 /// fail.
-fn ran(
+fn ran<R: Wait + Threads + Sync>(
+    rt: &R,
     alloc: Global,
     config: Option<&str>,
     bytes: Octets,
     failed_reads: &[u64],
     failed_writes: &[u64],
-) -> Result<(Answered, Vec<u8>), Fail> {
+) -> Result<(Told, Vec<u8>), Fail> {
     let mut words = Vec::new(alloc);
     for word in ["refs", "--at", "127.0.0.1:2809"] {
         words.push(String::from_str(alloc, word)?)?;
@@ -69,7 +72,15 @@ fn ran(
     let mut files = store(alloc, bytes, failed_reads)?;
     let mut input = SteadySource::new(List::new(alloc), List::new(alloc));
     let mut out = MemSink::new(alloc, list(alloc, &[9, 5])?, list(alloc, failed_writes)?);
-    let answered = orb_main(alloc, words.as_slice(), &mut files, &mut input, &mut out);
+    let answered = orb_main(
+        rt,
+        alloc,
+        words.as_slice(),
+        &mut net(alloc),
+        &mut files,
+        &mut input,
+        &mut out,
+    );
     Ok((answered, Vec::from_slice(alloc, out.held())?))
 }
 
@@ -82,7 +93,8 @@ struct Want<'a> {
 }
 
 /// Whether a run answers and writes so.
-fn is_so(
+fn is_so<R: Wait + Threads + Sync>(
+    rt: &R,
     alloc: Global,
     config: Option<&str>,
     bytes: &[u8],
@@ -91,7 +103,7 @@ fn is_so(
     want: &Want<'_>,
 ) -> Result<bool, Fail> {
     let bytes = list(alloc, bytes)?;
-    let (answered, text) = ran(alloc, config, bytes, failed_reads, failed_writes)?;
+    let (answered, text) = ran(rt, alloc, config, bytes, failed_reads, failed_writes)?;
     Ok(
         is_told(alloc, &answered, want.note)?
             && answered.status == want.status
@@ -127,17 +139,17 @@ fn references_at_an_address_have_their_status(rt: HostRuntime) -> Result<(), Fai
         note: "Absent(Idl)",
         written: b"",
     };
-    assert!(rt; is_so(alloc, None, OBJECT, &[0], &[], &done)?);
-    assert!(rt; is_so(alloc, Some("c"), OBJECT, &[], &[], &done)?);
-    assert!(rt; is_so(alloc, Some("c"), OBJECT, &[0], &[], &unread)?);
-    assert!(rt; is_so(alloc, Some("c"), OBJECT, &[], &[1], &unwritten)?);
-    assert!(rt; is_so(alloc, Some("d"), OBJECT, &[], &[], &absent)?);
-    assert!(rt; is_so(alloc, Some("c"), FILED, &[], &[], &without)?);
+    assert!(rt; is_so(&rt, alloc, None, OBJECT, &[0], &[], &done)?);
+    assert!(rt; is_so(&rt, alloc, Some("c"), OBJECT, &[], &[], &done)?);
+    assert!(rt; is_so(&rt, alloc, Some("c"), OBJECT, &[0], &[], &unread)?);
+    assert!(rt; is_so(&rt, alloc, Some("c"), OBJECT, &[], &[1], &unwritten)?);
+    assert!(rt; is_so(&rt, alloc, Some("d"), OBJECT, &[], &[], &absent)?);
+    assert!(rt; is_so(&rt, alloc, Some("c"), FILED, &[], &[], &without)?);
     Ok(())
 }
 
 /// Whether the configuration is refused with this cause at this path.
-pub fn refuses(answered: &Answered, cause: ConfigCause, path: &str) -> bool {
+pub fn refuses(answered: &Told, cause: ConfigCause, path: &str) -> bool {
     match &answered.note {
         Note::Config(fault) => {
             answered.status == 2 && fault.cause == cause && fault.path.as_slice() == path.as_bytes()
@@ -158,7 +170,7 @@ fn the_first_fault_of_a_configuration_is_told(rt: HostRuntime) -> Result<(), Fai
             "object[0].interface",
         ),
     ] {
-        let (answered, text) = ran(alloc, Some("c"), list(alloc, bytes)?, &[], &[])?;
+        let (answered, text) = ran(&rt, alloc, Some("c"), list(alloc, bytes)?, &[], &[])?;
         assert!(rt; refuses(&answered, cause, path), "{path}");
         assert_eq!(rt; text.len(), 0, "{path}");
     }
@@ -173,7 +185,7 @@ fn a_longer_configuration_is_not_read(rt: HostRuntime) -> Result<(), Fail> {
     for _ in 0..1_048_577 {
         bytes.push(b' ')?;
     }
-    let (answered, text) = ran(alloc, Some("c"), List::from_vec(bytes), &[], &[])?;
+    let (answered, text) = ran(&rt, alloc, Some("c"), List::from_vec(bytes), &[], &[])?;
     assert_eq!(rt; answered.status, 2);
     assert_eq!(rt; told(alloc, &answered)?.as_str(), "TooLong(Config)");
     assert_eq!(rt; text.len(), 0);

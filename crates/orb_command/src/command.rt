@@ -5,20 +5,24 @@ ghost use Rattle.orb_command.specs.Moment.{moment};
 ghost use Rattle.orb_command.specs.Command.{Answers};
 ghost use Rattle.orb_command.specs.Command as Spec;
 
-use crate::answered::Answered;
+use crate::answered::{Answered, Reported};
 use crate::at_note::note_at;
 use crate::dump_note::dump_note;
 use crate::idl_note::idl_note;
 use crate::note::Note;
 use crate::pipe_note::{Told, run_pipe};
 use crate::refs_note::refs_note;
+use crate::serve_note::{ServeTold, run_server};
 use command_words::{Meaning, read_words};
 use giop_dump::dump_run;
 use idl_lines::idl_run;
 use object_lines::at_run;
 use orb_base::{Files, NoMemory, Sink, Source};
+use orb_nets::Net;
 use reference_lines::refs_run;
 use std::alloc::Global;
+use std::sync::Wait;
+use std::thread::Threads;
 
 /// The status of a note.
 fn status_of(note: &Note) -> u8
@@ -30,6 +34,7 @@ fn status_of(note: &Note) -> u8
         Note::Config(_) | Note::Idl(_) | Note::Script(_) | Note::Check(_) | Note::TooLong(_) => 2,
         Note::ReadFault => 3,
         Note::WriteFault => 4,
+        Note::NetFault => 5,
         Note::Input(_, _) | Note::Reference(_) => 8,
         Note::Absent(_) => 10,
         Note::Memory => 12,
@@ -39,13 +44,13 @@ fn status_of(note: &Note) -> u8
 }
 
 /// The note with its status, where nothing was piped.
-fn answered(note: Note) -> Answered
+fn reported(note: Note) -> Reported
     ensures note { result.note ≡ note }
     ensures status { result.status ≡ Spec.status_of note }
     ensures piped { result.piped ≡ None }
 {
     let status = status_of(&note);
-    Answered {
+    Reported {
         status,
         note,
         piped: None,
@@ -53,53 +58,90 @@ fn answered(note: Note) -> Answered
 }
 
 /// What the pipe came to, with its status.
-fn answered_pipe(told: Told) -> Answered
+fn reported_pipe(told: Told) -> Reported
     ensures note { result.note ≡ told.note }
     ensures status { result.status ≡ Spec.status_of told.note }
     ensures piped { result.piped ≡ told.piped }
 {
     let status = status_of(&told.note);
-    Answered {
+    Reported {
         status,
         note: told.note,
         piped: told.piped,
     }
 }
 
-/// Does all that the program does: reads the words, runs the command over the files, the input and the output, and answers the
+/// What the server came to, with its status.
+fn answered_serve<A, I, O>(told: ServeTold<A, I, O>) -> Answered<A, I, O>
+    ensures note { result.note ≡ told.note }
+    ensures status { result.status ≡ Spec.status_of told.note }
+    ensures piped { result.piped ≡ None }
+    ensures run { result.run ≡ told.run }
+    ensures acceptors { result.acceptors ≡ told.acceptors }
+{
+    let status = status_of(&told.note);
+    Answered {
+        status,
+        note: told.note,
+        piped: None,
+        run: told.run,
+        acceptors: told.acceptors,
+    }
+}
+
+/// Does all that the program does: reads the words, runs the command over the net, the files, the input and the output, and answers the
 /// status with its note. `pipe` carries out the requests of its input while it reads them, by the built-in setup, and with
 /// `--config FILE` by the configuration of this name and the interfaces and scripts that it names, in groups of one, or with
-/// `--batch N` of up to N calls, and writes what is answered, or with `--history` the text of the run's history; `dump` writes a line for each message of it, and `refs` writes
+/// `--batch N` of up to N calls, and writes what is answered, or with `--history` the text of the run's history. `serve --config FILE
+/// --listen HOST:PORT` serves the configuration of this name at that address, and writes one line of summary when the run ends. `dump` writes
+/// a line for each message of the input, and `refs` writes
 /// the parts of the reference that it is. `refs --at HOST:PORT` writes the reference of each object of the built-in setup at that
 /// address, and with `--config FILE` of each object of the configuration of this name. `idl --file FILE` lists what the
 /// IDL of the file declares. The other commands aren't built yet. It
-/// returns where each read and write returns. The answer to `pipe` has its run, with the history.
-#[tactic(auto, using(crate::proofs::CommandLaws::dump_answers, crate::proofs::CommandLaws::refs_answers, crate::proofs::CommandLaws::unbuilt_answers, crate::proofs::CommandLaws::unread_answers, crate::proofs::AtLaws::at_answers, crate::proofs::IdlLaws::idl_answers, crate::proofs::PipeNotes::pipe_answers, crate::proofs::PipeNotes::wanting_answers))]
-pub fn orb_main<F: Files, I: Source, O: Sink>(
+/// returns where each read and write returns, and `serve` where its run ends. The answers to `pipe` and `serve` have their runs, with the
+/// history.
+pub fn orb_main<N: Net, F: Files, I: Source, O: Sink, R: Wait + Threads + Sync>(
+    rt: &R,
     alloc: Global,
     words: &[String],
+    net: &mut N,
     files: &mut F,
     input: &mut I,
     out: &mut O,
-) -> Answered
+) -> Answered<N::Acc, N::In, N::Out>
     // The status is that of the note, and each note has its cause, by what the words mean: 1 exactly where they mean no
-    // command, 14 exactly where they mean one that isn't built; 3 only where the count of faults of the input or of the files rose, and
-    // 4 only where that of the output did; 8 and 13 of `dump`, and 8 of `refs`, exactly where the bytes that it took say so, and of
-    // `pipe` what its history and its bytes say; 2 and 10 exactly where the files say so.
-    ensures { Answers (command_of string_bytes words.now) result
+    // command, 14 exactly where they mean one that isn't built; 3 only where the count of faults of the input or of the files rose,
+    // 4 only where that of the output did, and 5 only where that of the net did; 8 and 13 of `dump`, and 8 of `refs`, exactly where the
+    // bytes that it took say so, and of `pipe` what its history and its bytes say; 2 and 10 exactly where the files say so. A run of `serve`
+    // is one legal history, whose summary is written.
+    ensures { Answers N.Acc.state N.In.state N.Out.state (command_of string_bytes words.now) result
         (moment (F.state files.old) (I.state input.old) (O.state out.old))
-        (moment (F.state files.new) (I.state input.new) (O.state out.new)) }
+        (moment (F.state files.new) (I.state input.new) (O.state out.new)) (N.state net.old) (N.state net.new) }
 {
     match read_words(alloc, words) {
-        Ok(Meaning::Pipe(words)) => answered_pipe(run_pipe(alloc, files, &words, input, out)),
-        Ok(Meaning::Dump) => answered(dump_note(dump_run(alloc, input, out))),
-        Ok(Meaning::Refs) => answered(refs_note(refs_run(alloc, input, out))),
-        Ok(Meaning::RefsAt(at, config)) => {
-            answered(note_at(at_run(alloc, files, out, config.as_ref(), &at)))
+        Ok(Meaning::Pipe(words)) => Answered::plain(
+            alloc,
+            reported_pipe(run_pipe(alloc, files, &words, input, out)),
+        ),
+        Ok(Meaning::Serve(words)) => {
+            answered_serve(run_server(rt, alloc, net, files, &words, out))
         }
-        Ok(Meaning::Idl(name)) => answered(idl_note(idl_run(alloc, files, &name, out))),
-        Ok(Meaning::Unbuilt) => answered(Note::NotBuilt),
-        Ok(Meaning::Unread) => answered(Note::Usage),
-        Err(NoMemory) => answered(Note::Memory),
+        Ok(Meaning::Dump) => {
+            Answered::plain(alloc, reported(dump_note(dump_run(alloc, input, out))))
+        }
+        Ok(Meaning::Refs) => {
+            Answered::plain(alloc, reported(refs_note(refs_run(alloc, input, out))))
+        }
+        Ok(Meaning::RefsAt(at, config)) => Answered::plain(
+            alloc,
+            reported(note_at(at_run(alloc, files, out, config.as_ref(), &at))),
+        ),
+        Ok(Meaning::Idl(name)) => Answered::plain(
+            alloc,
+            reported(idl_note(idl_run(alloc, files, &name, out))),
+        ),
+        Ok(Meaning::Unbuilt) => Answered::plain(alloc, reported(Note::NotBuilt)),
+        Ok(Meaning::Unread) => Answered::plain(alloc, reported(Note::Usage)),
+        Err(NoMemory) => Answered::plain(alloc, reported(Note::Memory)),
     }
 }

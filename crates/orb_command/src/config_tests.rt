@@ -2,11 +2,13 @@
 
 use super::*;
 use crate::at_tests::{FILED, UNSERVED, list, refuses, store};
-use crate::tests::is_told;
+use crate::tests::{Told, is_told, net};
 use adapter_policies::ConfigCause;
 use orb_base::{List, MemSink, MemSource};
 use std::alloc::Global;
+use std::sync::Wait;
 use std::test::Fail;
+use std::thread::Threads;
 
 /// `ping` under CLIENT_PROPAGATED at 7; under SERVER_DECLARED at 30 `decl` at its own priority of 32767, and `down` at 30.
 const TWO: &[u8] =
@@ -64,7 +66,11 @@ struct Run<'a> {
 }
 
 /// What the pipe answers so, and writes.
-fn ran(alloc: Global, run: &Run<'_>) -> Result<(Answered, Vec<u8>), Fail> {
+fn ran<R: Wait + Threads + Sync>(
+    rt: &R,
+    alloc: Global,
+    run: &Run<'_>,
+) -> Result<(Told, Vec<u8>), Fail> {
     let mut words = Vec::new(alloc);
     for word in ["pipe", "--config", run.name] {
         words.push(String::from_str(alloc, word)?)?;
@@ -79,19 +85,28 @@ fn ran(alloc: Global, run: &Run<'_>) -> Result<(Answered, Vec<u8>), Fail> {
         list(alloc, run.failed.1)?,
     );
     let mut out = MemSink::new(alloc, list(alloc, &[26, 5])?, list(alloc, run.failed.2)?);
-    let answered = orb_main(alloc, words.as_slice(), &mut files, &mut input, &mut out);
+    let answered = orb_main(
+        rt,
+        alloc,
+        words.as_slice(),
+        &mut net(alloc),
+        &mut files,
+        &mut input,
+        &mut out,
+    );
     Ok((answered, Vec::from_slice(alloc, out.held())?))
 }
 
 /// Whether a run answers and writes so.
-fn is_so(
+fn is_so<R: Wait + Threads + Sync>(
+    rt: &R,
     alloc: Global,
     run: &Run<'_>,
     status: u8,
     note: &str,
     written: &[u8],
 ) -> Result<bool, Fail> {
-    let (answered, text) = ran(alloc, run)?;
+    let (answered, text) = ran(rt, alloc, run)?;
     Ok(is_told(alloc, &answered, note)? && answered.status == status && text.as_slice() == written)
 }
 
@@ -110,12 +125,21 @@ fn of<'a>(config: &'a [u8], name: &'a str, input: &'a [u8]) -> Run<'a> {
 #[test]
 fn the_setup_is_that_of_the_configuration(rt: HostRuntime) -> Result<(), Fail> {
     let alloc = rt.alloc();
-    assert!(rt; is_so(alloc, &of(TWO, "c", THREE), 0, "Nothing", THREE_REPLIES)?);
-    assert!(rt; is_so(alloc, &of(TWO, "c", b""), 0, "Nothing", b"")?);
-    assert!(rt; is_so(alloc, &of(TWO, "c", PONG), 0, "Nothing", NO_OBJECT)?);
-    assert!(rt; is_so(alloc, &of(FILED, "c", PING), 10, "Absent(Idl)", b"")?);
-    assert!(rt; is_so(alloc, &of(TWO, "d", THREE), 10, "Absent(Config)", b"")?);
-    assert!(rt; is_so(alloc, &of(TWO, "-c", THREE), 14, "NotBuilt", b"")?);
+    assert!(rt;
+        is_so(
+            &rt,
+            alloc,
+            &of(TWO, "c", THREE),
+            0,
+            "Nothing",
+            THREE_REPLIES
+        )?
+    );
+    assert!(rt; is_so(&rt, alloc, &of(TWO, "c", b""), 0, "Nothing", b"")?);
+    assert!(rt; is_so(&rt, alloc, &of(TWO, "c", PONG), 0, "Nothing", NO_OBJECT)?);
+    assert!(rt; is_so(&rt, alloc, &of(FILED, "c", PING), 10, "Absent(Idl)", b"")?);
+    assert!(rt; is_so(&rt, alloc, &of(TWO, "d", THREE), 10, "Absent(Config)", b"")?);
+    assert!(rt; is_so(&rt, alloc, &of(TWO, "-c", THREE), 14, "NotBuilt", b"")?);
     Ok(())
 }
 
@@ -136,9 +160,9 @@ fn a_fault_of_each_device_is_told(rt: HostRuntime) -> Result<(), Fail> {
         failed: (&[], &[], &[1]),
         ..run
     };
-    assert!(rt; is_so(alloc, &unread, 3, "ReadFault", b"")?);
-    assert!(rt; is_so(alloc, &cut, 3, "ReadFault", b"")?);
-    assert!(rt; is_so(alloc, &unwritten, 4, "WriteFault", PING_REPLY)?);
+    assert!(rt; is_so(&rt, alloc, &unread, 3, "ReadFault", b"")?);
+    assert!(rt; is_so(&rt, alloc, &cut, 3, "ReadFault", b"")?);
+    assert!(rt; is_so(&rt, alloc, &unwritten, 4, "WriteFault", PING_REPLY)?);
     Ok(())
 }
 
@@ -155,7 +179,10 @@ fn any_pool_runs(rt: HostRuntime) -> Result<(), Fail> {
         let mut config = String::from_str(alloc, front)?;
         config.push_str(REST)?;
         let run = of(config.as_bytes(), "c", PING);
-        assert!(rt; is_so(alloc, &run, 0, "Nothing", PING_REPLY)?, "{front}");
+        assert!(rt;
+            is_so(&rt, alloc, &run, 0, "Nothing", PING_REPLY)?,
+            "{front}"
+        );
     }
     Ok(())
 }
@@ -173,8 +200,8 @@ fn an_urgent_request_overtakes(rt: HostRuntime) -> Result<(), Fail> {
         options: &["--batch", "3", "--history"],
         ..run
     };
-    assert!(rt; is_so(alloc, &grouped, 0, "Nothing", URGENT_REPLIES)?);
-    assert!(rt; is_so(alloc, &shown, 0, "Nothing", URGENT_HISTORY)?);
+    assert!(rt; is_so(&rt, alloc, &grouped, 0, "Nothing", URGENT_REPLIES)?);
+    assert!(rt; is_so(&rt, alloc, &shown, 0, "Nothing", URGENT_HISTORY)?);
     Ok(())
 }
 
@@ -190,7 +217,7 @@ fn the_first_fault_of_a_configuration_is_told(rt: HostRuntime) -> Result<(), Fai
             "object[0].interface",
         ),
     ] {
-        let (answered, text) = ran(alloc, &of(bytes, "c", PING))?;
+        let (answered, text) = ran(&rt, alloc, &of(bytes, "c", PING))?;
         assert!(rt; refuses(&answered, cause, path), "{path}");
         assert_eq!(rt; text.len(), 0, "{path}");
     }

@@ -3,10 +3,12 @@
 
 use super::*;
 use crate::at_tests::{list, store};
-use crate::tests::is_told;
+use crate::tests::{is_told, net};
 use orb_base::{List, MemSink, SteadySource};
 use std::alloc::Global;
+use std::sync::Wait;
 use std::test::Fail;
+use std::thread::Threads;
 
 /// Lanes 10 and 20; the priorities 0 to 99 have native ones; `ping` under CLIENT_PROPAGATED at 10, and `decl` under SERVER_DECLARED at 20.
 const CONFIG: &[u8] =
@@ -88,7 +90,7 @@ fn row_of(alloc: Global, text: &str) -> Result<Row<'_>, Fail> {
 }
 
 /// Whether the pipe answers and writes so.
-fn is_so(alloc: Global, row: Row<'_>) -> Result<bool, Fail> {
+fn is_so<R: Wait + Threads + Sync>(rt: &R, alloc: Global, row: Row<'_>) -> Result<bool, Fail> {
     let mut words = Vec::new(alloc);
     for word in ["pipe", "--config", "c"] {
         words.push(String::from_str(alloc, word)?)?;
@@ -96,7 +98,15 @@ fn is_so(alloc: Global, row: Row<'_>) -> Result<bool, Fail> {
     let mut files = store(alloc, list(alloc, CONFIG)?, &[])?;
     let mut input = SteadySource::new(row.input, List::new(alloc));
     let mut out = MemSink::new(alloc, List::new(alloc), List::new(alloc));
-    let answered = orb_main(alloc, words.as_slice(), &mut files, &mut input, &mut out);
+    let answered = orb_main(
+        rt,
+        alloc,
+        words.as_slice(),
+        &mut net(alloc),
+        &mut files,
+        &mut input,
+        &mut out,
+    );
     let status = answered.status.to_string(alloc)?;
     Ok(
         is_told(alloc, &answered, row.note)?
@@ -110,7 +120,7 @@ fn any_input_is_answered_by_the_rules(rt: HostRuntime) -> Result<(), Fail> {
     for text in ROWS.split('/') {
         let row = row_of(rt.alloc(), text)?;
         let name = row.name;
-        assert!(rt; is_so(rt.alloc(), row)?, "{name}");
+        assert!(rt; is_so(&rt, rt.alloc(), row)?, "{name}");
     }
     Ok(())
 }

@@ -3,10 +3,12 @@
 
 use super::*;
 use crate::at_tests::{list, store};
-use crate::tests::is_told;
+use crate::tests::{Told, is_told, net};
 use orb_base::{List, MemSink, MemSource, NoMemory};
 use std::alloc::Global;
+use std::sync::Wait;
 use std::test::Fail;
+use std::thread::Threads;
 
 /// Lanes 10 and 20 of one static thread each; three requests of 120 bytes together wait; a lower lane lends its thread.
 const TWO_LANES: &str =
@@ -138,7 +140,12 @@ struct Scene<'a> {
 }
 
 /// What the pipe answers so, and writes.
-fn play(alloc: Global, scene: &Scene<'_>, history: bool) -> Result<(Answered, Vec<u8>), Fail> {
+fn play<R: Wait + Threads + Sync>(
+    rt: &R,
+    alloc: Global,
+    scene: &Scene<'_>,
+    history: bool,
+) -> Result<(Told, Vec<u8>), Fail> {
     let mut words = Vec::new(alloc);
     for word in ["pipe", "--config", "c", "--batch", scene.batch] {
         words.push(String::from_str(alloc, word)?)?;
@@ -155,12 +162,21 @@ fn play(alloc: Global, scene: &Scene<'_>, history: bool) -> Result<(Answered, Ve
     let mut files = store(alloc, config, &[])?;
     let mut input = MemSource::new(bytes, List::new(alloc), List::new(alloc));
     let mut out = MemSink::new(alloc, List::new(alloc), List::new(alloc));
-    let answered = orb_main(alloc, words.as_slice(), &mut files, &mut input, &mut out);
+    let answered = orb_main(
+        rt,
+        alloc,
+        words.as_slice(),
+        &mut net(alloc),
+        &mut files,
+        &mut input,
+        &mut out,
+    );
     Ok((answered, Vec::from_slice(alloc, out.held())?))
 }
 
 /// Whether a scene ends so, with these messages.
-fn says(
+fn says<R: Wait + Threads + Sync>(
+    rt: &R,
     alloc: Global,
     scene: &Scene<'_>,
     said: &[Said],
@@ -171,7 +187,7 @@ fn says(
     for message in said {
         spell_said(&mut wanted, *message)?;
     }
-    let (answered, written) = play(alloc, scene, false)?;
+    let (answered, written) = play(rt, alloc, scene, false)?;
     Ok(
         is_told(alloc, &answered, note)?
             && answered.status == status
@@ -300,7 +316,7 @@ fn pools_lend_keep_and_refuse(rt: HostRuntime) -> Result<(), Fail> {
         ),
     ];
     for (scene, said) in rows {
-        let is_so = says(rt.alloc(), &scene, said, 0, "Nothing")?;
+        let is_so = says(&rt, rt.alloc(), &scene, said, 0, "Nothing")?;
         assert!(rt; is_so, "{}", scene.story);
     }
     Ok(())
@@ -326,7 +342,7 @@ fn a_run_closes_at_its_limit(rt: HostRuntime) -> Result<(), Fail> {
         Said::Reply(3, 1),
         Said::Close,
     ];
-    assert!(rt; says(rt.alloc(), &scene, &said, 13, "Limit")?);
+    assert!(rt; says(&rt, rt.alloc(), &scene, &said, 13, "Limit")?);
     Ok(())
 }
 
@@ -361,10 +377,19 @@ fn histories_tell_cancelled_requests_and_made_threads(rt: HostRuntime) -> Result
         ..cancelled
     };
     for (scene, text) in [(cancelled, CANCELLED), (made, MADE)] {
-        let (answered, written) = play(rt.alloc(), &scene, true)?;
+        let (answered, written) = play(&rt, rt.alloc(), &scene, true)?;
         assert_eq!(rt; answered.status, 0, "{}", scene.story);
         assert_eq!(rt; written.as_slice(), text.as_bytes(), "{}", scene.story);
     }
-    assert!(rt; says(rt.alloc(), &cancelled, &[Said::Reply(1, 1)], 0, "Nothing")?);
+    assert!(rt;
+        says(
+            &rt,
+            rt.alloc(),
+            &cancelled,
+            &[Said::Reply(1, 1)],
+            0,
+            "Nothing"
+        )?
+    );
     Ok(())
 }

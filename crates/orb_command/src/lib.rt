@@ -1,4 +1,4 @@
-//! The top call of the program: it does all that `orb` does, over the files, the source and the sink that it is handed.
+//! The top call of the program: it does all that `orb` does, over the net, the files, the source and the sink that it is handed.
 #![tactic(auto)]
 
 mod answered;
@@ -9,8 +9,9 @@ mod idl_note;
 mod note;
 mod pipe_note;
 mod refs_note;
+mod serve_note;
 
-pub use answered::Answered;
+pub use answered::{Answered, Reported};
 pub use command::orb_main;
 pub use note::{Note, Role};
 
@@ -26,6 +27,8 @@ mod idl_tests;
 mod lane_tests;
 #[cfg(test)]
 mod script_tests;
+#[cfg(test)]
+mod serve_tests;
 #[cfg(test)]
 mod tests;
 #[cfg(test)]

@@ -39,6 +39,8 @@ pub enum Note {
     ReadFault,
     /// The output failed.
     WriteFault,
+    /// The net failed.
+    NetFault,
     /// The input is refused at this offset.
     Input(u64, Fault),
     /// There is no file of the name that the words or the configuration have.

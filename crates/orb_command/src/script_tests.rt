@@ -3,11 +3,13 @@
 
 use super::*;
 use crate::at_tests::{FILED, list, put, refuses};
-use crate::tests::is_told;
+use crate::tests::{Told, is_told, net};
 use adapter_policies::ConfigCause;
 use orb_base::{List, MemFile, MemFiles, MemSink, SteadySource};
 use std::alloc::Global;
+use std::sync::Wait;
 use std::test::Fail;
+use std::thread::Threads;
 
 const IDL: &[u8] =
     b"module M {\n  exception Low { short least; };\n  interface V { short limited(in short wish, out boolean cut) raises (Low); };\n};\n";
@@ -36,13 +38,14 @@ const ANSWERED: &[u8] =
     b"GIOP\x01\x02\0\x01\0\0\0\x0f\0\0\0\x01\0\0\0\0\0\0\0\0\0\x64\x01GIOP\x01\x02\0\x01\0\0\0\x20\0\0\0\x02\0\0\0\x01\0\0\0\0\0\0\0\x0eIDL:M/Low:1.0\0\0\0GIOP\x01\x02\0\x01\0\0\0\x38\0\0\0\x03\0\0\0\x02\0\0\0\0\0\0\0\x1eIDL:omg.org/CORBA/MARSHAL:1.0\0\0\0\0\0\0\x01\0\0\0\x01GIOP\x01\x02\0\x01\0\0\0\x3c\0\0\0\x04\0\0\0\x02\0\0\0\0\0\0\0\x24IDL:omg.org/CORBA/BAD_OPERATION:1.0\0\0\0\0\x01\0\0\0\x01";
 
 /// What the program answers to these words over the files of a configuration `c`, `m.idl` and `m.srv`, and writes.
-fn ran(
+fn ran<R: Wait + Threads + Sync>(
+    rt: &R,
     alloc: Global,
     command: &[&str],
     idl: Option<&[u8]>,
     script: Option<&[u8]>,
     failing: &[u64],
-) -> Result<(Answered, Vec<u8>), Fail> {
+) -> Result<(Told, Vec<u8>), Fail> {
     let mut files = List::new(alloc);
     put(&mut files, alloc, "c", list(alloc, FILED)?)?;
     put_some(&mut files, alloc, "m.idl", idl)?;
@@ -54,7 +57,15 @@ fn ran(
     }
     let mut input = SteadySource::new(list(alloc, ASKED)?, List::new(alloc));
     let mut out = MemSink::new(alloc, List::new(alloc), List::new(alloc));
-    let answered = orb_main(alloc, words.as_slice(), &mut files, &mut input, &mut out);
+    let answered = orb_main(
+        rt,
+        alloc,
+        words.as_slice(),
+        &mut net(alloc),
+        &mut files,
+        &mut input,
+        &mut out,
+    );
     Ok((answered, Vec::from_slice(alloc, out.held())?))
 }
 
@@ -76,11 +87,11 @@ const REFS: &[&str] = &["refs", "--at", "127.0.0.1:2809", "--config", "c"];
 
 #[test]
 fn servants_of_scripts_answer(rt: HostRuntime) -> Result<(), Fail> {
-    let (answered, text) = ran(rt.alloc(), PIPE, Some(IDL), Some(SCRIPT), &[])?;
+    let (answered, text) = ran(&rt, rt.alloc(), PIPE, Some(IDL), Some(SCRIPT), &[])?;
     assert!(rt; is_told(rt.alloc(), &answered, "Nothing")?);
     assert_eq!(rt; answered.status, 0);
     assert_eq!(rt; text.as_slice(), ANSWERED);
-    let (answered, text) = ran(rt.alloc(), REFS, Some(IDL), Some(SCRIPT), &[])?;
+    let (answered, text) = ran(&rt, rt.alloc(), REFS, Some(IDL), Some(SCRIPT), &[])?;
     assert_eq!(rt; answered.status, 0);
     assert!(rt;
         text.as_slice()
@@ -117,7 +128,7 @@ fn texts_have_their_faults(rt: HostRuntime) -> Result<(), Fail> {
     ];
     for (idl, script, status, note) in rows {
         for command in [PIPE, REFS] {
-            let (answered, text) = ran(alloc, command, idl, script, &[])?;
+            let (answered, text) = ran(&rt, alloc, command, idl, script, &[])?;
             assert!(rt; is_told(alloc, &answered, note)?, "{note}");
             assert_eq!(rt; answered.status, status, "{note}");
             assert!(rt; answered.piped.is_none() && text.is_empty(), "{note}");
@@ -125,10 +136,10 @@ fn texts_have_their_faults(rt: HostRuntime) -> Result<(), Fail> {
     }
     // The store fails at each of the three files in its turn.
     for n in [0u64, 1, 2] {
-        let (answered, text) = ran(alloc, PIPE, Some(IDL), Some(SCRIPT), &[n])?;
+        let (answered, text) = ran(&rt, alloc, PIPE, Some(IDL), Some(SCRIPT), &[n])?;
         assert!(rt; answered.status == 3 && text.is_empty(), "{n}");
     }
-    let (answered, _) = ran(alloc, PIPE, Some(IDL), Some(NO_SERVANT), &[])?;
+    let (answered, _) = ran(&rt, alloc, PIPE, Some(IDL), Some(NO_SERVANT), &[])?;
     assert!(rt;
         refuses(
             &answered,

@@ -1,9 +1,13 @@
 //! The program over memory: what it reads, writes and answers, and what it does when a device fails.
 
 use super::*;
-use orb_base::{List, MemSink, MemSource, SteadyFiles, SteadySource};
+use orb_base::{List, MemAcceptor, MemSink, MemSource, SteadyFiles, SteadySource};
+use orb_nets::MemNet;
 use std::alloc::Global;
+use std::collections::LinkedList;
+use std::sync::Wait;
 use std::test::Fail;
+use std::thread::Threads;
 
 /// The request of id 1 for `current` of `ping`, and its reply: the priority 100.
 const PING_REQUEST: &[u8] =
@@ -99,6 +103,19 @@ const EMPTY: Row = Row {
 /// Reads of one byte each.
 const ONES: &[usize] = &[1; 64];
 
+/// What is answered over a net in memory.
+pub type Told = Answered<MemAcceptor, MemSource, MemSink>;
+
+/// A net that nobody reaches.
+pub fn net(alloc: Global) -> MemNet {
+    MemNet::new(
+        alloc,
+        LinkedList::new(alloc),
+        LinkedList::new(alloc),
+        List::new(alloc),
+    )
+}
+
 fn list<T: Copy>(alloc: Global, items: &[T]) -> Result<List<T>, Fail> {
     Ok(List::from_vec(Vec::from_slice(alloc, items)?))
 }
@@ -112,19 +129,23 @@ fn strings(alloc: Global, words: &[&str]) -> Result<Vec<String>, Fail> {
 }
 
 /// The note as it is written in a program.
-pub fn told(alloc: Global, answered: &Answered) -> Result<String, Fail> {
+pub fn told(alloc: Global, answered: &Told) -> Result<String, Fail> {
     let note = &answered.note;
     Ok(format!(in alloc; "{note:?}")?)
 }
 
 /// Whether this is the note that was answered.
-pub fn is_told(alloc: Global, answered: &Answered, note: &str) -> Result<bool, Fail> {
+pub fn is_told(alloc: Global, answered: &Told, note: &str) -> Result<bool, Fail> {
     let told = told(alloc, answered)?;
     Ok(told.as_str() == note)
 }
 
 /// What a run answers and writes.
-fn ran(alloc: Global, row: &Row) -> Result<(Answered, Vec<u8>), Fail> {
+fn ran<R: Wait + Threads + Sync>(
+    rt: &R,
+    alloc: Global,
+    row: &Row,
+) -> Result<(Told, Vec<u8>), Fail> {
     let words = strings(alloc, row.words)?;
     let mut input = MemSource::new(
         list(alloc, row.input)?,
@@ -137,13 +158,21 @@ fn ran(alloc: Global, row: &Row) -> Result<(Answered, Vec<u8>), Fail> {
         list(alloc, row.failed_writes)?,
     );
     let mut files = SteadyFiles::new(List::new(alloc));
-    let answered = orb_main(alloc, words.as_slice(), &mut files, &mut input, &mut out);
+    let answered = orb_main(
+        rt,
+        alloc,
+        words.as_slice(),
+        &mut net(alloc),
+        &mut files,
+        &mut input,
+        &mut out,
+    );
     Ok((answered, Vec::from_slice(alloc, out.held())?))
 }
 
 /// Whether a run answers and writes what its row wants.
-fn is_row(alloc: Global, row: &Row) -> Result<bool, Fail> {
-    let (answered, output) = ran(alloc, row)?;
+fn is_row<R: Wait + Threads + Sync>(rt: &R, alloc: Global, row: &Row) -> Result<bool, Fail> {
+    let (answered, output) = ran(rt, alloc, row)?;
     Ok(
         is_told(alloc, &answered, row.note)?
             && answered.status == row.status
@@ -240,7 +269,7 @@ fn the_pipe_answers_each_ping(rt: HostRuntime) -> Result<(), Fail> {
             ..EMPTY
         },
     ] {
-        let is_so = is_row(rt.alloc(), &row)?;
+        let is_so = is_row(&rt, rt.alloc(), &row)?;
         assert!(rt; is_so, "{}", row.name);
     }
     Ok(())
@@ -318,7 +347,7 @@ fn the_pipe_tells_its_faults(rt: HostRuntime) -> Result<(), Fail> {
             ..EMPTY
         },
     ] {
-        let is_so = is_row(rt.alloc(), &row)?;
+        let is_so = is_row(&rt, rt.alloc(), &row)?;
         assert!(rt; is_so, "{}", row.name);
     }
     Ok(())
@@ -353,7 +382,7 @@ fn words_are_read_first(rt: HostRuntime) -> Result<(), Fail> {
             ..EMPTY
         },
     ] {
-        let is_so = is_row(rt.alloc(), &row)?;
+        let is_so = is_row(&rt, rt.alloc(), &row)?;
         assert!(rt; is_so, "{}", row.name);
     }
     Ok(())
@@ -374,7 +403,15 @@ fn ample_memory_always_gives_the_priority(rt: HostRuntime) -> Result<(), Fail> {
         let mut input = SteadySource::new(request, List::new(alloc));
         let mut out = MemSink::new(alloc, List::new(alloc), List::new(alloc));
         let mut files = SteadyFiles::new(List::new(alloc));
-        let answered = orb_main(alloc, words.as_slice(), &mut files, &mut input, &mut out);
+        let answered = orb_main(
+            &rt,
+            alloc,
+            words.as_slice(),
+            &mut net(alloc),
+            &mut files,
+            &mut input,
+            &mut out,
+        );
         assert_eq!(rt; answered.status, 0);
         assert_eq!(rt; out.held(), reply.as_slice());
         // Offer, Take, Finish, Collect, End, Collect.

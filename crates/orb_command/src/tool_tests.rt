@@ -1,10 +1,12 @@
 //! `orb dump` and `orb refs` over memory: each status with its note, and what is written then.
 
 use super::*;
-use crate::tests::told;
+use crate::tests::{Told, net, told};
 use orb_base::{List, MemSink, MemSource, Octets, SteadyFiles};
 use std::alloc::Global;
+use std::sync::Wait;
 use std::test::Fail;
+use std::thread::Threads;
 
 /// The request of id 1 for `current` of `ping`.
 const PING: &[u8] =
@@ -38,19 +40,28 @@ fn list<T: Copy>(alloc: Global, items: &[T]) -> Result<List<T>, Fail> {
 
 /// What one command answers to an input, read in pieces of at most this length, and writes; the read and the write of these
 /// numbers fail.
-fn ran(
+fn ran<R: Wait + Threads + Sync>(
+    rt: &R,
     alloc: Global,
     word: &str,
     input: Octets,
     failed_reads: &[u64],
     failed_writes: &[u64],
-) -> Result<(Answered, Vec<u8>), Fail> {
+) -> Result<(Told, Vec<u8>), Fail> {
     let mut words = Vec::new(alloc);
     words.push(String::from_str(alloc, word)?)?;
     let mut input = MemSource::new(input, list(alloc, &[40, 24])?, list(alloc, failed_reads)?);
     let mut out = MemSink::new(alloc, list(alloc, &[9, 5])?, list(alloc, failed_writes)?);
     let mut files = SteadyFiles::new(List::new(alloc));
-    let answered = orb_main(alloc, words.as_slice(), &mut files, &mut input, &mut out);
+    let answered = orb_main(
+        rt,
+        alloc,
+        words.as_slice(),
+        &mut net(alloc),
+        &mut files,
+        &mut input,
+        &mut out,
+    );
     Ok((answered, Vec::from_slice(alloc, out.held())?))
 }
 
@@ -115,7 +126,7 @@ fn a_told_input_gives_its_lines_and_status(rt: HostRuntime) -> Result<(), Fail> 
             b"".as_slice(),
         ),
     ] {
-        let (answered, text) = ran(rt.alloc(), word, list(rt.alloc(), input)?, &[], &[])?;
+        let (answered, text) = ran(&rt, rt.alloc(), word, list(rt.alloc(), input)?, &[], &[])?;
         assert_eq!(rt; answered.status, status, "{word}");
         assert_eq!(rt; told(rt.alloc(), &answered)?.as_str(), note, "{word}");
         assert_eq!(rt; text.as_slice(), written, "{word}");
@@ -164,7 +175,7 @@ fn a_failing_device_has_its_status(rt: HostRuntime) -> Result<(), Fail> {
         ),
     ] {
         let input = list(rt.alloc(), input)?;
-        let (answered, text) = ran(rt.alloc(), word, input, failed_reads, failed_writes)?;
+        let (answered, text) = ran(&rt, rt.alloc(), word, input, failed_reads, failed_writes)?;
         assert_eq!(rt; answered.status, status, "{word}");
         assert_eq!(rt; told(rt.alloc(), &answered)?.as_str(), note, "{word}");
         assert_eq!(rt; text.as_slice(), written, "{word}");
@@ -180,7 +191,7 @@ fn a_longer_reference_is_cut(rt: HostRuntime) -> Result<(), Fail> {
     for _ in 0..65_521 {
         url.push(b'a')?;
     }
-    let (answered, text) = ran(alloc, "refs", List::from_vec(url), &[], &[])?;
+    let (answered, text) = ran(&rt, alloc, "refs", List::from_vec(url), &[], &[])?;
     assert_eq!(rt; answered.status, 8);
     assert_eq!(rt; told(alloc, &answered)?.as_str(), "Input(65536, Cut)");
     assert_eq!(rt; text.len(), 0);

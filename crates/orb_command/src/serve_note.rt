@@ -1,0 +1,123 @@
+//! The note of `orb serve`.
+ghost use Rattle.std.specs.Prelude.{◌≡◌, [], None};
+ghost use Rattle.orb_command.specs.ServeAnswer as Spec;
+
+use crate::at_note::{note_at, note_serving};
+use crate::note::Note;
+use adapter_policies::Setup;
+use command_words::ServeWords;
+use dynamic_servants::Servants;
+use object_lines::setup_of;
+use orb_base::{Files, List, Sink};
+use orb_nets::Net;
+use orb_server::Run;
+use server_runs::{ServeEnd, Served, serve_at};
+use setup_servants::servants_of;
+use std::alloc::Global;
+use std::sync::Wait;
+use std::thread::Threads;
+
+/// The note of a run of the server.
+fn note_of_end(end: ServeEnd) -> Note
+    ensures { result ≡ Spec.note_of_end end }
+{
+    match end {
+        ServeEnd::Done => Note::Nothing,
+        ServeEnd::NetFault => Note::NetFault,
+        ServeEnd::WriteFault => Note::WriteFault,
+        ServeEnd::NoMemory => Note::Memory,
+    }
+}
+
+/// What the server came to: its note, its run, if there was one, and its acceptors.
+#[derive(Drop)]
+pub struct ServeTold<A, I, O> {
+    pub note: Note,
+    pub run: Option<Run<I, O>>,
+    pub acceptors: List<A>,
+}
+
+impl<A, I, O> ServeTold<A, I, O> {
+    /// Nothing was listened for.
+    fn without_run(alloc: Global, note: Note) -> ServeTold<A, I, O>
+        ensures note { result.note ≡ note }
+        ensures run { result.run ≡ None }
+        ensures acceptors { result.acceptors.items ≡ [] }
+    {
+        ServeTold {
+            note,
+            run: None,
+            acceptors: List::new(alloc),
+        }
+    }
+
+    /// The server came out so.
+    fn of(served: Served<A, I, O>) -> ServeTold<A, I, O>
+        ensures note { result.note ≡ Spec.note_of_end served.end }
+        ensures run { result.run ≡ served.run }
+        ensures acceptors { result.acceptors ≡ served.acceptors }
+    {
+        ServeTold {
+            note: note_of_end(served.end),
+            run: served.run,
+            acceptors: served.acceptors,
+        }
+    }
+}
+
+/// Runs the server of a setup over its servants.
+#[tactic(auto, using(crate::proofs::ServeNotes::ran_so))]
+fn serve_servants<N: Net, O: Sink, R: Wait + Threads + Sync>(
+    rt: &R,
+    alloc: Global,
+    net: &mut N,
+    setup: &Setup,
+    servants: &Servants,
+    words: &ServeWords,
+    out: &mut O,
+) -> ServeTold<N::Acc, N::In, N::Out>
+    ensures { Spec.RanAt N.Acc.state N.In.state N.Out.state words.now setup.now servants.now result.note result.run result.acceptors.items
+        (N.state net.old) (N.state net.new) (O.state out.old) (O.state out.new) }
+{
+    ServeTold::of(serve_at(rt, alloc, net, setup, servants, &words.at, out))
+}
+
+/// Runs the server of a setup over the servants that its files give.
+#[tactic(auto, using(crate::proofs::ServeNotes::setup_not_served))]
+fn serve_setup<N: Net, F: Files, O: Sink, R: Wait + Threads + Sync>(
+    rt: &R,
+    alloc: Global,
+    net: &mut N,
+    files: &mut F,
+    setup: &Setup,
+    words: &ServeWords,
+    out: &mut O,
+) -> ServeTold<N::Acc, N::In, N::Out>
+    ensures { Spec.ServesSetup N.Acc.state N.In.state N.Out.state words.now setup.now result.note result.run result.acceptors.items
+        (F.state files.old) (F.state files.new) (N.state net.old) (N.state net.new) (O.state out.old) (O.state out.new) }
+{
+    match servants_of(alloc, files, setup) {
+        Ok(servants) => serve_servants(rt, alloc, net, setup, &servants, words, out),
+        Err(fault) => ServeTold::without_run(alloc, note_serving(fault)),
+    }
+}
+
+/// Runs the server of the configuration that the words name, at their address. The first fault in the order of work is told: of the file, of
+/// the configuration, of its interfaces, of its scripts, of an object that no servant serves, of the net, and then of the output.
+#[tactic(auto, using(crate::proofs::ServeNotes::by_setup, crate::proofs::ServeNotes::by_none))]
+pub fn run_server<N: Net, F: Files, O: Sink, R: Wait + Threads + Sync>(
+    rt: &R,
+    alloc: Global,
+    net: &mut N,
+    files: &mut F,
+    words: &ServeWords,
+    out: &mut O,
+) -> ServeTold<N::Acc, N::In, N::Out>
+    ensures { Spec.ServesBy N.Acc.state N.In.state N.Out.state words.now result.note result.run result.acceptors.items
+        (F.state files.old) (F.state files.new) (N.state net.old) (N.state net.new) (O.state out.old) (O.state out.new) }
+{
+    match setup_of(alloc, files, Some(&words.config)) {
+        Ok(setup) => serve_setup(rt, alloc, net, files, &setup, words, out),
+        Err(end) => ServeTold::without_run(alloc, note_at(end)),
+    }
+}
