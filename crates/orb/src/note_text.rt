@@ -34,6 +34,7 @@ impl fmt::Display for NoteText<'_> {
             Note::TooLong(role) => write!(f, "refused: {}: TooLong", role_name(*role)),
             Note::ReadFault => f.write_str("read fault"),
             Note::WriteFault => f.write_str("write fault"),
+            Note::NetFault => f.write_str("network fault"),
             Note::Input(offset, fault) => write!(f, "input: offset {offset}: {fault}"),
             Note::Absent(role) => write!(f, "absent: {}", role_name(*role)),
             Note::Reference(fault) => write!(f, "reference: {fault}"),

@@ -2,18 +2,25 @@
 
 use crate::note_text::NoteText;
 use crate::std_files::StdFiles;
-use crate::without_words;
+use crate::std_net::StdNet;
+use crate::{orb_main, without_words};
 use config_tables::{ConfigCause, ConfigFault};
 use giop_messages::Fault;
 use idl_grammar::{IdlCause, IdlFault};
 use object_refs::{RefCause, RefFault};
-use orb_base::{Filed, Files, List, Text};
+use orb_base::{Filed, Files, List, MemSink, Sink, SteadySource, Text};
 use orb_command::{Note, Role};
+use orb_nets::Net;
 use script_checks::{CheckCause, CheckFault};
 use script_grammar::ScriptFault;
 use std::alloc::Global;
+use std::net::{TcpListener, TcpStream};
+use std::sync::Wait;
 use std::test::Fail;
-use std::{fs, io};
+use std::thread::Threads;
+use std::time::Duration;
+use std::{fs, io, net, rt, thread};
+use text_streams::{ReadAll, WriteAll, read_all, write_all};
 
 #[test]
 fn each_note_has_its_line(rt: HostRuntime) -> Result<(), Fail> {
@@ -22,6 +29,7 @@ fn each_note_has_its_line(rt: HostRuntime) -> Result<(), Fail> {
         (Note::Usage, "usage"),
         (Note::ReadFault, "read fault"),
         (Note::WriteFault, "write fault"),
+        (Note::NetFault, "network fault"),
         (Note::Input(0, Fault::Cut), "input: offset 0: Cut"),
         (
             Note::Input(4_294_967_296, Fault::BadStatus),
@@ -132,7 +140,7 @@ fn words_that_cannot_be_had_have_their_status(rt: HostRuntime) -> Result<(), Fai
         (io::ErrorKind::InvalidData, 1, "usage"),
     ] {
         let fault = io::Error::from(kind);
-        let answered = without_words(&fault);
+        let answered = without_words(rt.alloc(), &fault);
         assert_eq!(rt; answered.status, status);
         let text = NoteText {
             note: &answered.note,
@@ -140,5 +148,78 @@ fn words_that_cannot_be_had_have_their_status(rt: HostRuntime) -> Result<(), Fai
         .to_string(rt.alloc())?;
         assert_eq!(rt; text.as_str(), note);
     }
+    Ok(())
+}
+
+/// One slot of one connection.
+const ONE: &str =
+    "server = { slots = 1, per_slot = 1 }\npool = { static = 1, dynamic = 0, default_priority = 100 }\nadapter = [{ name = \"main\", model = \"CLIENT_PROPAGATED\", priority = 100 }]\nobject = [{ key = \"ping\", adapter = \"main\", interface = \"IDL:Orb/Ping:1.0\" }]\n";
+
+/// The request of id 1 for `current` of `ping` and then a CloseConnection, and the reply, a short: CORBA 3.0.3, sections 15.4.2, 15.4.3 and
+/// 15.4.7.
+const PING_AND_CLOSE: &[u8] =
+    b"GIOP\x01\x02\0\0\0\0\0\x24\0\0\0\x01\x03\0\0\0\0\0\0\0\0\0\0\x04ping\0\0\0\x08current\0\0\0\0\0GIOP\x01\x02\0\x05\0\0\0\0";
+
+const REPLY: &[u8] = b"GIOP\x01\x02\0\x01\0\0\0\x0e\0\0\0\x01\0\0\0\0\0\0\0\0\0\x64";
+
+const LINE: &[u8] = b"calls 1 run 1 lent 0 kept 0 full 0 removed 0 connections 1\n";
+
+/// What the server writes that listens at this port of loopback.
+fn serve<
+    R: net::Net<Listener = TcpListener, Stream = TcpStream> + rt::Files + Wait + Threads + Sync,
+>(rt: &R, alloc: Global, port: u16) -> Option<Vec<u8>> {
+    let mut words = Vec::new(alloc);
+    for word in ["serve", "--config", "one.toml", "--listen"] {
+        words.push(String::from_str(alloc, word).ok()?).ok()?;
+    }
+    words
+        .push(format!(in alloc; "127.0.0.1:{port}").ok()?)
+        .ok()?;
+    let mut net = StdNet::new(rt, alloc);
+    let mut files = StdFiles::new(rt, alloc);
+    let mut input = SteadySource::new(List::new(alloc), List::new(alloc));
+    let mut out = MemSink::new(alloc, List::new(alloc), List::new(alloc));
+    let words = words.as_slice();
+    let _answered = orb_main(rt, alloc, words, &mut net, &mut files, &mut input, &mut out);
+    Vec::from_slice(alloc, out.held()).ok()
+}
+
+/// What a client at this port of loopback reads until the server closes. It tries again while nobody listens there.
+fn ask<R: net::Net<Listener = TcpListener, Stream = TcpStream> + rt::Clock + Wait>(
+    rt: &R,
+    alloc: Global,
+    port: u16,
+) -> Option<Vec<u8>> {
+    let host = Text::new(alloc, b"127.0.0.1").ok()?;
+    let mut net = StdNet::new(rt, alloc);
+    for _ in 0..1_000 {
+        if let Ok((mut source, mut sink)) = net.connect(&host, port) {
+            let WriteAll::Whole = write_all(&mut sink, PING_AND_CLOSE) else {
+                return None;
+            };
+            let ReadAll::Whole(bytes) = read_all(alloc, 1_000, &mut source) else {
+                return None;
+            };
+            sink.close();
+            return Some(bytes.into_vec());
+        }
+        thread::sleep(rt, Duration::from_millis(10));
+    }
+    None
+}
+
+#[test]
+fn a_request_is_served_over_loopback(rt: HostRuntime) -> Result<(), Fail> {
+    let alloc = rt.alloc();
+    fs::write(&rt, "one.toml", ONE)?;
+    let port = TcpListener::bind(&rt, ("127.0.0.1", 0))?
+        .local_addr()?
+        .port();
+    let (line, reply) = thread::join(&rt, || serve(&rt, alloc, port), || ask(&rt, alloc, port));
+    let reply = reply.ok_or("a reply")?;
+    let line = line.ok_or("a summary")?;
+    assert!(rt; reply.as_slice() == REPLY);
+    assert!(rt; line.as_slice() == LINE);
+    fs::remove_file(&rt, "one.toml")?;
     Ok(())
 }
