@@ -497,16 +497,18 @@ fn a_cancelled_request_never_runs(rt: HostRuntime) -> Result<(), Fail> {
     let written = AtomicU64::new(0);
     let met = AtomicU64::new(0);
     let requests = pings(alloc, &[1, 2, 3])?;
+    let cancel = Vec::from_slice(alloc, CANCEL_2)?;
+    let gate = Until { met: &met };
     let once = Once {
         alloc,
-        pieces: [requests.as_slice(), CANCEL_2],
+        pieces: [requests.as_slice(), cancel.as_slice()],
         written: &written,
         least: 0,
         met: &met,
         left: true,
         ends: 0,
     };
-    let (held, finished) = asked(&rt, alloc, &Until { met: &met }, once)?;
+    let (held, finished) = asked(&rt, alloc, &gate, once)?;
     assert!(rt; held.as_slice() == replies(alloc, &[1, 3])?.as_slice());
     assert_eq!(rt; finished, 2);
     Ok(())
