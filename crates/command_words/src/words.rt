@@ -6,7 +6,7 @@ ghost use Rattle.command_words.specs.Words as Spec;
 use crate::meaning::{Meaning, PipeWords, ServeWords};
 use object_lines::{Address, read_address};
 use object_refs::port_number;
-use orb_base::{NoMemory, Text};
+use orb_base::{NoMemory, Text, first_nul};
 use pipe_runs::{Batch, Shown};
 use std::alloc::Global;
 
@@ -298,13 +298,6 @@ fn is_name(word: &[u8]) -> bool
     ensures { result ≡ Spec.is_name word.now }
 {
     is_value(word) && first_nul(word).is_none()
-}
-
-/// The place of the first NUL of a word.
-fn first_nul(word: &[u8]) -> Option<usize>
-    ensures { result ≡ nul_at word.now }
-{
-    word.iter().position(|byte| *byte == 0)
 }
 
 /// The text of a word that holds no NUL.

@@ -5,7 +5,7 @@ ghost use Rattle.config_tables.specs.Path.{key_path, entry_path, up_to_nul};
 ghost use Rattle.config_tables.specs.Fault.{Refuses, at_path};
 
 use crate::fault::{ConfigCause, ConfigFault, SetupError};
-use orb_base::Text;
+use orb_base::{Text, first_nul};
 use std::alloc::{AllocError, Global};
 
 /// The path of a key of the table at a path.
@@ -63,12 +63,4 @@ fn until_nul(bytes: &[u8]) -> &[u8]
         Some(end) => &bytes[..end],
         None => bytes,
     }
-}
-
-/// The index of the first NUL.
-fn first_nul(bytes: &[u8]) -> Option<usize>
-    ensures place { result ≡ nul_at bytes.now }
-    ensures bound { IfSome result (λ end. end < length bytes.now) }
-{
-    bytes.iter().position(|b| *b == 0)
 }

@@ -21,7 +21,7 @@ const LEAST_LOOKS: u64 = 16;
 const TRIAL_EVERY: u64 = 64;
 
 /// The longest sleep, in milliseconds. A sleeper then looks again, whether its bell was rung or not.
-pub(crate) const LONGEST_SLEEP: u64 = 100;
+pub(crate) const LONGEST_SLEEP: u64 = 1_000;
 
 /// What waiters look at, and sleep at.
 #[derive(Drop)]
