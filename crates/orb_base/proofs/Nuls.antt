@@ -1,5 +1,5 @@
 -- The first byte that is 0 stands at the first place whose byte is 0.
-use Rattle.std.proofs.Common.{◌≡◌, ◌==◌, ℕ, ◌<◌, ◌≤◌, Bool, cond, List, length, Option, Some, None, sym, ap, ◌∙◌, refl, arith}
+use Rattle.std.proofs.Common.{◌≡◌, ◌==◌, ℕ, Bool, cond, List, length, Option, Some, None, sym, ap, ◌∙◌, arith}
 use Rattle.std.specs.List.{position_or_len}
 use Rattle.std.specs.Prelude.{slice_index, nat_lt}
 use Rattle.std.proofs.lemmas.List.Sums.{position_or_len_is}
@@ -15,6 +15,7 @@ placed : List ℕ → ℕ → Option ℕ
 placed xs n = cond (nat_lt n (length xs)) (Some n) None
 
 pub first_place : (xs : List ℕ) (r : Option ℕ) → IsFirstByte (is_byte 0) xs r → r ≡ nul_at xs
+unfolding is_nul placed
 first_place xs None h =
     let n : position_or_len is_nul xs ≡ length xs =
     position_or_len_is is_nul xs (length xs) 0 (omega arith) (λ k below. false_from_ne_true (is_nul (slice_index xs k)) (h k (omega arith) below)) (λ below. absurd (omega (arith, below))) in
