@@ -1,4 +1,4 @@
-use Rattle.std.proofs.Common.{◌<◌, ◌^◌, length, sym, ap, subst}
+use Rattle.std.proofs.Common.{◌<◌, ◌^◌, length}
 use Rattle.std.proofs.lemmas.Result.{err_from_is_err_and}
 use Rattle.cdr_core.specs.Lists.{item_fields}
 use Rattle.cdr_core.proofs.Loops.{written_none, list_next, list_front, list_done, each_at}
