@@ -1,6 +1,7 @@
 //! The bells of a cell: one for each kind of waiter, and one for the turn.
 
 use crate::bell::Bell;
+use crate::entry::Entry;
 use crate::object::Object;
 use std::array;
 use std::sync::atomic::AtomicU64;
@@ -51,14 +52,14 @@ impl Bells {
         self.awaited.fetch_or(1 << (number % 64), SeqCst);
     }
 
-    /// The bells that a reply rings, out of those that are waited at. To be asked while the turn is held.
-    pub(crate) fn rung_by<O: Object>(&self, object: &O, reply: &O::Reply) -> Rung {
+    /// The bells that an entry rings, out of those that are waited at. To be asked while the turn is held.
+    pub(crate) fn rung_by<O: Object>(&self, object: &O, entry: &Entry<O>) -> Rung {
         let mut left = self.awaited.load(SeqCst);
         let mut bits = 0;
         for _ in 0..left.count_ones() {
             let number = left.trailing_zeros() % 64;
             left &= left.wrapping_sub(1);
-            if object.rings(reply, number) {
+            if object.rings(&entry.call, &entry.reply, number) {
                 bits |= 1 << number;
             }
         }

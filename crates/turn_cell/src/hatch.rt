@@ -82,7 +82,7 @@ impl Object for Hatch {
         }
     }
 
-    fn rings(&self, reply: &HatchReply, bell: u32) -> bool {
+    fn rings(&self, _call: &HatchCall, reply: &HatchReply, bell: u32) -> bool {
         match reply {
             HatchReply::Done => bell == TAKES,
             HatchReply::Took(_) => bell == PUTS,

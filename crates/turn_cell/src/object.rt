@@ -55,9 +55,9 @@ pub trait Object: Drop {
         0
     }
 
-    /// Whether an entry with this reply rings a bell, 0 to 63, at which callers sleep; `self` is the state behind
-    /// the entry. A hint alone.
-    fn rings(&self, _reply: &Self::Reply, _bell: u32) -> bool {
+    /// Whether an entry of this call with this reply rings a bell, 0 to 63, at which callers sleep; `self` is the
+    /// state behind the entry. A hint alone.
+    fn rings(&self, _call: &Self::Call, _reply: &Self::Reply, _bell: u32) -> bool {
         true
     }
 

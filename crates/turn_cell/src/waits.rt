@@ -106,10 +106,10 @@ impl<O: Object> Board<O> {
         turn.leave();
     }
 
-    /// The bells that a try rings, asked while the turn is held.
+    /// The bells that a try rings, asked while the turn is held: a call that was answered stands last in the history.
     pub(crate) fn rung_by(&self, core: &Core<O>, tried: &Tried<O>) -> Rung {
-        match tried {
-            Tried::Replied(reply) => self.bells.rung_by(&core.object, reply),
+        match (tried, core.history.last()) {
+            (Tried::Replied(_), Some(entry)) => self.bells.rung_by(&core.object, entry),
             _ => Rung::none(),
         }
     }
