@@ -9,14 +9,20 @@ ghost use Rattle.lane_machine.specs.Histories.{Steps};
 use crate::call::{LaneCall, LaneReply};
 use crate::look;
 use crate::machine::Machine;
-use orb_base::limits::{MAX_OWED, MAX_THREADS};
-use orb_base::{ConnId, NoMemory, PoolSpec};
+use orb_base::limits::{MAX_OWED, MAX_SLOTS, MAX_THREADS};
+use orb_base::{ConnId, Due, Job, NoMemory, PoolSpec};
 use std::alloc::Global;
 use std::marker::Model;
 use turn_cell::Object;
 
 #[cfg(test)]
 mod tests;
+
+/// The bells of a turn cell.
+const BELLS: u32 = 64;
+
+/// The bells of one side of all slots.
+const SLOTS: u32 = MAX_SLOTS as u32;
 
 /// The lane machine: the threads of a pool, the requests that wait for them, what is owed to the connections of its
 /// slots, and the counts of its run (Real-time CORBA 1.2, Threadpools).
@@ -117,7 +123,7 @@ impl Lanes {
         ensures { let s = self.now in
             result ≡ ((owed s conn == 0) && (is_some (end_of s conn) || s.closing)) }
     {
-        self.machine.owed(conn) == 0 && self.machine.is_ending(conn)
+        self.machine.is_ending(conn) && self.machine.owed(conn) == 0
     }
 }
 
@@ -164,9 +170,76 @@ impl Object for Lanes {
         }
     }
 
+    /// Each thread sleeps at a bell of its own. So do the two sides of a slot's connection, at bells that only threads of
+    /// a great pool share.
+    fn bell_of(call: &LaneCall) -> u32 {
+        match call {
+            LaneCall::Offer(job) => reader_bell(job.get().conn),
+            LaneCall::Post(notice) => reader_bell(notice.conn),
+            LaneCall::Take { thread } => thread_bell(*thread),
+            LaneCall::Collect { conn } => writer_bell(*conn),
+            LaneCall::Cancel { conn, .. } => reader_bell(*conn),
+            LaneCall::End { conn, .. } => reader_bell(*conn),
+            LaneCall::Finish { thread, .. } => thread_bell(*thread),
+            LaneCall::Leave { .. } => 0,
+        }
+    }
+
+    /// A request that a thread is given rings the thread; what is owed to a connection, or isn't any more, rings its
+    /// sides; a run that closes and a slot that leaves ring all.
+    fn rings(&self, call: &LaneCall, reply: &LaneReply, bell: u32) -> bool {
+        if matches!(reply, LaneReply::Closing) {
+            return true;
+        }
+        match call {
+            LaneCall::Offer(job) => {
+                is_given(reply, bell)
+                    || bell == writer_bell(job.get().conn) && is_answered(job.get(), reply)
+            }
+            LaneCall::Post(notice) => bell == writer_bell(notice.conn),
+            LaneCall::Cancel { conn, .. } => bell == writer_bell(*conn),
+            LaneCall::Take { .. } => false,
+            LaneCall::Finish { answer, .. } => {
+                let conn = answer.job.get().conn;
+                bell == writer_bell(conn) || bell == reader_bell(conn)
+            }
+            LaneCall::Collect { conn } => bell == reader_bell(*conn),
+            LaneCall::End { conn, .. } => bell == writer_bell(*conn),
+            LaneCall::Leave { .. } => true,
+        }
+    }
+
     ghost one_parent = { one_parent_of };
 
     ghost never_first = { never_first_of };
 
     ghost enough = { enough };
+}
+
+/// The bell of a thread.
+fn thread_bell(thread: u8) -> u32 {
+    u32::from(thread) % BELLS
+}
+
+/// The bell of the writing side of a slot's connection.
+fn writer_bell(conn: ConnId) -> u32 {
+    BELLS - 1 - u32::from(conn.slot) % SLOTS
+}
+
+/// The bell of the reading side of a slot's connection.
+fn reader_bell(conn: ConnId) -> u32 {
+    BELLS - 1 - SLOTS - u32::from(conn.slot) % SLOTS
+}
+
+/// Whether a thread was given the request, and it is the thread's bell.
+fn is_given(reply: &LaneReply, bell: u32) -> bool {
+    match reply {
+        LaneReply::Run { thread, .. } => bell == thread_bell(*thread),
+        _ => false,
+    }
+}
+
+/// Whether a request that was offered is answered at once: where its reply is due early, and where it was refused.
+fn is_answered(job: &Job, reply: &LaneReply) -> bool {
+    matches!(job.due, Due::Early) || matches!(reply, LaneReply::Full)
 }
