@@ -1,3 +1,5 @@
 pub mod PlaceNames
 pub mod NextJobs
+pub mod Passes
+pub mod FirstFound
 pub mod Taking

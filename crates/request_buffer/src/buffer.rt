@@ -1,19 +1,20 @@
 //! The requests that wait.
 ghost use Rattle.std.specs.Prelude.{◌≡◌, ◌<◌, [], true, length, count_by, position, Some, None, IfOk, IfSome, IsSome, IsSomeAnd, MatchOption};
 ghost use Rattle.orb_base.specs.Conn.{same_conn};
-ghost use Rattle.thread_borrowing.specs.Choice.{may_run, greatest};
-ghost use Rattle.request_buffer.specs.Kept.{has_room, kept_bytes, may_cancel, is_late, arrival_of, IsPut, IsTaken};
+ghost use Rattle.request_buffer.specs.Kept.{has_room, kept_bytes, may_cancel, arrival_of, IsPut, IsTaken};
 ghost use Rattle.request_buffer.specs.Next.{next_job};
 
-use orb_base::{Arc, ConnId, Due, Job, List, NoMemory};
+use crate::key::{Key, earliest_late, most_urgent};
+use orb_base::{Arc, ConnId, Job, List, NoMemory};
 use std::alloc::Global;
 use std::marker::Model;
-use thread_borrowing::may_run;
 
 /// The requests that wait, in order of arrival. No call but `new` takes memory.
 #[derive(Debug, Drop)]
 pub struct Buffer {
     jobs: List<Arc<Job>>,
+    /// The keys of the requests in the same order. Passes go over these, which lie in one piece.
+    keys: List<Key>,
     bytes: u64,
     max_requests: u32,
     max_bytes: u32,
@@ -34,7 +35,7 @@ impl Model for Buffer {
       max_bytes = b.max_bytes;
     } };
 
-    ghost invariant = { λ b. IsBounded b.jobs b.bytes b.max_requests b.max_bytes };
+    ghost invariant = { λ b. IsBounded b.jobs b.keys b.bytes b.max_requests b.max_bytes };
 }
 
 impl Buffer {
@@ -45,8 +46,11 @@ impl Buffer {
     {
         let mut jobs = List::new(alloc);
         jobs.reserve(max_requests as usize)?;
+        let mut keys = List::new(alloc);
+        keys.reserve(max_requests as usize)?;
         Ok(Buffer {
             jobs,
+            keys,
             bytes: 0,
             max_requests,
             max_bytes,
@@ -67,15 +71,16 @@ impl Buffer {
         ensures { IsPut self.old self.new job }
     {
         let size = size_of(job.get());
-        match self.jobs.push(job) {
-            Ok(()) => self.bytes += u64::from(size),
-            Err(_) => unreachable!(),
+        let key = Key::of(job.get());
+        match (self.jobs.push(job), self.keys.push(key)) {
+            (Ok(()), Ok(())) => self.bytes += u64::from(size),
+            _ => unreachable!(),
         }
     }
 
     /// The place of the request that a thread of this lane takes next: the earliest of those of greatest priority
     /// that it may run; None where it may run none. A place names its request until the next call that changes the
-    /// buffer, and need not be a position in order of arrival. Two passes over the requests.
+    /// buffer, and need not be a position in order of arrival. One pass over a compact list.
     pub fn best_for(&self, lane: u8, borrowing: bool) -> Option<usize>
         ensures exact { MatchOption result (next_job borrowing lane self.now.requests ≡ None)
             (λ place. arrival_of self.now place ≡ next_job borrowing lane self.now.requests) }
@@ -97,7 +102,7 @@ impl Buffer {
     }
 
     /// Takes out the earliest request of a connection and id whose reply is due when it was carried out, if one
-    /// waits. One pass over the requests.
+    /// waits. One pass over a compact list, and work that grows with the number of requests that came later.
     pub fn remove(&mut self, conn: ConnId, id: u32) -> Option<Arc<Job>>
         ensures { MatchOption (position (may_cancel conn id) self.old.requests)
             ((result ≡ None) × (self.new ≡ self.old))
@@ -123,30 +128,26 @@ impl Buffer {
         self.bytes
     }
 
-    /// How many requests of the connection wait. One pass over the requests.
+    /// How many requests of the connection wait. One pass over a compact list.
     pub fn count_for(&self, conn: ConnId) -> usize
         ensures { result ≡ count_by (λ job. same_conn job.conn conn) self.now.requests }
     {
-        self.jobs
+        self.keys
             .as_slice()
             .iter()
-            .filter(|job| caller_of(job.get()).is_same(conn))
+            .filter(|key| key.conn.is_same(conn))
             .count()
     }
 }
 
 impl Buffer {
     /// The position of the request that a thread of this lane takes next.
-    #[tactic(auto, unfolding(crate::specs::Next::next_job))]
+    #[tactic(auto, using(crate::proofs::Passes::next_by_keys))]
     fn next_position(&self, lane: u8, borrowing: bool) -> Option<usize>
         ensures exact { result ≡ next_job borrowing lane self.now.requests }
         ensures within { IfSome result (λ at. at < length self.now.requests) }
     {
-        let jobs = self.jobs.as_slice();
-        let best = greatest_priority(jobs, lane, borrowing);
-        jobs.iter().position(|job| {
-            may_run(borrowing, lane, lane_of(job.get())) && priority_of(job.get()) == best
-        })
+        most_urgent(self.keys.as_slice(), lane, borrowing)
     }
 
     /// The place that names the request at a position.
@@ -159,14 +160,12 @@ impl Buffer {
     }
 
     /// The position of the earliest request of a connection and id whose reply is still due.
+    #[tactic(auto, using(crate::proofs::Passes::late_by_keys))]
     fn place_to_cancel(&self, conn: ConnId, id: u32) -> Option<usize>
         ensures exact { result ≡ position (may_cancel conn id) self.now.requests }
         ensures within { IfSome result (λ at. at < length self.now.requests) }
     {
-        self.jobs
-            .as_slice()
-            .iter()
-            .position(|job| may_cancel(job.get(), conn, id))
+        earliest_late(self.keys.as_slice(), conn, id)
     }
 
     /// The position of the request that a place names.
@@ -185,63 +184,10 @@ impl Buffer {
         ensures { IsTaken self.old self.new result at }
     {
         let job = self.jobs.remove(at);
+        self.keys.remove(at);
         self.bytes -= u64::from(size_of(job.get()));
         job
     }
-}
-
-/// The greatest priority of those that a thread of this lane may run.
-#[tactic(auto, using(thread_borrowing::proofs::Ranks::best_start, thread_borrowing::proofs::Ranks::best_taken, thread_borrowing::proofs::Ranks::best_passed, thread_borrowing::proofs::Ranks::best_end))]
-fn greatest_priority(jobs: &[Arc<Job>], lane: u8, borrowing: bool) -> u16
-    ensures { result
-        ≡ greatest (λ job. may_run borrowing lane job.lane) (λ job. job.priority) jobs.now }
-{
-    let mut best = 0;
-    for job in jobs {
-        if may_run(borrowing, lane, lane_of(job.get())) {
-            best = best.max(priority_of(job.get()));
-        }
-    }
-    best
-}
-
-/// Whether the request is one of the connection with this id, whose reply is due when it was carried out.
-fn may_cancel(job: &Job, conn: ConnId, id: u32) -> bool
-    ensures { result ≡ may_cancel conn id job.now }
-{
-    is_late(job.due) && job.conn.is_same(conn) && job.id == id
-}
-
-/// Whether a reply is due when a request was carried out.
-fn is_late(due: Due) -> bool
-    ensures { result ≡ is_late due }
-{
-    match due {
-        Due::Late => true,
-        Due::Nothing => false,
-        Due::Early => false,
-    }
-}
-
-/// The connection of a request.
-fn caller_of(job: &Job) -> ConnId
-    ensures { result ≡ job.now.conn }
-{
-    job.conn
-}
-
-/// The lane of a request.
-fn lane_of(job: &Job) -> u8
-    ensures { result ≡ job.now.lane }
-{
-    job.lane
-}
-
-/// The priority of a request.
-fn priority_of(job: &Job) -> u16
-    ensures { result ≡ job.now.priority }
-{
-    job.priority.level()
 }
 
 /// The size of a request.

@@ -5,6 +5,7 @@
 #![tactic(auto)]
 
 mod buffer;
+mod key;
 mod laws;
 
 pub use buffer::Buffer;

@@ -1,0 +1,82 @@
+//! What the passes over the requests ask of each.
+ghost use Rattle.std.specs.Prelude.{◌≡◌, position};
+ghost use Rattle.thread_borrowing.specs.Choice.{first_greatest, may_run};
+ghost use Rattle.request_buffer.specs.Keys.{key_of, names_late};
+ghost use Rattle.request_buffer.specs.Kept.{is_late};
+
+use orb_base::{ConnId, Due, Job};
+use thread_borrowing::may_run;
+
+/// What a pass over the requests asks of one. Keys are small and lie in one piece, so that a pass reads memory in order
+/// and follows no request.
+#[derive(Clone, Copy, Debug)]
+pub struct Key {
+    /// The connection that the request came by.
+    pub conn: ConnId,
+    /// The request's id.
+    pub id: u32,
+    /// When its reply is due.
+    pub due: Due,
+    /// The lane that runs it, from 0.
+    pub lane: u8,
+    /// Its priority, 0 to 32767.
+    pub priority: u16,
+}
+
+impl Key {
+    /// The key of a request.
+    pub fn of(job: &Job) -> Key
+        ensures { result ≡ key_of job.now }
+    {
+        Key {
+            conn: job.conn,
+            id: job.id,
+            due: job.due,
+            lane: job.lane,
+            priority: job.priority.level(),
+        }
+    }
+
+    /// Whether the request is one of the connection with this id, whose reply is due when it was carried out.
+    pub fn may_cancel(self, conn: ConnId, id: u32) -> bool
+        ensures { result ≡ names_late conn id self }
+    {
+        is_late(self.due) && self.conn.is_same(conn) && self.id == id
+    }
+}
+
+/// The position of the request that a thread of this lane takes next, by the keys of all: the earliest of those of
+/// greatest priority that it may run; None where it may run none. One pass over the keys.
+pub fn most_urgent(keys: &[Key], lane: u8, borrowing: bool) -> Option<usize>
+    ensures { result ≡ first_greatest (λ key. may_run borrowing lane key.lane)
+        (λ key. key.priority) keys.now }
+{
+    let mut found = None;
+    let mut best = 0;
+    for (at, key) in keys.iter().enumerate() {
+        if may_run(borrowing, lane, key.lane) && (found.is_none() || key.priority > best) {
+            found = Some(at);
+            best = key.priority;
+        }
+    }
+    found
+}
+
+/// The position of the earliest request of a connection and id whose reply is still due, by the keys of all. One pass
+/// over the keys, up to that one.
+pub fn earliest_late(keys: &[Key], conn: ConnId, id: u32) -> Option<usize>
+    ensures { result ≡ position (names_late conn id) keys.now }
+{
+    keys.iter().position(|key| key.may_cancel(conn, id))
+}
+
+/// Whether a reply is due when a request was carried out.
+fn is_late(due: Due) -> bool
+    ensures { result ≡ is_late due }
+{
+    match due {
+        Due::Late => true,
+        Due::Nothing => false,
+        Due::Early => false,
+    }
+}
