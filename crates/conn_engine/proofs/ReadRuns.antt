@@ -1,18 +1,15 @@
 -- All reads of a run, from the first one to the one with which it stops.
-use Rattle.std.proofs.Common.{◌≡◌, inl, inr, ℕ, ◌+◌, ◌≤◌, ◌<◌, Bool, true, false, List, [], ◌++◌, length, take, Option, Some, None, Ok, Err, refl, sym, ap, ◌∙◌, subst, arith, append-nil, length-append, length-take}
-use Rattle.std.specs.Prelude.{◌==◌, if◌then◌else◌, option_map, IfSome}
-use Rattle.std.proofs.lemmas.Bool.Decides.{nat_tests}
-use Rattle.std.proofs.lemmas.List.{take-append-le}
+use Rattle.std.proofs.Common.{◌≡◌, inl, inr, ℕ, ◌+◌, ◌≤◌, ◌<◌, Bool, true, false, List, [], ◌++◌, length, Option, Some, None, Ok, Err, refl, sym, ap, ◌∙◌, subst, arith, append-nil}
+use Rattle.std.specs.Prelude.{IfSome}
 use Rattle.orb_base.specs.Outside.{Told, SourceState, SinkState, Rose}
-use Rattle.orb_base.specs.declared.conn_id.ConnId.{ConnId}
 use Rattle.orb_base.specs.declared.limits.TheConstants.{MAX_MESSAGE}
 use Rattle.giop_frames.specs.Stream.{stream}
 use Rattle.orb_base.specs.declared.no_memory.NoMemory.{NoMemory}
 use Rattle.lane_machine.specs.declared.call.LaneCall.{LaneCall}
 use Rattle.lane_machine.specs.Histories.{History}
 use Rattle.lane_machine.specs.State.{State}
-use Rattle.text_streams.specs.Streams.{Gave, MeetsEnd}
-use Rattle.text_streams.proofs.CallerLemmas.{gave_start, gave_step, gave_same}
+use Rattle.text_streams.specs.Streams.{Gave}
+use Rattle.text_streams.proofs.CallerLemmas.{gave_start}
 use Rattle.adapter_policies.specs.SetupData.{SetupData}
 use Rattle.pipe_laws.specs.Groups.{Group}
 use Rattle.pipe_laws.specs.Lacking.{Agrees}
@@ -28,12 +25,13 @@ use Rattle.conn_engine.specs.HeardSoFar.{HeardSoFar}
 use Rattle.conn_engine.specs.Hearers.{Hearer, IsGoing, IsNew, FeedsOn}
 use Rattle.conn_engine.specs.Ends.{read_end}
 use Rattle.conn_engine.specs.Pieces.{RunsPiece}
-use Rattle.conn_engine.specs.Reads.{Takes, ReadsOn, RanReads, BegunReads, ReadsBytes, ReadsStream}
+use Rattle.conn_engine.specs.Reads.{ReadsOn, RanReads, BegunReads, ReadsBytes, ReadsStream}
 use Rattle.conn_engine.specs.declared.read_end.ReadEnd.{ReadEnd}
 use Rattle.conn_engine.specs.declared.read_end.ReadEnd.TheVariants as read
-use Rattle.conn_engine.specs.declared.read_end.TheConstants.{MAX_TAKEN, READ_LEN}
+use Rattle.conn_engine.specs.declared.read_end.TheConstants.{MAX_TAKEN}
 use Rattle.conn_engine.specs.declared.reading.Reading.{Reading}
 use Rattle.conn_engine.specs.declared.reading.Reading.TheVariants.{Over, Closing, Stopped}
+use Rattle.conn_engine.proofs.Taken.{heard_here, TookOn, takes_on, takes_no_more, takes_nothing, comes_at_end, comes_at_fault, comes_full}
 use Rattle.lane_driver.proofs.TwoReads.{fed_both, stopped_both, began_both}
 
 -- the reading goes on: what was taken was heard, and its calls were made, of which none met a limit of the run
@@ -65,42 +63,6 @@ read_start setup batch outcome h s room old log out new between some goes = reco
   reads = refl;
   no_end = refl;
 }
-
--- what was heard, as that of the pipe's connection
-heard_here : (setup : SetupData) (h : Hearer) (bytes : List ℕ) (calls : List LaneCall) (ending : Option Ending) → h.setup ≡ setup → h.conn ≡ pipe_conn
-    → HeardSoFar h.setup h.conn bytes calls ending → HeardSoFar setup pipe_conn bytes calls ending
-heard_here setup h bytes calls ending setup_is conn_is heard =
-    subst (λ (c : ConnId). HeardSoFar setup c bytes calls ending) conn_is (subst (λ (x : SetupData). HeardSoFar x h.conn bytes calls ending) setup_is heard)
-
--- one read more gave bytes
-pub record TookOn (fed bytes : List ℕ) (piece : List ℕ) (count : ℕ) (old new : SourceState) : Type 0 where
-  pub parts : bytes ≡ fed ++ piece
-  pub one_read : length piece ≤ READ_LEN
-  pub gave : Gave bytes old new
-  pub count_is : count ≡ length bytes
-  pub few : length bytes ≤ MAX_TAKEN
-  pub reads : new.faults ≡ old.faults
-  pub no_end : new.ends ≡ old.ends
-
-pub took_piece : (setup : SetupData) (batch : ℕ) (outcome : Servant) (h : Hearer) (count n : ℕ) (s m : State) (room room1 : ℕ) (old mid new : SourceState) (log among_log : Option History) (out among : SinkState)
-    (into behind piece : List ℕ)
-    → ReadSoFar setup batch outcome h count s m room room1 old mid log among_log out among → n ≤ length into → n ≤ READ_LEN → n + count ≤ MAX_TAKEN
-    → mid.left ≡ option_map (λ rest. take n into ++ rest) new.left → new.taken ≡ option_map (λ seen. seen ++ take n into) mid.taken
-    → piece ≡ take n (into ++ behind) → new.faults ≡ mid.faults → new.ends ≡ mid.ends
-    → TookOn h.framer.fed (h.framer.fed ++ piece) piece (count + n) old new
-took_piece setup batch outcome h count n s m room room1 old mid new log among_log out among into behind piece x within short few from to is reads ends =
-    let its : piece ≡ take n into = is ∙ take-append-le n into behind within in
-    let long : length piece ≡ n = ap length its ∙ length-take n into ∙ omega arith in
-    let len : length (h.framer.fed ++ piece) ≡ length h.framer.fed + n = length-append h.framer.fed piece ∙ ap (λ (k : ℕ). length h.framer.fed + k) long in
-    record {
-      parts = refl;
-      one_read = omega (arith, long, short);
-      gave = gave_step h.framer.fed into behind (h.framer.fed ++ piece) n old mid new x.gave within from to (ap (λ (p : List ℕ). h.framer.fed ++ p) is);
-      count_is = omega (arith, x.count_is, len);
-      few = omega (arith, x.count_is, len);
-      reads = reads ∙ x.reads;
-      no_end = ends ∙ x.no_end;
-    }
 
 -- ---- the reading goes on behind a piece
 
@@ -134,20 +96,9 @@ went_on : (setup : SetupData) (batch : ℕ) (outcome : Servant) (h : Hearer) (co
     → ReadsOn setup batch s room h.framer.fed all
 went_on setup batch outcome h count s m room room1 old mid log among_log out among x b all is = record {
   calls = h.calls;
-  heard = heard_here setup h h.framer.fed h.calls None x.setup_is x.conn_is x.going.heard;
+  heard = heard_here setup pipe_conn h h.framer.fed h.calls None x.setup_is x.conn_is x.going.heard;
   unmet = λ servant agrees k.
       ap (λ (g : Group). g.run.state.closing) (x.fed.goes servant (agrees_first servant x.fed.entries b (subst (Agrees servant) is agrees)) k) ∙ x.unmet;
-}
-
-takes_on : (h : Hearer) (piece bytes : List ℕ) (count : ℕ) (old new : SourceState) → bytes ≡ h.framer.fed ++ piece → TookOn h.framer.fed (h.framer.fed ++ piece) piece count old new
-    → Takes old new h.framer.fed bytes false
-takes_on h piece bytes count old new is took = record {
-  last = piece;
-  parts = is;
-  one_read = took.one_read;
-  few = omega (arith, ap length is, took.few);
-  gave = subst (λ (b : List ℕ). Gave b old new) (sym is) took.gave;
-  met = took.no_end;
 }
 
 -- ---- it stops with a piece
@@ -160,7 +111,7 @@ module _ (setup : SetupData) (batch : ℕ) (outcome : Servant) (h h' : Hearer) (
   heard_with : (calls : List LaneCall) (ending : Option Ending) → FeedsOn h h' piece calls ending → HeardSoFar setup pipe_conn h'.framer.fed (h.calls ++ calls) ending
   heard_with calls ending feeds =
       subst (λ (cs : List LaneCall). HeardSoFar setup pipe_conn h'.framer.fed cs ending) feeds.calls_are
-      (heard_here setup h' h'.framer.fed h'.calls ending (feeds.same_setup ∙ x.setup_is) (feeds.same_conn ∙ x.conn_is) feeds.heard)
+      (heard_here setup pipe_conn h' h'.framer.fed h'.calls ending (feeds.same_setup ∙ x.setup_is) (feeds.same_conn ∙ x.conn_is) feeds.heard)
 
   ran_with : (calls : List LaneCall) (ending : Option Ending) (end : ReadEnd) → FeedsOn h h' piece calls ending → Fed batch outcome m s' room1 room2 calls [] among_log log' among out'
       → end ≡ read_end ending (length h'.framer.fed) false (stream MAX_MESSAGE h'.framer.fed).rest
@@ -221,7 +172,7 @@ module _ (setup : SetupData) (batch : ℕ) (outcome : Servant) (h h' : Hearer) (
         bytes = h'.framer.fed;
         earlier = h.framer.fed;
         ended = false;
-        takes = takes_on h piece h'.framer.fed count' old new came.0 took;
+        takes = takes_on h.framer.fed piece h'.framer.fed count' old new came.0 took;
         came = came.1;
       }
 
@@ -235,7 +186,7 @@ module _ (setup : SetupData) (batch : ℕ) (outcome : Servant) (h h' : Hearer) (
     parts = refl;
     calls = h.calls;
     end = end;
-    heard = record { ending = None; heard = heard_here setup h h.framer.fed h.calls None x.setup_is x.conn_is x.going.heard; comes = is };
+    heard = record { ending = None; heard = heard_here setup pipe_conn h h.framer.fed h.calls None x.setup_is x.conn_is x.going.heard; comes = is };
     began = subst (λ (o : SinkState). BeganWriting (feeding batch room h.calls) outcome s out o) (sym same)
         (fed_want_here batch outcome s m room room1 h.calls [] log among_log out among x.fed);
   }
@@ -246,7 +197,7 @@ module _ (setup : SetupData) (batch : ℕ) (outcome : Servant) (h h' : Hearer) (
     bytes = h.framer.fed ++ piece;
     earlier = h.framer.fed;
     ended = false;
-    takes = takes_on h piece (h.framer.fed ++ piece) count' old new refl took;
+    takes = takes_on h.framer.fed piece (h.framer.fed ++ piece) count' old new refl took;
     came = (
       elim ran [
         | inl same ↦ inr (wants_here (read_end None (length h.framer.fed) false (stream MAX_MESSAGE h.framer.fed).rest) refl same)
@@ -266,12 +217,6 @@ module _ (setup : SetupData) (batch : ℕ) (outcome : Servant) (h h' : Hearer) (
 
 -- ---- it stops without a piece
 
-not_full : (n : ℕ) → n < MAX_TAKEN → (n == MAX_TAKEN) ≡ false
-not_full n h = grind (arith, nat_tests)
-
-is_full : (n : ℕ) → n ≤ MAX_TAKEN → MAX_TAKEN ≤ n → (n == MAX_TAKEN) ≡ true
-is_full n h k = grind (arith, nat_tests)
-
 module _ (setup : SetupData) (batch : ℕ) (outcome : Servant) (h : Hearer) (count : ℕ) (s s' : State) (room room' : ℕ) (old mid new : SourceState)
     (log log' : Option History) (out out' : SinkState)
     (x : ReadSoFar setup batch outcome h count s s' room room' old mid log log' out out') where
@@ -279,75 +224,56 @@ module _ (setup : SetupData) (batch : ℕ) (outcome : Servant) (h : Hearer) (cou
       → RanReads setup batch outcome s s' room room' h.framer.fed h.framer.fed ended end log log' out out'
   ran_so_far ended end is = record {
     calls = h.calls;
-    heard = record { ending = None; heard = heard_here setup h h.framer.fed h.calls None x.setup_is x.conn_is x.going.heard; comes = is };
+    heard = record { ending = None; heard = heard_here setup pipe_conn h h.framer.fed h.calls None x.setup_is x.conn_is x.going.heard; comes = is };
     fed = x.fed;
     before = went_on setup batch outcome h count s s' room room' old mid log log' out out' x [] x.fed.entries (sym (append-nil x.fed.entries));
-  }
-
-  takes_no_more : (ended : Bool) → new.left ≡ mid.left → new.taken ≡ mid.taken → MeetsEnd ended old new → Takes old new h.framer.fed h.framer.fed ended
-  takes_no_more ended left taken met = record {
-    last = [];
-    parts = sym (append-nil h.framer.fed);
-    one_read = omega arith;
-    few = x.few;
-    gave = gave_same h.framer.fed old mid new x.gave left taken;
-    met = met;
   }
 
   pub stops_at_end : (ending : Ending) → count < MAX_TAKEN → ending ≡ at_end None (stream MAX_MESSAGE h.framer.fed).rest → new.left ≡ mid.left → new.taken ≡ mid.taken
       → IfSome mid.left (λ rest. rest ≡ []) → Rose mid.ends new.ends → new.faults ≡ mid.faults
       → ReadsStream (Ok (Over (read.Ended ending))) setup batch outcome s s' room room' old new log log' out out'
-  stops_at_end ending few is left taken none rose reads =
-      let open_still = not_full (length h.framer.fed) (omega (arith, x.count_is, few)) in
-      record {
-        bytes = h.framer.fed;
-        earlier = h.framer.fed;
-        ended = true;
-        takes = takes_no_more true left taken (
-          rose_later old.ends mid.ends new.ends x.no_end rose,
-          subst (λ (o : Told). IfSome o (λ rest. rest ≡ [])) (sym left) none,
-        );
-        came = (
-          ran_so_far true (read.Ended ending) (
-              ap read.Ended is
-              ∙ sym (ap (λ (b : Bool). if b then read.Spent else read.Ended (at_end None (stream MAX_MESSAGE h.framer.fed).rest)) open_still)
-              ),
-          x.unmet,
-          (reads ∙ x.reads, x.fed.faults),
-        );
-      }
+  stops_at_end ending few is left taken none rose reads = record {
+    bytes = h.framer.fed;
+    earlier = h.framer.fed;
+    ended = true;
+    takes = takes_no_more h.framer.fed old mid new x.few x.gave true left taken (
+      rose_later old.ends mid.ends new.ends x.no_end rose,
+      subst (λ (o : Told). IfSome o (λ rest. rest ≡ [])) (sym left) none,
+    );
+    came = (
+      ran_so_far true (read.Ended ending) (comes_at_end h.framer.fed ending (omega (arith, x.count_is, few)) is),
+      x.unmet,
+      (reads ∙ x.reads, x.fed.faults),
+    );
+  }
 
   pub stops_at_fault : count < MAX_TAKEN → new.left ≡ mid.left → new.taken ≡ mid.taken → new.ends ≡ mid.ends → Rose mid.faults new.faults
       → ReadsStream (Ok (Over read.ReadFault)) setup batch outcome s s' room room' old new log log' out out'
-  stops_at_fault few left taken ends rose =
-      let open_still = not_full (length h.framer.fed) (omega (arith, x.count_is, few)) in
-      record {
-        bytes = h.framer.fed;
-        earlier = h.framer.fed;
-        ended = false;
-        takes = takes_no_more false left taken (ends ∙ x.no_end);
-        came = (
-          ran_so_far false read.ReadFault (sym (ap (λ (b : Bool). if b then read.Spent else read.ReadFault) open_still)),
-          x.unmet,
-          (rose_later old.faults mid.faults new.faults x.reads rose, x.fed.faults),
-        );
-      }
+  stops_at_fault few left taken ends rose = record {
+    bytes = h.framer.fed;
+    earlier = h.framer.fed;
+    ended = false;
+    takes = takes_no_more h.framer.fed old mid new x.few x.gave false left taken (ends ∙ x.no_end);
+    came = (
+      ran_so_far false read.ReadFault (comes_at_fault h.framer.fed (omega (arith, x.count_is, few))),
+      x.unmet,
+      (rose_later old.faults mid.faults new.faults x.reads rose, x.fed.faults),
+    );
+  }
 
   pub stops_full : MAX_TAKEN ≤ count → new ≡ mid
       → ReadsStream (Ok (Over read.Spent)) setup batch outcome s s' room room' old new log log' out out'
-  stops_full many same =
-      let full = is_full (length h.framer.fed) x.few (omega (arith, x.count_is, many)) in
-      record {
-        bytes = h.framer.fed;
-        earlier = h.framer.fed;
-        ended = false;
-        takes = takes_no_more false (ap (λ (z : SourceState). z.left) same) (ap (λ (z : SourceState). z.taken) same) (ap (λ (z : SourceState). z.ends) same ∙ x.no_end);
-        came = (
-          ran_so_far false read.Spent (sym (ap (λ (b : Bool). if b then read.Spent else read.ReadFault) full)),
-          x.unmet,
-          (ap (λ (z : SourceState). z.faults) same ∙ x.reads, x.fed.faults),
-        );
-      }
+  stops_full many same = record {
+    bytes = h.framer.fed;
+    earlier = h.framer.fed;
+    ended = false;
+    takes = takes_no_more h.framer.fed old mid new x.few x.gave false (ap (λ (z : SourceState). z.left) same) (ap (λ (z : SourceState). z.taken) same) (ap (λ (z : SourceState). z.ends) same ∙ x.no_end);
+    came = (
+      ran_so_far false read.Spent (comes_full h.framer.fed x.few (omega (arith, x.count_is, many))),
+      x.unmet,
+      (ap (λ (z : SourceState). z.faults) same ∙ x.reads, x.fed.faults),
+    );
+  }
 
 -- memory was wanting before the first read
 pub wants_first : (e : NoMemory) (setup : SetupData) (batch : ℕ) (outcome : Servant) (s s' : State) (room room' : ℕ) (old : SourceState) (log log' : Option History) (out out' : SinkState)
@@ -356,6 +282,6 @@ wants_first e setup batch outcome s s' room room' old log log' out out' same = r
   bytes = [];
   earlier = [];
   ended = false;
-  takes = record { last = []; parts = refl; one_read = omega arith; few = omega arith; gave = gave_start old; met = refl };
+  takes = takes_nothing old;
   came = (inl same, refl);
 }

@@ -1,8 +1,6 @@
 -- All reads of a connection, from the first one to the one with which the reading side comes out.
-use Rattle.std.proofs.Common.{◌≡◌, ℕ, ◌+◌, ◌≤◌, ◌<◌, Bool, true, false, List, [], ◌∷◌, ◌++◌, length, take, Option, Some, None, refl, sym, ap, ◌∙◌, subst, arith, append_assoc, append-nil, length-append, length-take}
-use Rattle.std.specs.Prelude.{◌==◌, if◌then◌else◌, option_map, IfSome}
-use Rattle.std.proofs.lemmas.Bool.Decides.{nat_tests}
-use Rattle.std.proofs.lemmas.List.{take-append-le}
+use Rattle.std.proofs.Common.{◌≡◌, ℕ, ◌+◌, ◌≤◌, ◌<◌, Bool, true, false, List, [], ◌∷◌, ◌++◌, length, Option, Some, None, refl, sym, ap, ◌∙◌, subst, arith, append_assoc, append-nil}
+use Rattle.std.specs.Prelude.{IfSome}
 use Rattle.turn_cell.specs.Seats.{CellView}
 use Rattle.orb_base.specs.Outside.{Told, SourceState, Rose}
 use Rattle.orb_base.specs.declared.conn_id.ConnId.{ConnId}
@@ -11,9 +9,10 @@ use Rattle.giop_frames.specs.Stream.{stream}
 use Rattle.lane_machine.specs.Histories.{History}
 use Rattle.lane_machine.specs.State.{State}
 use Rattle.lane_machine.specs.declared.call.LaneCall.{LaneCall}
-use Rattle.text_streams.specs.Streams.{Gave, MeetsEnd}
-use Rattle.text_streams.proofs.CallerLemmas.{gave_start, gave_step, gave_same}
+use Rattle.text_streams.specs.Streams.{Gave}
+use Rattle.text_streams.proofs.CallerLemmas.{gave_start}
 use Rattle.adapter_policies.specs.SetupData.{SetupData}
+use Rattle.lane_driver.proofs.Items.{rose_later}
 use Rattle.heard_calls.specs.Input.{at_end}
 use Rattle.heard_calls.specs.declared.ending.Ending.{Ending}
 use Rattle.conn_engine.specs.HeardSoFar.{HeardSoFar}
@@ -22,11 +21,12 @@ use Rattle.conn_engine.specs.Ends.{read_end}
 use Rattle.conn_engine.specs.Reads.{Takes}
 use Rattle.conn_engine.specs.declared.read_end.ReadEnd.{ReadEnd}
 use Rattle.conn_engine.specs.declared.read_end.ReadEnd.TheVariants as read
-use Rattle.conn_engine.specs.declared.read_end.TheConstants.{MAX_TAKEN, READ_LEN}
+use Rattle.conn_engine.specs.declared.read_end.TheConstants.{MAX_TAKEN}
 use Rattle.conn_engine.proofs.Feeds.{new_hearing}
+use Rattle.conn_engine.proofs.Taken.{heard_here, TookOn, takes_on, takes_no_more, takes_nothing, comes_at_end, comes_at_fault, comes_full}
 use Rattle.lane_pool.specs.Pass.{Pass, conn_of}
 use Rattle.lane_pool.specs.Turns.{Reads, Listens, heard_by}
-use Rattle.conn_sides.specs.Entering.{calls_of, met_closing, Entered}
+use Rattle.conn_sides.specs.Entering.{calls_of, Entered}
 use Rattle.conn_sides.specs.ReadSides.{MadeAll, MadeUpToClosing, WentOnBehind, HearsBy, HearsReads}
 use Rattle.conn_sides.specs.Pieces.{MadePiece, ClosedPiece, HearsPiece}
 use Rattle.conn_sides.specs.declared.read_side_end.ReadSideEnd.{ReadSideEnd}
@@ -73,41 +73,6 @@ read_start cell setup h a from new listens unheard = record {
 -- the connection that is heard is the pass's
 pub conn_now : (cell : CellView State) (setup : SetupData) (h : Hearer) (count : ℕ) (old new : Pass) (from to : SourceState) → ReadSoFar cell setup h count old new from to → h.conn ≡ conn_of new
 conn_now cell setup h count old new from to x = x.conn_is ∙ sym (same_conn_of cell x.entries old new x.entered)
-
--- what was heard, as that of the pass's connection
-heard_here : (setup : SetupData) (conn : ConnId) (h : Hearer) (bytes : List ℕ) (calls : List LaneCall) (ending : Option Ending) → h.setup ≡ setup → h.conn ≡ conn
-    → HeardSoFar h.setup h.conn bytes calls ending → HeardSoFar setup conn bytes calls ending
-heard_here setup conn h bytes calls ending setup_is conn_is heard =
-    subst (λ (c : ConnId). HeardSoFar setup c bytes calls ending) conn_is (subst (λ (x : SetupData). HeardSoFar x h.conn bytes calls ending) setup_is heard)
-
--- one read more gave bytes
-pub record TookOn (fed bytes : List ℕ) (piece : List ℕ) (count : ℕ) (from to : SourceState) : Type 0 where
-  pub parts : bytes ≡ fed ++ piece
-  pub one_read : length piece ≤ READ_LEN
-  pub gave : Gave bytes from to
-  pub count_is : count ≡ length bytes
-  pub few : length bytes ≤ MAX_TAKEN
-  pub reads : to.faults ≡ from.faults
-  pub no_end : to.ends ≡ from.ends
-
-pub took_piece : (cell : CellView State) (setup : SetupData) (h : Hearer) (count n : ℕ) (old now : Pass) (from mid to : SourceState) (into behind piece : List ℕ)
-    → ReadSoFar cell setup h count old now from mid → n ≤ length into → n ≤ READ_LEN → n + count ≤ MAX_TAKEN
-    → mid.left ≡ option_map (λ rest. take n into ++ rest) to.left → to.taken ≡ option_map (λ seen. seen ++ take n into) mid.taken
-    → piece ≡ take n (into ++ behind) → to.faults ≡ mid.faults → to.ends ≡ mid.ends
-    → TookOn h.framer.fed (h.framer.fed ++ piece) piece (count + n) from to
-took_piece cell setup h count n old now from mid to into behind piece x within short few gave taken is reads ends =
-    let its : piece ≡ take n into = is ∙ take-append-le n into behind within in
-    let long : length piece ≡ n = ap length its ∙ length-take n into ∙ omega arith in
-    let len : length (h.framer.fed ++ piece) ≡ length h.framer.fed + n = length-append h.framer.fed piece ∙ ap (λ (k : ℕ). length h.framer.fed + k) long in
-    record {
-      parts = refl;
-      one_read = omega (arith, long, short);
-      gave = gave_step h.framer.fed into behind (h.framer.fed ++ piece) n from mid to x.gave within gave taken (ap (λ (p : List ℕ). h.framer.fed ++ p) is);
-      count_is = omega (arith, x.count_is, len);
-      few = omega (arith, x.count_is, len);
-      reads = reads ∙ x.reads;
-      no_end = ends ∙ x.no_end;
-    }
 
 -- calls of one read more
 made_both : (xs ys : List LaneCall) (a b : History) → MadeAll xs a → MadeAll ys b → MadeAll (xs ++ ys) (a ++ b)
@@ -165,17 +130,6 @@ went_on cell setup h count old now from mid x later all is = record {
   made = x.made;
 }
 
-takes_on : (h : Hearer) (piece bytes : List ℕ) (count : ℕ) (from to : SourceState) → bytes ≡ h.framer.fed ++ piece → TookOn h.framer.fed (h.framer.fed ++ piece) piece count from to
-    → Takes from to h.framer.fed bytes false
-takes_on h piece bytes count from to is took = record {
-  last = piece;
-  parts = is;
-  one_read = took.one_read;
-  few = omega (arith, ap length is, took.few);
-  gave = subst (λ (b : List ℕ). Gave b from to) (sym is) took.gave;
-  met = took.no_end;
-}
-
 -- ---- it stops with a piece
 
 module _ (cell : CellView State) (setup : SetupData) (h h' : Hearer) (count count' : ℕ) (old now new : Pass) (from mid to : SourceState) (piece : List ℕ)
@@ -191,7 +145,7 @@ module _ (cell : CellView State) (setup : SetupData) (h h' : Hearer) (count coun
     bytes = h'.framer.fed;
     earlier = h.framer.fed;
     ended = false;
-    takes = takes_on h piece h'.framer.fed count' from to one.feeds.fed_is took;
+    takes = takes_on h.framer.fed piece h'.framer.fed count' from to one.feeds.fed_is took;
     entries = x.entries ++ one.entries;
     hears = (
       record {
@@ -210,7 +164,7 @@ module _ (cell : CellView State) (setup : SetupData) (h h' : Hearer) (count coun
     bytes = h'.framer.fed;
     earlier = h.framer.fed;
     ended = false;
-    takes = takes_on h piece h'.framer.fed count' from to one.feeds.fed_is took;
+    takes = takes_on h.framer.fed piece h'.framer.fed count' from to one.feeds.fed_is took;
     entries = x.entries ++ one.entries;
     hears = (
       record {
@@ -231,7 +185,7 @@ module _ (cell : CellView State) (setup : SetupData) (h h' : Hearer) (count coun
     bytes = h.framer.fed ++ piece;
     earlier = h.framer.fed;
     ended = false;
-    takes = takes_on h piece (h.framer.fed ++ piece) count' from to refl took;
+    takes = takes_on h.framer.fed piece (h.framer.fed ++ piece) count' from to refl took;
     entries = x.entries;
     hears = (
       record {
@@ -263,26 +217,7 @@ reads_with cell h h' piece now new side.NoMemory listens went = subst (Reads cel
 
 -- ---- it stops without a piece
 
-not_full : (n : ℕ) → n < MAX_TAKEN → (n == MAX_TAKEN) ≡ false
-not_full n h = grind (arith, nat_tests)
-
-is_full : (n : ℕ) → n ≤ MAX_TAKEN → MAX_TAKEN ≤ n → (n == MAX_TAKEN) ≡ true
-is_full n h k = grind (arith, nat_tests)
-
-rose_later : (before mid after : ℕ) → mid ≡ before → Rose mid after → Rose before after
-rose_later before mid after same rose = subst (λ (n : ℕ). Rose n after) same rose
-
 module _ (cell : CellView State) (setup : SetupData) (h : Hearer) (count : ℕ) (old now : Pass) (from mid to : SourceState) (x : ReadSoFar cell setup h count old now from mid) where
-  takes_no_more : (ended : Bool) → to.left ≡ mid.left → to.taken ≡ mid.taken → MeetsEnd ended from to → Takes from to h.framer.fed h.framer.fed ended
-  takes_no_more ended left taken met = record {
-    last = [];
-    parts = sym (append-nil h.framer.fed);
-    one_read = omega arith;
-    few = x.few;
-    gave = gave_same h.framer.fed from mid to x.gave left taken;
-    met = met;
-  }
-
   pub stops_so : (ended : Bool) (end : ReadEnd) → end ≡ read_end None (length h.framer.fed) ended (stream MAX_MESSAGE h.framer.fed).rest
       → Takes from to h.framer.fed h.framer.fed ended → HearsBy (side.Read end) setup (conn_of old) h.framer.fed h.framer.fed ended x.entries from to
       → HearsReads cell setup (side.Read end) old now from to
@@ -300,11 +235,9 @@ module _ (cell : CellView State) (setup : SetupData) (h : Hearer) (count : ℕ) 
   pub stops_at_end : (ending : Ending) → count < MAX_TAKEN → ending ≡ at_end None (stream MAX_MESSAGE h.framer.fed).rest → to.left ≡ mid.left → to.taken ≡ mid.taken
       → IfSome mid.left (λ rest. rest ≡ []) → Rose mid.ends to.ends → to.faults ≡ mid.faults → HearsReads cell setup (side.Read (read.Ended ending)) old now from to
   stops_at_end ending few is left taken none rose reads =
-      let open_still = not_full (length h.framer.fed) (omega (arith, x.count_is, few)) in
-      let comes : read.Ended ending ≡ read_end None (length h.framer.fed) true (stream MAX_MESSAGE h.framer.fed).rest =
-      ap read.Ended is ∙ sym (ap (λ (b : Bool). if b then read.Spent else read.Ended (at_end None (stream MAX_MESSAGE h.framer.fed).rest)) open_still) in
+      let comes = comes_at_end h.framer.fed ending (omega (arith, x.count_is, few)) is in
       stops_so true (read.Ended ending) comes
-      (takes_no_more true left taken (
+      (takes_no_more h.framer.fed from mid to x.few x.gave true left taken (
         rose_later from.ends mid.ends to.ends x.no_end rose,
         subst (λ (o : Told). IfSome o (λ rest. rest ≡ [])) (sym left) none,
       )) (
@@ -319,10 +252,8 @@ module _ (cell : CellView State) (setup : SetupData) (h : Hearer) (count : ℕ) 
   pub stops_at_fault : count < MAX_TAKEN → to.left ≡ mid.left → to.taken ≡ mid.taken → to.ends ≡ mid.ends → Rose mid.faults to.faults
       → HearsReads cell setup (side.Read read.ReadFault) old now from to
   stops_at_fault few left taken ends rose =
-      let open_still = not_full (length h.framer.fed) (omega (arith, x.count_is, few)) in
-      let comes : read.ReadFault ≡ read_end None (length h.framer.fed) false (stream MAX_MESSAGE h.framer.fed).rest =
-      sym (ap (λ (b : Bool). if b then read.Spent else read.ReadFault) open_still) in
-      stops_so false read.ReadFault comes (takes_no_more false left taken (ends ∙ x.no_end)) (
+      let comes = comes_at_fault h.framer.fed (omega (arith, x.count_is, few)) in
+      stops_so false read.ReadFault comes (takes_no_more h.framer.fed from mid to x.few x.gave false left taken (ends ∙ x.no_end)) (
         record {
           calls = h.calls;
           heard = record { ending = None; heard = heard_here setup (conn_of old) h h.framer.fed h.calls None x.setup_is x.conn_is x.going.heard; comes = comes };
@@ -333,11 +264,9 @@ module _ (cell : CellView State) (setup : SetupData) (h : Hearer) (count : ℕ) 
 
   pub stops_full : MAX_TAKEN ≤ count → to ≡ mid → HearsReads cell setup (side.Read read.Spent) old now from to
   stops_full many same =
-      let full = is_full (length h.framer.fed) x.few (omega (arith, x.count_is, many)) in
-      let comes : read.Spent ≡ read_end None (length h.framer.fed) false (stream MAX_MESSAGE h.framer.fed).rest =
-      sym (ap (λ (b : Bool). if b then read.Spent else read.ReadFault) full) in
+      let comes = comes_full h.framer.fed x.few (omega (arith, x.count_is, many)) in
       stops_so false read.Spent comes
-      (takes_no_more false (ap (λ (z : SourceState). z.left) same) (ap (λ (z : SourceState). z.taken) same) (ap (λ (z : SourceState). z.ends) same ∙ x.no_end)) (
+      (takes_no_more h.framer.fed from mid to x.few x.gave false (ap (λ (z : SourceState). z.left) same) (ap (λ (z : SourceState). z.taken) same) (ap (λ (z : SourceState). z.ends) same ∙ x.no_end)) (
         record {
           calls = h.calls;
           heard = record { ending = None; heard = heard_here setup (conn_of old) h h.framer.fed h.calls None x.setup_is x.conn_is x.going.heard; comes = comes };
@@ -358,7 +287,7 @@ wants_first cell setup a from listens = record {
   bytes = [];
   earlier = [];
   ended = false;
-  takes = record { last = []; parts = refl; one_read = omega arith; few = omega arith; gave = gave_start from; met = refl };
+  takes = takes_nothing from;
   entries = [];
   hears = (record { calls = []; heard = heard_nothing setup (conn_of a); made = none_made }, refl, refl);
   before = record { calls = []; heard = heard_nothing setup (conn_of a); first = []; later = []; parts = refl; made = none_made };

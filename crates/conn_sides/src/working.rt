@@ -1,38 +1,14 @@
 //! The workers.
-ghost use Rattle.std.specs.Prelude.{◌≡◌, ◌≤◌, []};
-ghost use Rattle.orb_base.specs.Outcomes.{body_len};
-ghost use Rattle.orb_base.specs.declared.limits.TheConstants.{MAX_BODY};
-ghost use Rattle.pipe_laws.specs.Lacking.{CameOf, served};
+ghost use Rattle.pipe_laws.specs.Lacking.{served};
 ghost use Rattle.lane_pool.specs.Turns.{CanTake};
 ghost use Rattle.conn_sides.specs.Working.{WorksOut, CarriesOut};
 
 use adapter_policies::Setup;
+use lane_driver::invoke;
 use lane_pool::{LanePool, Taken, WorkerPass};
-use orb_base::{Answer, Arc, Gate, Job, Outcome, Serving, Text};
+use orb_base::{Answer, Arc, Gate, Job, Outcome, Serving};
 use std::alloc::Global;
 use std::sync::Wait;
-
-/// The interface of no object. Takes no memory.
-fn no_interface(alloc: Global) -> Text
-    ensures { result ≡ [] }
-{
-    match Text::from_vec(Vec::new(alloc)) {
-        Ok(text) => text,
-        Err(_) => unreachable!(),
-    }
-}
-
-/// Has the servant of the job's object carry it out.
-#[tactic(auto, using(lane_driver::proofs::Driving::came_or_wanting))]
-fn invoke<S: Serving>(alloc: Global, setup: &Setup, servants: &S, job: &Job) -> Outcome
-    ensures came { CameOf (served setup.now (S.outcome servants.now)) job.now result }
-    ensures few { body_len result ≤ MAX_BODY }
-{
-    match setup.object(job.target) {
-        Some(object) => servants.invoke(&object.interface, job),
-        None => servants.invoke(&no_interface(alloc), job),
-    }
-}
 
 /// The answer to a job, between the two calls of the gate.
 fn carry_out<S: Serving, G: Gate>(
@@ -45,7 +21,7 @@ fn carry_out<S: Serving, G: Gate>(
     ensures { CarriesOut (served setup.now (S.outcome servants.now)) job result }
 {
     gate.enter(job.get());
-    let outcome = invoke(alloc, setup, servants, job.get());
+    let outcome: Outcome = invoke(alloc, setup, servants, job.get());
     gate.leave(job.get());
     Answer { job, outcome }
 }

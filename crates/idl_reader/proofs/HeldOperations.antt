@@ -214,7 +214,7 @@ keeps_added scope name place sort t ts x = record {
   scopes = λ k h. scope_old scope name place sort t k (finished_within t k h);
 }
 
-no_interface : (x : Thing) (bs os : List ℕ) → is_interface x ≡ false → x ≡ interface bs os → ⊥
+pub no_interface : (x : Thing) (bs os : List ℕ) → is_interface x ≡ false → x ≡ interface bs os → ⊥
 no_interface x bs os h e = absurd (both_ways (is_interface x) h (ap is_interface e))
 
 -- no operation of an interface in whose scopes this name is added has this name

@@ -12,17 +12,15 @@ use Rattle.idl_grammar.specs.declared.label.Inner.{Inner}
 use Rattle.idl_grammar.specs.declared.label.Inner.TheVariants as inner
 use Rattle.idl_grammar.specs.IdlRules.{file}
 use Rattle.idl_grammar.proofs.PlainRules.{idl_plain}
-use Rattle.idl_scopes.specs.Finding.{lowered}
 use Rattle.idl_names.specs.State.{Built, nothing_built}
 use Rattle.idl_names.specs.Labels.{act, judge}
 use Rattle.idl_names.specs.Declaring.{idl}
 use Rattle.idl_names.specs.Whole.{Declares}
-use Rattle.idl_reader.proofs.CutNames.{has_slash}
 use Rattle.idl_reader.proofs.KeptLabels.{declares}
 use Rattle.idl_reader.proofs.EachToken.{EachToken}
 use Rattle.idl_reader.proofs.Modes.{Modes, after, rule_leads, inner_leads}
-use Rattle.idl_reader.proofs.NameTokens.{begins_low, is_name, IsPlainName, plain_names}
-use Rattle.idl_reader.proofs.Places.{Spot, outside, heading, based, named, inside, part, same_spot, spot_is, goes, goes_alone, goes_within}
+use Rattle.idl_reader.proofs.NameTokens.{is_name, IsNameText, IsPlainName, plain_names}
+use Rattle.idl_reader.proofs.Places.{Spot, outside, heading, based, named, inside, part, same_spot, spot_is, only_at_names, goes, goes_alone, goes_within}
 use Rattle.idl_reader.proofs.Triples.{LeadsAt}
 
 -- a spot, and whether it is in the body of an interface
@@ -158,16 +156,6 @@ inside_after inner.ArrayLength (inside, true) n e = e
 inside_after inner.ArrayLength (inside, false) n e = e
 inside_after inner.ArrayLength (part, true) n e = e
 inside_after inner.ArrayLength (part, false) n e = e
-
--- a label that declares leads on only at a name
-only_at_names : (d there : Bool) (x : Option HeldSpot) (n : HeldSpot) → (if d then (if there then x else None) else x) ≡ Some n → (x ≡ Some n) × (d ≡ true → there ≡ true)
-only_at_names true true x n e = (e, λ h. refl)
-only_at_names true false x n e = absurd (none-some n e)
-only_at_names false there x n e = (e, λ h. absurd cc)
-
--- what a name is
-abbrev pub IsNameText : List ℕ → Type 0
-IsNameText text = (has_slash (lowered text) ≡ false) × (begins_low text ≡ false)
 
 module _ (I : HeldSpot → Built → Type 0)
     (h_at : (label : IdlLabel) (m n : Spot) (b d : Bool) → goes label m ≡ Some n → holds_at label b ≡ Some d → (t : Placed Kind) → (declares label ≡ true → IsNameText t.text) → (s c : Built) → I (m, b) s → act label t s ≡ Ok c → I (n, d) c)

@@ -12,7 +12,7 @@ use Rattle.idl_grammar.specs.declared.label.IdlLabel.{IdlLabel}
 use Rattle.idl_grammar.specs.declared.label.IdlLabel.TheVariants as l
 use Rattle.idl_scopes.specs.Table.{Declared, Table, module_}
 use Rattle.idl_scopes.specs.Table as table
-use Rattle.idl_scopes.specs.Finding.{lowered, outer, own, sort_in, sort_at, is_module, if_module, module_in}
+use Rattle.idl_scopes.specs.Finding.{outer, own, sort_in, sort_at, is_module, if_module, module_in}
 use Rattle.idl_scopes.specs.Taking.{is_taken_part}
 use Rattle.idl_scopes.proofs.NotTaken.{part_absent}
 use Rattle.idl_constants.specs.Fitting.{fit}
@@ -26,7 +26,7 @@ use Rattle.idl_names.specs.Values as values
 use Rattle.idl_names.specs.Bodies as bodies
 use Rattle.idl_names.specs.Interfaces as interfaces
 use Rattle.idl_names.specs.Labels.{act_in_body, act_on_value, act, judge}
-use Rattle.idl_reader.proofs.CutNames.{has_slash}
+use Rattle.idl_reader.proofs.NameTokens.{IsNameText}
 use Rattle.idl_reader.proofs.KeptNames.{IsOrderly, like, Kept, kept_ok, kept_err, kept_then, kept_unless, kept_counted, kept_measured, kept_fitting, unless_ok, added_orderly, kept_declare_in, kept_declare, kept_enter, outer_inside, left_orderly, became_orderly, kept_ends, named_orderly, set_orderly}
 
 -- the labels at whose tokens a name is declared
@@ -157,7 +157,7 @@ module_there t (Some j) i e =
     let p = cond_some (is_module (sort_at t j)) j i e in
     subst (λ (n : ℕ). n < length t.declared) p.1 (sort_there t.declared j (slice_get t.declared j) refl p.0)
 
-kept_open_module : (t : Placed Kind) (s : Built) (o : Option ℕ) → ((i : ℕ) → o ≡ Some i → i < length s.scopes.declared) → IsOrderly s → has_slash (lowered t.text) ≡ false
+kept_open_module : (t : Placed Kind) (s : Built) (o : Option ℕ) → ((i : ℕ) → o ≡ Some i → i < length s.scopes.declared) → IsOrderly s → IsNameText t.text
     → Kept (names.open_module t s o)
 kept_open_module t s (Some i) there o plain = kept_ok (record s { here = i + 1 }) (let h = there i refl in record { names = o.names; keyed = o.keyed; inside = omega arith; free = o.free; paired = o.paired })
 kept_open_module t s None there o plain =
@@ -167,13 +167,13 @@ kept_part : (t : Placed Kind) (s : Built) (o : Option ℕ) → IsOrderly s → K
 kept_part t s None o = kept_err _
 kept_part t s (Some i) o = kept_like s _ o refl refl refl
 
-kept_enumerate : (t : Placed Kind) (s : Built) → IsOrderly s → has_slash (lowered t.text) ≡ false → Kept (bodies.enumerate t s)
+kept_enumerate : (t : Placed Kind) (s : Built) → IsOrderly s → IsNameText t.text → Kept (bodies.enumerate t s)
 kept_enumerate t s o plain =
     let thing = enumerator (bodies.open_id s) (length s.parts.enumerators) in
     kept_then (declare_in (outer s.scopes s.here) table.other thing t s) (bodies.label_named t) (kept_declare_in (outer s.scopes s.here) table.other thing t s o (outer_inside s o) plain)
     (λ x ox. kept_like x _ ox refl refl refl)
 
-kept_attribute : (t : Placed Kind) (s : Built) → IsOrderly s → has_slash (lowered t.text) ≡ false → Kept (interfaces.attribute t s)
+kept_attribute : (t : Placed Kind) (s : Built) → IsOrderly s → IsNameText t.text → Kept (interfaces.attribute t s)
 kept_attribute t s o plain =
     let thing = interfaces.attribute_of s.parts.readonly t.text s.type in
     kept_then (declare_in s.here table.operation thing t s >>= interfaces.attribute_counted t) interfaces.attribute_held
@@ -181,14 +181,14 @@ kept_attribute t s o plain =
     (λ x ox. kept_counted (interfaces.operation_leaves (thing_at x (newest x))) (place_of t) x ox))
     (λ x ox. kept_ok (interfaces.with_operation x.here (newest x) x) (with_operation_orderly x.here (newest x) x ox))
 
-kept_declare_param : (t : Placed Kind) (s : Built) → IsOrderly s → has_slash (lowered t.text) ≡ false → 0 < s.here → Kept (interfaces.declare_param t s)
+kept_declare_param : (t : Placed Kind) (s : Built) → IsOrderly s → IsNameText t.text → 0 < s.here → Kept (interfaces.declare_param t s)
 kept_declare_param t s o plain inner c e =
     let m = bind_ok (unless (is_taken_part s.scopes t.text s.here) cause.Clash (place_of t) s) (λ x. Ok (with_name x.here table.other nothing t x)) c e in
     let u = unless_ok (is_taken_part s.scopes t.text s.here) cause.Clash (place_of t) s m.0 m.1 in
     kept_ok (with_name m.0.here table.other nothing t m.0)
     (subst (λ (x : Built). IsOrderly (with_name x.here table.other nothing t x)) u.1 (added_orderly s.here table.other nothing t s o o.inside plain (part_absent s.scopes t.text s.here u.0) (λ z low. absurd (omega arith)))) c m.2
 
-kept_param : (t : Placed Kind) (s : Built) → IsOrderly s → has_slash (lowered t.text) ≡ false → 0 < s.here → Kept (interfaces.param t s)
+kept_param : (t : Placed Kind) (s : Built) → IsOrderly s → IsNameText t.text → 0 < s.here → Kept (interfaces.param t s)
 kept_param t s o plain inner = kept_then (interfaces.declare_param t s) (interfaces.param_named t) (kept_declare_param t s o plain inner) (λ x ox. kept_like x _ ox refl refl refl)
 
 kept_end_exception : (s : Built) → IsOrderly s → Kept (bodies.end_exception s)
@@ -198,7 +198,7 @@ kept_end_exception s o =
     (kept_then (unless (nat_lt 65536 s.parts.leaves) cause.TooLarge p s) (counted s.parts.leaves p) (kept_unless _ cause.TooLarge p s o) (λ x ox. kept_counted s.parts.leaves p x ox))
     (λ x ox. kept_ends table.other (exception s.parts.members) x ox)
 
-kept_in_body : (label : IdlLabel) (t : Placed Kind) (s : Built) → (declares label ≡ true → has_slash (lowered t.text) ≡ false) → (is_param label ≡ true → 0 < s.here) → IsOrderly s → Kept (act_in_body label t s)
+kept_in_body : (label : IdlLabel) (t : Placed Kind) (s : Built) → (declares label ≡ true → IsNameText t.text) → (is_param label ≡ true → 0 < s.here) → IsOrderly s → Kept (act_in_body label t s)
 kept_in_body l.EndStruct t s plain inner o =
     kept_ends_type (record { kind = structure (bodies.open_id s) (members_of s.parts.members); leaves = s.parts.leaves; levels = plus s.parts.levels 1 }) s o
 kept_in_body l.EndException t s plain inner o = kept_end_exception s o
@@ -219,7 +219,7 @@ kept_in_body l.Param t s plain inner o = kept_param t s o (plain refl) (inner re
 kept_in_body l.Raises t s plain inner o = kept_unless _ cause.BadOneway (place_of t) s o
 kept_in_body label t s plain inner o = kept_ok s o
 
-kept_on_value : (label : IdlLabel) (t : Placed Kind) (s : Built) → (declares label ≡ true → has_slash (lowered t.text) ≡ false) → (is_param label ≡ true → 0 < s.here) → IsOrderly s → Kept (act_on_value label t s)
+kept_on_value : (label : IdlLabel) (t : Placed Kind) (s : Built) → (declares label ≡ true → IsNameText t.text) → (is_param label ≡ true → 0 < s.here) → IsOrderly s → Kept (act_on_value label t s)
 kept_on_value l.Sign t s plain inner o = kept_like s _ o refl refl refl
 kept_on_value l.Number t s plain inner o = kept_like s _ o refl refl refl
 kept_on_value l.Plus t s plain inner o = kept_like s _ o refl refl refl
@@ -230,7 +230,7 @@ kept_on_value (l.Truth b) t s plain inner o = kept_like s _ o refl refl refl
 kept_on_value label t s plain inner o = kept_in_body label t s plain inner o
 
 -- what is done at a token
-pub kept_act : (label : IdlLabel) (t : Placed Kind) (s : Built) → (declares label ≡ true → has_slash (lowered t.text) ≡ false) → (is_param label ≡ true → 0 < s.here) → IsOrderly s → Kept (act label t s)
+pub kept_act : (label : IdlLabel) (t : Placed Kind) (s : Built) → (declares label ≡ true → IsNameText t.text) → (is_param label ≡ true → 0 < s.here) → IsOrderly s → Kept (act label t s)
 kept_act (l.Refuse c) t s plain inner o = kept_err _
 kept_act l.Module t s plain inner o =
     kept_open_module t s (module_in s.scopes t.text s.here) (λ i e. module_there s.scopes (own s.scopes t.text s.here) i e) o (plain refl)

@@ -1,4 +1,4 @@
--- Scopes stay in order at each label of the grammar, at names without a `/`.
+-- Scopes stay in order at each label of the grammar, where a name is declared at a token of a name.
 use Rattle.std.proofs.Common.{◌≡◌, ℕ, ◌+◌, ◌-◌, ◌≤◌, arith, Bool, true, false, List, [], ◌∷◌, ◌++◌, length, length-append, map, codes, set, Option, Some, None, Ok, Err, refl, sym, ap, subst, ◌∙◌}
 use Rattle.std.specs.Prelude.{◌||◌, nat_lt, slice_get}
 use Rattle.std.specs.List.{list_any}
@@ -14,7 +14,7 @@ use Rattle.idl_grammar.specs.declared.fault.IdlFault.{IdlFault}
 use Rattle.idl_grammar.specs.declared.fault.IdlCause.{IdlCause}
 use Rattle.idl_grammar.specs.declared.fault.IdlCause.TheVariants as cause
 use Rattle.idl_scopes.specs.declared.place.Place.{Place}
-use Rattle.idl_scopes.specs.Table.{Sort, Declared, Table, module_}
+use Rattle.idl_scopes.specs.Table.{Sort, Declared, Table}
 use Rattle.idl_scopes.specs.Table as table
 use Rattle.idl_scopes.specs.Finding.{lowered, is_at, above, outer}
 use Rattle.idl_scopes.specs.Taking.{is_in, is_owner, is_operation_in, is_taken, is_taken_part}
@@ -26,7 +26,7 @@ use Rattle.idl_names.specs.State.{Thing, nothing, Built}
 use Rattle.idl_names.specs.Changes.{Done, place_of, refused, unless, newest, opened, with_name, declare_in, declare, entered, enter, set_thing, become, leave, ended, ends, counted, measured}
 use Rattle.idl_names.specs.Values as values
 use Rattle.idl_names.specs.Bodies as bodies
-use Rattle.idl_reader.proofs.CutNames.{has_slash}
+use Rattle.idl_reader.proofs.NameTokens.{IsNameText}
 use Rattle.idl_reader.proofs.Tables.{known, known_in, key_of, AreInOrder, one_more_name, IsFree, free_more, same_known, known_added, in_order}
 use Rattle.idl_reader.proofs.Steps.{Gives, gives_ok, gives_err, gives_then, gives_unless}
 
@@ -82,7 +82,7 @@ kept_fitting (Ok x) s o = kept_ok s o
 kept_fitting (Err m) s o = kept_err _
 
 -- a name that isn't in its scope, with its thing
-pub added_orderly : (scope : ℕ) (sort : Sort) (thing : Thing) (t : Placed Kind) (s : Built) → IsOrderly s → scope ≤ length s.scopes.declared → has_slash (lowered t.text) ≡ false
+pub added_orderly : (scope : ℕ) (sort : Sort) (thing : Thing) (t : Placed Kind) (s : Built) → IsOrderly s → scope ≤ length s.scopes.declared → IsNameText t.text
     → is_in s.scopes t.text scope ≡ false → (scope ≡ 0 → lowered t.text ≡ codes "orb" → ⊥) → IsOrderly (with_name scope sort thing t s)
 added_orderly scope sort thing t s o inside plain absent free =
     let ds = s.scopes.declared in
@@ -113,7 +113,7 @@ pub unless_ok : (b : Bool) (d : IdlCause) (p : Place) (s c : Built) → unless b
 unless_ok true d p s c e = absurd cc
 unless_ok false d p s c e = (refl, ok_is s c e)
 
-pub kept_declare_in : (scope : ℕ) (sort : Sort) (thing : Thing) (t : Placed Kind) (s : Built) → IsOrderly s → scope ≤ length s.scopes.declared → has_slash (lowered t.text) ≡ false
+pub kept_declare_in : (scope : ℕ) (sort : Sort) (thing : Thing) (t : Placed Kind) (s : Built) → IsOrderly s → scope ≤ length s.scopes.declared → IsNameText t.text
     → Kept (declare_in scope sort thing t s)
 kept_declare_in scope sort thing t s o inside plain c e =
     let m = bind_ok (unless (is_taken s.scopes t.text scope) cause.Clash (place_of t) s) (λ x. Ok (with_name scope sort thing t x)) c e in
@@ -122,7 +122,7 @@ kept_declare_in scope sort thing t s o inside plain c e =
     kept_ok (with_name scope sort thing t m.0)
     (subst (λ (x : Built). IsOrderly (with_name scope sort thing t x)) u.1 (added_orderly scope sort thing t s o inside plain (absent_here s.scopes t.text scope u.0) (owner_free s.scopes t.text scope u.0))) c m.2
 
-pub kept_declare : (t : Placed Kind) (s : Built) → IsOrderly s → has_slash (lowered t.text) ≡ false → Kept (declare t s)
+pub kept_declare : (t : Placed Kind) (s : Built) → IsOrderly s → IsNameText t.text → Kept (declare t s)
 kept_declare t s o plain = kept_declare_in s.here table.unfinished nothing t s o o.inside plain
 
 pub kept_enter : (s : Built) → IsOrderly s → Kept (enter s)
@@ -135,7 +135,7 @@ outer_inside s o = let h = (in_order s.scopes o.names).inwards (s.here - 1) in l
 pub left_orderly : (s : Built) → IsOrderly s → IsOrderly (leave s)
 left_orderly s o = record { names = o.names; keyed = o.keyed; inside = outer_inside s o; free = o.free; paired = o.paired }
 
-finished_length : (ds : List Declared) (i : ℕ) (sort : Sort) (o : Option Declared) → length (finished_in ds i sort o) ≡ length ds
+pub finished_length : (ds : List Declared) (i : ℕ) (sort : Sort) (o : Option Declared) → length (finished_in ds i sort o) ≡ length ds
 finished_length ds i sort None = refl
 finished_length ds i sort (Some d) = length-set ds i (record d { sort = sort })
 

@@ -21,7 +21,7 @@ use Rattle.idl_scopes.specs.Table as table
 use Rattle.idl_scopes.specs.Table.{Sort, unfinished, module_, operation, Declared, Table}
 use Rattle.idl_scopes.specs.Finding.{lowered, scope_in, name_in, sort_at, scope_at, is_finished, is_module, is_operation, inherited, is_at, own, above, outer, scopes_of, if_module, module_in}
 use Rattle.idl_scopes.specs.Taking.{is_in, is_owner, is_operation_there, is_operation_in, is_taken_part, is_taken}
-use Rattle.idl_scopes.specs.Declaring.{added, finished_in, finished}
+use Rattle.idl_scopes.specs.Declaring.{added, finished}
 use Rattle.idl_scopes.proofs.NotTaken.{absent_here}
 use Rattle.idl_types.specs.Names.{operation_names}
 use Rattle.idl_types.specs.Things.{OperationView}
@@ -33,19 +33,19 @@ use Rattle.idl_names.specs.ScopedNames as names
 use Rattle.idl_names.specs.Values as values
 use Rattle.idl_names.specs.Bodies as bodies
 use Rattle.idl_names.specs.Interfaces as interfaces
-use Rattle.idl_names.specs.Interfaces.{is_interface, and_operation, operations_from}
+use Rattle.idl_names.specs.Interfaces.{is_interface, and_operation}
 use Rattle.idl_names.specs.Labels.{act, judge}
 use Rattle.idl_names.specs.Whole.{Declares}
 use Rattle.idl_reader.proofs.ApartBodies.{Body, NamesAt, names_at, names_alone}
 use Rattle.idl_reader.proofs.DeclaredNames.{declared_is, known_scope, scope_by_known, outer_added, outer_finished}
 use Rattle.idl_reader.proofs.EarlierBases.{IsBase, AreBased}
 use Rattle.idl_reader.proofs.FirstNames.{IsAmong, AreRead, first_known, placed}
-use Rattle.idl_reader.proofs.HeldOperations.{AreNamesOf, IsHeld, AreHeld, IsScopeOf, AreScopes, IsInterface, AreInterfaces, IsModuleAt, is_container, IsClear, IsOpenAt, AreMerged, none_merged, module_kept, keeps_added, keeps_set, sort_old, sort_new, scope_new, sort_there, sort_elsewhere, among_scope, interfaces_added, interfaces_set, interfaces_opened, interfaces_gained}
-use Rattle.idl_reader.proofs.HeldSpots.{HeldSpot, IsNameText, holds_at, holds_alone, held_text}
+use Rattle.idl_reader.proofs.HeldOperations.{AreNamesOf, IsHeld, AreHeld, IsScopeOf, AreScopes, IsInterface, AreInterfaces, IsModuleAt, is_container, IsClear, IsOpenAt, AreMerged, none_merged, module_kept, keeps_added, keeps_set, no_interface, sort_old, sort_new, scope_new, sort_there, sort_elsewhere, among_scope, interfaces_added, interfaces_set, interfaces_opened, interfaces_gained}
+use Rattle.idl_reader.proofs.HeldSpots.{HeldSpot, holds_at, holds_alone, held_text}
 use Rattle.idl_reader.proofs.KeptLabels.{declares}
-use Rattle.idl_reader.proofs.KeptNames.{IsOrderly, unless_ok}
+use Rattle.idl_reader.proofs.KeptNames.{IsOrderly, unless_ok, finished_length}
 use Rattle.idl_reader.proofs.MergedBases.{base_merged}
-use Rattle.idl_reader.proofs.NameTokens.{begins_low}
+use Rattle.idl_reader.proofs.NameTokens.{begins_low, IsNameText}
 use Rattle.idl_reader.proofs.Places.{Spot, outside, heading, based, named, inside, part, goes, goes_alone}
 use Rattle.idl_reader.proofs.QuietLabels.{Same, itself, leaves_then, leaves_unless, leaves_counted, leaves_measured, leaves_fitting, quiet_act, quiet_judge}
 use Rattle.idl_reader.proofs.Shapes.{gained, newest_same, opened_same}
@@ -68,10 +68,6 @@ record AreUnread (t : Table) (ks : List ℕ) : Type 0 where
   rest : (k : ℕ) → k < length t.declared → (is_finished (sort_at t k) ≡ true) ⊎ IsAmong k ks
   all : AllUnread t ks
 
--- no name begins with `_`
-abbrev ArePlain : Table → Type 0
-ArePlain t = (k : ℕ) (p : ℕ × List ℕ) → slice_get (known_in t.declared) k ≡ Some p → begins_low p.1 ≡ false
-
 -- the place of the newest declaration
 abbrev last_of : Table → ℕ
 last_of t = length t.declared - 1
@@ -86,7 +82,6 @@ ScopesAt part b t here ts bases given = InScope b t ts (outer t here) × AreUnre
 
 record HeldAt (m : Spot) (b : Bool) (t : Table) (here : ℕ) (ts : List Thing) (bases given : List ℕ) : Type 0 where
   interfaces : AreInterfaces t ts
-  plain : ArePlain t
   scopes : ScopesAt m b t here ts bases given
 
 abbrev Held : Spot → Bool → Built → Type 0
@@ -101,16 +96,6 @@ held_same m b s c k h =
     (subst (λ (t : Table). HeldAt m b t s.here s.things s.parts.bases s.parts.given) k.scopes h))))
 
 -- steps of the tables
-plain_added : (scope : ℕ) (name : List ℕ) (place : Place) (sort : Sort) (t : Table) → begins_low name ≡ false → ArePlain t → ArePlain (added scope name place sort t)
-plain_added scope name place sort t low h k p e =
-    elim (get_behind (known_in t.declared) (scope, name) p k (ap (λ (ps : List (ℕ × List ℕ)). slice_get ps k) (sym (known_added scope name place sort t)) ∙ e)) [
-      | inl q ↦ h k p q
-      | inr q ↦ subst (λ (r : ℕ × List ℕ). begins_low r.1 ≡ false) q.1 low
-    ]
-
-plain_set : (t : Table) (i : ℕ) (sort : Sort) → ArePlain t → ArePlain (finished t i sort)
-plain_set t i sort h = subst (λ (ps : List (ℕ × List ℕ)). (k : ℕ) (p : ℕ × List ℕ) → slice_get ps k ≡ Some p → begins_low p.1 ≡ false) (sym (same_known t i sort)) h
-
 all_unread_added : (scope : ℕ) (name : List ℕ) (place : Place) (sort : Sort) (t : Table) (ks : List ℕ) → ((k : ℕ) → IsAmong k ks → k < length t.declared) → AllUnread t ks → AllUnread (added scope name place sort t) ks
 all_unread_added scope name place sort t [] less h = tt
 all_unread_added scope name place sort t (k ∷ ks) less h = (ap is_finished (sort_old scope name place sort t k (less k (inl refl))) ∙ h.0, all_unread_added scope name place sort t ks (λ j m. less j (inr m)) h.1)
@@ -145,10 +130,6 @@ unread_more scope name place t ks less h =
       all = (ap is_finished (sort_new scope name place unfinished t), all_unread_added scope name place unfinished t ks less h.all);
     })
 
-finished_length : (ds : List Declared) (i : ℕ) (sort : Sort) (o : Option Declared) → length (finished_in ds i sort o) ≡ length ds
-finished_length ds i sort None = refl
-finished_length ds i sort (Some d) = length-set ds i (record d { sort = sort })
-
 set_length : (t : Table) (i : ℕ) (sort : Sort) → length (finished t i sort).declared ≡ length t.declared
 set_length t i sort = finished_length t.declared i sort (slice_get t.declared i)
 
@@ -170,9 +151,6 @@ unread_set t i sort ks fin n h = record {
       ];
   all = all_unread_set t i sort ks n h.all.1;
 }
-
-no_interface : (x : Thing) (bs os : List ℕ) → is_interface x ≡ false → x ≡ interface bs os → ⊥
-no_interface x bs os h e = absurd (both_ways (is_interface x) h (ap is_interface e))
 
 -- the open scope goes on to be open
 scope_added : (b : Bool) (scope : ℕ) (name : List ℕ) (place : Place) (sort : Sort) (t : Table) (ts : List Thing) (x : Thing) (here : ℕ) → is_interface x ≡ false → InScope b t ts here → InScope b (added scope name place sort t) (ts ++ x ∷ []) here
@@ -363,7 +341,6 @@ named_finished b s c w h f =
     (subst (λ (n : ℕ). HeldAt outside b (finished s.scopes i table.other) n c.things c.parts.bases c.parts.given) (sym f.here)
     (subst (λ (ts : List Thing). HeldAt outside b (finished s.scopes i table.other) s.here ts c.parts.bases c.parts.given) (sym f.things) (record {
       interfaces = interfaces_set s.scopes s.things i table.other f.thing there un less f.plain refl h.interfaces;
-      plain = plain_set s.scopes i table.other h.plain;
       scopes = (scope_set b s.scopes s.things i table.other f.thing s.here there un f.plain h.scopes.0, unread_set s.scopes i table.other [] refl (λ m. m) h.scopes.1);
     })))
 
@@ -381,7 +358,6 @@ part_finished b s c w h f =
     (subst (λ (n : ℕ). HeldAt inside b u n c.things c.parts.bases c.parts.given) (sym f.here)
     (subst (λ (ts : List Thing). HeldAt inside b u s.here ts c.parts.bases c.parts.given) (sym f.things) (record {
       interfaces = interfaces_set s.scopes s.things i table.other f.thing there un less f.plain refl h.interfaces;
-      plain = plain_set s.scopes i table.other h.plain;
       scopes = (
         subst (λ (n : ℕ). InScope b u (set s.things i f.thing) n) (sym (outer_finished s.scopes i table.other s.here)) (scope_set b s.scopes s.things i table.other f.thing (outer s.scopes s.here) there un f.plain h.scopes.0),
         unread_set s.scopes i table.other (opened s ∷ []) refl (λ m. elim m [ inl e ↦ absurd (omega arith) | inr r ↦ r ]) h.scopes.1,
@@ -399,7 +375,6 @@ closed b s c w h f =
     (subst (λ (n : ℕ). HeldAt outside b u n c.things c.parts.bases c.parts.given) (sym f.here)
     (subst (λ (ts : List Thing). HeldAt outside b u (outer s.scopes s.here) ts c.parts.bases c.parts.given) (sym f.things) (record {
       interfaces = interfaces_set s.scopes s.things i table.other f.thing there un less f.plain refl h.interfaces;
-      plain = plain_set s.scopes i table.other h.plain;
       scopes = (scope_set b s.scopes s.things i table.other f.thing (outer s.scopes s.here) there un f.plain h.scopes.0, unread_set s.scopes i table.other [] refl (λ m. m) h.scopes.1);
     })))
 
@@ -407,21 +382,20 @@ closed b s c w h f =
 none_unread : (n k : ℕ) → IsAmong k [] → k < n
 none_unread n k m = absurd m
 
-declared_named : (b : Bool) (t : Placed Kind) (s c : Built) → IsNameText t.text → Stands outside s → Held outside b s → declare t s ≡ Ok c → Held named b c
-declared_named b t s c name w h e =
+declared_named : (b : Bool) (t : Placed Kind) (s c : Built) → Stands outside s → Held outside b s → declare t s ≡ Ok c → Held named b c
+declared_named b t s c w h e =
     let q = declared_is s.here unfinished nothing t s c e in
     let p = place_of t in
     subst (λ (x : Built). Held named b x) q.1 (record {
       interfaces = interfaces_added s.here t.text p unfinished s.scopes s.things nothing w.paired refl (λ z. absurd cc) (clear_free b s.scopes s.things s.here t.text w.names w.keyed q.0 h.interfaces h.scopes.0) h.interfaces;
-      plain = plain_added s.here t.text p unfinished s.scopes name.1 h.plain;
       scopes = (scope_added b s.here t.text p unfinished s.scopes s.things nothing s.here refl h.scopes.0, unread_more s.here t.text p s.scopes [] (none_unread (length s.scopes.declared)) h.scopes.1);
     })
 
-declared_heading : (t : Placed Kind) (s c : Built) → IsNameText t.text → Stands outside s → NamesAt outside s → Held outside false s → declare t s ≡ Ok c → Held heading false c
-declared_heading t s c name w n h e =
+declared_heading : (t : Placed Kind) (s c : Built) → Stands outside s → NamesAt outside s → Held outside false s → declare t s ≡ Ok c → Held heading false c
+declared_heading t s c w n h e =
     let q = declared_is s.here unfinished nothing t s c e in
     let p = place_of t in
-    let d = declared_named false t s c name w h e in
+    let d = declared_named false t s c w h e in
     let u = added s.here t.text p unfinished s.scopes in
     let long = added_length s.here t.text p unfinished s.scopes in
     let last : length s.scopes.declared ≡ last_of u = omega arith in
@@ -431,7 +405,6 @@ declared_heading t s c name w n h e =
     let f = subst (λ (x : Built). Held named false x) (sym q.1) d in
     record {
       interfaces = f.interfaces;
-      plain = f.plain;
       scopes = (
         f.scopes,
         (
@@ -442,10 +415,10 @@ declared_heading t s c name w n h e =
       );
     })
 
-declared_open : (b : Bool) (t : Placed Kind) (s c : Built) → IsNameText t.text → Stands outside s → Held outside b s → open_body t s ≡ Ok c → Held inside b c
-declared_open b t s c name w h e =
+declared_open : (b : Bool) (t : Placed Kind) (s c : Built) → Stands outside s → Held outside b s → open_body t s ≡ Ok c → Held inside b c
+declared_open b t s c w h e =
     let m = bind_ok (declare t s) enter c e in
-    let d = declared_named b t s m.0 name w h m.1 in
+    let d = declared_named b t s m.0 w h m.1 in
     let q = declared_is s.here unfinished nothing t s m.0 m.1 in
     let p = place_of t in
     let u = added s.here t.text p unfinished s.scopes in
@@ -455,7 +428,6 @@ declared_open b t s c name w h e =
     let around : s.here ≡ outer u (length u.declared) = sym (subst (λ (i : ℕ). scope_at u i ≡ s.here) last (scope_new s.here t.text p unfinished s.scopes)) in
     subst (λ (x : Built). Held inside b x) (ap entered q.1 ∙ ok_is _ c m.2) (record {
       interfaces = f.interfaces;
-      plain = f.plain;
       scopes = (subst (λ (n : ℕ). InScope b u (s.things ++ nothing ∷ []) n) around f.scopes.0, f.scopes.1);
     })
 
@@ -463,23 +435,22 @@ one_unread : (n i k : ℕ) → i < n → IsAmong k (i ∷ []) → k < n
 one_unread n i k less m = elim m [ inl e ↦ omega arith | inr r ↦ absurd r ]
 
 -- a name in an open body
-declared_part : (b : Bool) (t : Placed Kind) (s c : Built) → IsNameText t.text → Stands inside s → Held inside b s → declare t s ≡ Ok c → Held part b c
-declared_part b t s c name w h e =
+declared_part : (b : Bool) (t : Placed Kind) (s c : Built) → Stands inside s → Held inside b s → declare t s ≡ Ok c → Held part b c
+declared_part b t s c w h e =
     let q = declared_is s.here unfinished nothing t s c e in
     let p = place_of t in
     let less = opened_within s w.0 w.1 in
     let u = added s.here t.text p unfinished s.scopes in
     subst (λ (x : Built). Held part b x) q.1 (record {
       interfaces = interfaces_added s.here t.text p unfinished s.scopes s.things nothing w.0.paired refl (λ z. absurd cc) (clear_inside s.scopes s.things s.here t.text w.1.some w.1.there) h.interfaces;
-      plain = plain_added s.here t.text p unfinished s.scopes name.1 h.plain;
       scopes = (
         subst (λ (n : ℕ). InScope b u (s.things ++ nothing ∷ []) n) (sym (outer_added s.here t.text p unfinished s.scopes s.here less)) (scope_added b s.here t.text p unfinished s.scopes s.things nothing (outer s.scopes s.here) refl h.scopes.0),
         unread_more s.here t.text p s.scopes (opened s ∷ []) (λ k m. one_unread (length s.scopes.declared) (opened s) k less m) h.scopes.1,
       );
     })
 
-declared_param : (b : Bool) (t : Placed Kind) (s c : Built) → IsNameText t.text → Stands inside s → Held inside b s → interfaces.param t s ≡ Ok c → Held inside b c
-declared_param b t s c name w h e =
+declared_param : (b : Bool) (t : Placed Kind) (s c : Built) → Stands inside s → Held inside b s → interfaces.param t s ≡ Ok c → Held inside b c
+declared_param b t s c w h e =
     let first = unless (is_taken_part s.scopes t.text s.here) cause.Clash (place_of t) s in
     let second : Built → Done = λ x. Ok (with_name x.here table.other nothing t x) in
     let m = bind_ok (interfaces.declare_param t s) (interfaces.param_named t) c e in
@@ -492,15 +463,14 @@ declared_param b t s c name w h e =
     let u = added s.here t.text p table.other s.scopes in
     subst (λ (x : Built). Held inside b x) z (record {
       interfaces = interfaces_added s.here t.text p table.other s.scopes s.things nothing w.0.paired refl (λ x. absurd cc) (clear_inside s.scopes s.things s.here t.text w.1.some w.1.there) h.interfaces;
-      plain = plain_added s.here t.text p table.other s.scopes name.1 h.plain;
       scopes = (
         subst (λ (n : ℕ). InScope b u (s.things ++ nothing ∷ []) n) (sym (outer_added s.here t.text p table.other s.scopes s.here less)) (scope_added b s.here t.text p table.other s.scopes s.things nothing (outer s.scopes s.here) refl h.scopes.0),
         unread_read s.here t.text p table.other s.scopes (opened s ∷ []) refl (λ k m. one_unread (length s.scopes.declared) (opened s) k less m) h.scopes.1,
       );
     })
 
-enumerated : (b : Bool) (t : Placed Kind) (s c : Built) → IsNameText t.text → Stands inside s → Held inside b s → bodies.enumerate t s ≡ Ok c → Held inside b c
-enumerated b t s c name w h e =
+enumerated : (b : Bool) (t : Placed Kind) (s c : Built) → Stands inside s → Held inside b s → bodies.enumerate t s ≡ Ok c → Held inside b c
+enumerated b t s c w h e =
     let thing = enumerator (bodies.open_id s) (length s.parts.enumerators) in
     let scope = outer s.scopes s.here in
     let m = bind_ok (declare_in scope table.other thing t s) (bodies.label_named t) c e in
@@ -511,7 +481,6 @@ enumerated b t s c name w h e =
     let u = added scope t.text p table.other s.scopes in
     subst (λ (x : Built). Held inside b x) (ok_is _ c r) (record {
       interfaces = interfaces_added scope t.text p table.other s.scopes s.things thing w.0.paired refl (λ x. absurd cc) (clear_free b s.scopes s.things scope t.text w.0.names w.0.keyed q.0 h.interfaces h.scopes.0) h.interfaces;
-      plain = plain_added scope t.text p table.other s.scopes name.1 h.plain;
       scopes = (
         subst (λ (n : ℕ). InScope b u (s.things ++ thing ∷ []) n) (sym (outer_added scope t.text p table.other s.scopes s.here less)) (scope_added b scope t.text p table.other s.scopes s.things thing scope refl h.scopes.0),
         unread_read scope t.text p table.other s.scopes (opened s ∷ []) refl (λ k m. one_unread (length s.scopes.declared) (opened s) k less m) h.scopes.1,
@@ -532,12 +501,12 @@ reopened t (Some j) i e =
     let p = cond_some (is_module (sort_at t j)) j i e in
     module_sort (sort_at t i) (subst (λ (k : ℕ). is_module (sort_at t k) ≡ true) p.1 p.0)
 
-module_opened : (t : Placed Kind) (s c : Built) (o : Option ℕ) → ((i : ℕ) → o ≡ Some i → sort_at s.scopes i ≡ module_) → IsNameText t.text → Stands outside s → Held outside false s → names.open_module t s o ≡ Ok c → Held outside false c
-module_opened t s c (Some i) is name w h e =
+module_opened : (t : Placed Kind) (s c : Built) (o : Option ℕ) → ((i : ℕ) → o ≡ Some i → sort_at s.scopes i ≡ module_) → Stands outside s → Held outside false s → names.open_module t s o ≡ Ok c → Held outside false c
+module_opened t s c (Some i) is w h e =
     let back : i + 1 - 1 ≡ i = omega arith in
     subst (λ (x : Built). Held outside false x) (ok_is (record s { here = i + 1 }) c e)
-    (record { interfaces = h.interfaces; plain = h.plain; scopes = (inr (ap (λ (k : ℕ). sort_at s.scopes k) back ∙ is i refl), h.scopes.1) })
-module_opened t s c None is name w h e =
+    (record { interfaces = h.interfaces; scopes = (inr (ap (λ (k : ℕ). sort_at s.scopes k) back ∙ is i refl), h.scopes.1) })
+module_opened t s c None is w h e =
     let m = bind_ok (declare_in s.here module_ nothing t s) enter c e in
     let q = declared_is s.here module_ nothing t s m.0 m.1 in
     let p = place_of t in
@@ -546,7 +515,6 @@ module_opened t s c None is name w h e =
     let last : length s.scopes.declared ≡ length u.declared - 1 = omega arith in
     subst (λ (x : Built). Held outside false x) (ap entered q.1 ∙ ok_is _ c m.2) (record {
       interfaces = interfaces_added s.here t.text p module_ s.scopes s.things nothing w.paired refl (λ z. h.scopes.0) (clear_free false s.scopes s.things s.here t.text w.names w.keyed q.0 h.interfaces h.scopes.0) h.interfaces;
-      plain = plain_added s.here t.text p module_ s.scopes name.1 h.plain;
       scopes = (
         inr (subst (λ (i : ℕ). sort_at u i ≡ module_) last (sort_new s.here t.text p module_ s.scopes)),
         unread_read s.here t.text p module_ s.scopes [] refl (none_unread (length s.scopes.declared)) h.scopes.1,
@@ -562,7 +530,7 @@ module_closed s c w h e =
       | inl z ↦ inl (ap (λ (n : ℕ). scope_at s.scopes (n - 1)) z ∙ first_scope s.scopes w.names)
       | inr k ↦ h.interfaces.placed (s.here - 1) (ap is_container k)
     ] in
-    subst (λ (x : Built). Held outside false x) e (record { interfaces = h.interfaces; plain = h.plain; scopes = (around, h.scopes.1) })
+    subst (λ (x : Built). Held outside false x) e (record { interfaces = h.interfaces; scopes = (around, h.scopes.1) })
 
 -- interfaces
 interface_closed : (s c : Built) → Stands outside s → Held outside true s → leave s ≡ c → Held outside false c
@@ -572,7 +540,7 @@ interface_closed s c w h e =
     let back : s.here - 1 ≡ o.at = omega arith in
     let d = h.interfaces.each o.at o.bases o.os o.there in
     let around : IsModuleAt s.scopes (outer s.scopes s.here) = subst (λ (i : ℕ). IsModuleAt s.scopes (scope_at s.scopes i)) (sym back) (h.interfaces.placed o.at (ap is_container d.sort)) in
-    subst (λ (x : Built). Held outside false x) e (record { interfaces = h.interfaces; plain = h.plain; scopes = (around, h.scopes.1) })
+    subst (λ (x : Built). Held outside false x) e (record { interfaces = h.interfaces; scopes = (around, h.scopes.1) })
 
 interface_opened : (s c : Built) → Stands based s → Held based false s → interfaces.open_interface s ≡ Ok c → Held outside true c
 interface_opened s c w h e =
@@ -591,7 +559,6 @@ interface_opened s c w h e =
     subst (λ (y : Built). Held outside true y) (ok_is _ c e) (record {
       interfaces = interfaces_opened s.scopes s.things i s.parts.bases s.parts.given w.0.names there un less (omega arith)
           (subst (IsModuleAt s.scopes) (sym h.scopes.1.0) h.scopes.0.0) h.scopes.1.1 h.interfaces;
-      plain = plain_set s.scopes i sort h.plain;
       scopes = (
         record {
           at = i;
@@ -660,7 +627,6 @@ base_read s c w h e =
     let read = read_scopes s.scopes s.things (newest s) s.here w.0.names w.0.keyed h.interfaces h.scopes.0.1 h.scopes.1.0 h.scopes.0.0 s.parts.given g.within in
     subst (λ (x : Built). Held heading false x) (ap (λ (x : Built). names.renewed (record x { parts = interfaces.and_base (names.meant x) (scopes_of x.scopes (names.meant x)) x.parts })) same ∙ ok_is _ c m.2) (record {
       interfaces = h.interfaces;
-      plain = h.plain;
       scopes = (h.scopes.0, (h.scopes.1.0, base_merged s.scopes w.0.names w.0.keyed s.things (newest s) b s.parts.bases s.parts.given is.0 is.1 there before d read clear g));
     })
 
@@ -760,7 +726,6 @@ attribute_held t s c name w h e =
     let things : z.things ≡ gained now.at o us = ap (λ (i : ℕ). gained i (length u.declared - 1) us) back ∙ ap (λ (i : ℕ). gained now.at i us) (sym last) in
     let y : Held outside true z = record {
       interfaces = subst (AreInterfaces u) (sym things) grown;
-      plain = plain_added s.here t.text p operation s.scopes name.1 h.plain;
       scopes = (
         subst (λ (vs : List Thing). IsOpenAt vs s.here) (sym things) (open_gained us s.here o now),
         unread_read s.here t.text p operation s.scopes [] refl (none_unread (length s.scopes.declared)) h.scopes.1,
@@ -792,7 +757,7 @@ operation_kept x c wx hx e =
     let entry = entry_of x.scopes.declared o (slice_get x.scopes.declared o) refl less in
     let known : slice_get (known_in u.declared) o ≡ Some (now.at + 1, name)
     = ap (λ (ps : List (ℕ × List ℕ)). slice_get ps o) (same_known x.scopes o operation) ∙ entry ∙ ap (λ (i : ℕ). Some (i, name)) here in
-    let low : begins_low name ≡ false = hx.plain o (scope_at x.scopes o, name) entry in
+    let low : begins_low name ≡ false = (wx.0.names.plain o (scope_at x.scopes o, name) entry).1 in
     let absent : IsAmong o now.os → ⊥
     = none_of_held x.scopes x.things ((d.at + 1) ∷ j.scopes) d.os o (λ z. both_ways (is_finished (sort_at x.scopes o)) un (ap is_finished z.sort)) j.held in
     let grown = interfaces_gained u us now.at o now.bases now.os now.there now.last
@@ -805,7 +770,6 @@ operation_kept x c wx hx e =
     let around : outer u x.here ≡ outer x.scopes x.here = outer_finished x.scopes o operation x.here in
     subst (λ (y : Built). Held outside true y) (ok_is _ c e) (record {
       interfaces = subst (AreInterfaces u) (sym things) grown;
-      plain = plain_set x.scopes o operation hx.plain;
       scopes = (
         subst (λ (n : ℕ). IsOpenAt (set (gained (outer x.scopes x.here - 1) o x.things) o thing) n) (sym around) (subst (λ (vs : List Thing). IsOpenAt vs (outer x.scopes x.here)) (sym things) (open_gained us (outer x.scopes x.here) o now)),
         unread_set x.scopes o operation [] refl (λ z. z) hx.scopes.1,
@@ -824,13 +788,13 @@ to_there n k b d c e f h = subst (λ (x : Bool). Held k x c) f (subst (λ (x : S
 
 held_at : (label : IdlLabel) (m n : Spot) (b d : Bool) → goes label m ≡ Some n → holds_at label b ≡ Some d → (t : Placed Kind) → (declares label ≡ true → IsNameText t.text) → (s c : Built) → Stands m s → NamesAt m s → Held m b s → act label t s ≡ Ok c → Held n d c
 held_at l.Module outside n false d e f t p s c w x h a =
-    to_there outside n false d c (same_Some outside n e) (same_Some false d f) (module_opened t s c (module_in s.scopes t.text s.here) (λ i q. reopened s.scopes (own s.scopes t.text s.here) i q) (p refl) w h a)
+    to_there outside n false d c (same_Some outside n e) (same_Some false d f) (module_opened t s c (module_in s.scopes t.text s.here) (λ i q. reopened s.scopes (own s.scopes t.text s.here) i q) w h a)
 held_at l.Module outside n true d e f t p s c w x h a = absurd (none-some d f)
 held_at l.Module m n b d e f t p s c w x h a = absurd (none-some n e)
 held_at l.EndModule outside n false d e f t p s c w x h a = to_there outside n false d c (same_Some outside n e) (same_Some false d f) (module_closed s c w h (ok_is (leave s) c a))
 held_at l.EndModule outside n true d e f t p s c w x h a = absurd (none-some d f)
 held_at l.EndModule m n b d e f t p s c w x h a = absurd (none-some n e)
-held_at l.Interface outside n false d e f t p s c w x h a = to_there heading n false d c (same_Some heading n e) (same_Some false d f) (declared_heading t s c (p refl) w x h a)
+held_at l.Interface outside n false d e f t p s c w x h a = to_there heading n false d c (same_Some heading n e) (same_Some false d f) (declared_heading t s c w x h a)
 held_at l.Interface outside n true d e f t p s c w x h a = absurd (none-some d f)
 held_at l.Interface m n b d e f t p s c w x h a = absurd (none-some n e)
 held_at l.OpenInterface based n false d e f t p s c w x h a = to_there outside n true d c (same_Some outside n e) (same_Some true d f) (interface_opened s c w h a)
@@ -839,10 +803,10 @@ held_at l.OpenInterface m n b d e f t p s c w x h a = absurd (none-some n e)
 held_at l.EndInterface outside n true d e f t p s c w x h a = to_there outside n false d c (same_Some outside n e) (same_Some false d f) (interface_closed s c w h (ok_is (leave s) c a))
 held_at l.EndInterface outside n false d e f t p s c w x h a = absurd (none-some d f)
 held_at l.EndInterface m n b d e f t p s c w x h a = absurd (none-some n e)
-held_at l.Declare outside n b d e f t p s c w x h a = to_there named n b d c (same_Some named n e) (same_Some b d f) (declared_named b t s c (p refl) w h a)
-held_at l.Declare inside n b d e f t p s c w x h a = to_there part n b d c (same_Some part n e) (same_Some b d f) (declared_part b t s c (p refl) w h a)
+held_at l.Declare outside n b d e f t p s c w x h a = to_there named n b d c (same_Some named n e) (same_Some b d f) (declared_named b t s c w h a)
+held_at l.Declare inside n b d e f t p s c w x h a = to_there part n b d c (same_Some part n e) (same_Some b d f) (declared_part b t s c w h a)
 held_at l.Declare m n b d e f t p s c w x h a = absurd (none-some n e)
-held_at l.Open outside n b d e f t p s c w x h a = to_there inside n b d c (same_Some inside n e) (same_Some b d f) (declared_open b t s c (p refl) w h a)
+held_at l.Open outside n b d e f t p s c w x h a = to_there inside n b d c (same_Some inside n e) (same_Some b d f) (declared_open b t s c w h a)
 held_at l.Open m n b d e f t p s c w x h a = absurd (none-some n e)
 held_at l.EndStruct inside n b d e f t p s c w x h a =
     to_there outside n b d c (same_Some outside n e) (same_Some b d f)
@@ -857,12 +821,12 @@ held_at l.EndUnion m n b d e f t p s c w x h a = absurd (none-some n e)
 held_at l.EndEnum inside n b d e f t p s c w x h a =
     to_there outside n b d c (same_Some outside n e) (same_Some b d f) (closed b s c w h (type_closes (leaf (scalar (enumeration (bodies.open_id s) s.parts.enumerators))) s c a))
 held_at l.EndEnum m n b d e f t p s c w x h a = absurd (none-some n e)
-held_at l.Enumerator inside n b d e f t p s c w x h a = to_there inside n b d c (same_Some inside n e) (same_Some b d f) (enumerated b t s c (p refl) w h a)
+held_at l.Enumerator inside n b d e f t p s c w x h a = to_there inside n b d c (same_Some inside n e) (same_Some b d f) (enumerated b t s c w h a)
 held_at l.Enumerator m n b d e f t p s c w x h a = absurd (none-some n e)
 held_at l.Attribute outside n true d e f t p s c w x h a = to_there outside n true d c (same_Some outside n e) (same_Some true d f) (attribute_held t s c (p refl) w h a)
 held_at l.Attribute outside n false d e f t p s c w x h a = absurd (none-some d f)
 held_at l.Attribute m n b d e f t p s c w x h a = absurd (none-some n e)
-held_at l.Param inside n b d e f t p s c w x h a = to_there inside n b d c (same_Some inside n e) (same_Some b d f) (declared_param b t s c (p refl) w h a)
+held_at l.Param inside n b d e f t p s c w x h a = to_there inside n b d c (same_Some inside n e) (same_Some b d f) (declared_param b t s c w h a)
 held_at l.Param m n b d e f t p s c w x h a = absurd (none-some n e)
 held_at (l.Refuse z) m n b d e f t p s c w x h a = absurd cc
 held_at label m n b d e f t p s c w x h a = to_there m n b d c (same_Some m n e) (same_Some b d f) (held_same m b s c (quiet_act label t s refl c a) h)
@@ -874,7 +838,7 @@ held_alone l.Base heading n true d e f s c w h a = absurd (none-some d f)
 held_alone l.Base m n b d e f s c w h a = absurd (none-some n e)
 held_alone l.Inherit heading n b d e f s c w h a =
     let k = held_same heading b s c (quiet_judge l.Inherit s refl c a) h in
-    to_there based n b d c (same_Some based n e) (same_Some b d f) (record { interfaces = k.interfaces; plain = k.plain; scopes = k.scopes })
+    to_there based n b d c (same_Some based n e) (same_Some b d f) (record { interfaces = k.interfaces; scopes = k.scopes })
 held_alone l.Inherit m n b d e f s c w h a = absurd (none-some n e)
 held_alone l.Typedef named n b d e f s c w h a = to_there outside n b d c (same_Some outside n e) (same_Some b d f) (named_finished b s c w h (typedef_finishes s c a))
 held_alone l.Typedef m n b d e f s c w h a = absurd (none-some n e)
@@ -892,7 +856,6 @@ held_alone label m n b d e f s c w h a = to_there m n b d c (same_Some m n e) (s
 nothing_held : Held outside false nothing_built
 nothing_held = record {
   interfaces = record { each = λ i bs os e. absurd (none-some _ e); placed = λ k c. absurd cc };
-  plain = λ k p e. absurd (none-some p e);
   scopes = (inl refl, record { rest = λ k less. absurd (omega arith); all = tt });
 }
 
@@ -903,7 +866,7 @@ All m s = (Stands m.0 s × NamesAt m.0 s) × Held m.0 m.1 s
 pub interfaces_text : (text : List ℕ) (new : Built) → Declares text new → AreInterfaces new.scopes new.things
 interfaces_text text new w =
     (held_text All
-    (λ label m n b d e f t p s c h a. ((stands_at label m n e t (λ q. (p q).0) s c h.0.0 a, names_at label m n e t s c h.0.0 h.0.1 a), held_at label m n b d e f t p s c h.0.0 h.0.1 h.1 a))
+    (λ label m n b d e f t p s c h a. ((stands_at label m n e t p s c h.0.0 a, names_at label m n e t s c h.0.0 h.0.1 a), held_at label m n b d e f t p s c h.0.0 h.0.1 h.1 a))
     (λ label m n b d e f s c h a. ((stands_alone label m n e s c h.0.0 a, names_alone label m n e s c h.0.0 h.0.1 a), held_alone label m n b d e f s c h.0.0 h.1 a))
     ((nothing_orderly, refl), nothing_held) text new w).1.interfaces
 

@@ -1,9 +1,11 @@
--- The names of a text have no `/`, and begin with a letter.
-use Rattle.std.proofs.Common.{◌≡◌, inl, inr, ℕ, zero, suc, ◌+◌, ◌-◌, ◌≤◌, arith, Bool, true, false, cond, not, List, [], ◌∷◌, length, take, Option, Some, None, refl, sym, ap, ◌∙◌}
+-- The names of a text: letters, digits and `_`, and none in front that is `_`. So no other character stands in a name.
+use Rattle.std.proofs.Common.{◌≡◌, inl, inr, ℕ, zero, suc, ◌+◌, ◌-◌, ◌≤◌, arith, Bool, true, false, cond, not, List, [], ◌∷◌, length, take, Option, Some, None, refl, sym, ap, subst, ◌∙◌}
 use Rattle.std.specs.Prelude.{◌==◌, ◌||◌, ◌&&◌, nat_lt, unwrap_or, if◌then◌else◌}
-use Rattle.std.specs.List.{list_all, starts_with, prefix_len}
+use Rattle.std.specs.List.{list_all, list_any, starts_with, prefix_len}
+use Rattle.std.specs.Int.{is_in_range}
 use Rattle.std.specs.Char.{to_ascii_lowercase, is_ascii_alphabetic, is_ascii_digit}
-use Rattle.std.proofs.lemmas.Bool.{or_from, and_parts, not-true, both_ways, cases_Bool, cond_both, false_from_ne_true, eqb-true, ne_eqb, ltb-false}
+use Rattle.std.proofs.lemmas.Bool.{or_from, and_from, and_parts, not-true, both_ways, cases_Bool, cond_both, false_from_ne_true, eqb-true, ne_eqb, ltb-false}
+use Rattle.std.proofs.lemmas.List.Sums.{prefix_len-le-length}
 use Rattle.idl_scopes.specs.Finding.{lowered}
 use Rattle.idl_tokens.specs.declared.kind.Kind.{Kind}
 use Rattle.idl_tokens.specs.declared.kind.Kind.TheVariants as kind
@@ -34,56 +36,71 @@ low_slash c = elim (cases_Bool (nat_lt c 65)) [
 ]
 
 -- a text has a `/` in lower case where it has one
-pub low_slashes : (z : List ℕ) → has_slash (lowered z) ≡ has_slash z
+low_slashes : (z : List ℕ) → has_slash (lowered z) ≡ has_slash z
 low_slashes [] = refl
 low_slashes (b ∷ z) = (λ i. low_slash b i || low_slashes z i)
-
-no_slash_byte : (p : ℕ → Bool) → p 47 ≡ false → (b : ℕ) → p b ≡ true → is_slash b ≡ false
-no_slash_byte p h b e = false_from_ne_true (is_slash b) (λ s. both_ways (p b) (ap p (eqb-true b 47 s) ∙ h) e)
-
-abbrev run : List ℕ → ℕ
-run z = prefix_len (λ x. not (not (is_name_byte x))) z
-
-run_within : (z : List ℕ) → run z ≤ length z
-run_within [] = omega arith
-run_within (b ∷ z) = elim (cases_Bool (is_name_byte b)) [
-  | inl is ↦ let e : run (b ∷ z) ≡ 1 + run z = ap (λ (c : Bool). cond (not (not c)) (1 + run z) 0) is in let h = run_within z in omega arith
-  | inr isnt ↦ let e : run (b ∷ z) ≡ 0 = ap (λ (c : Bool). cond (not (not c)) (1 + run z) 0) isnt in omega arith
-]
-
-run_is : (z : List ℕ) → run_len is_name_byte z ≡ run z
-run_is z = elim (cases_Bool (nat_lt (run z) (length z))) [
-  | inl less ↦ ap (λ (c : Bool). unwrap_or (cond c (Some (run z)) None) (length z)) less
-  | inr all ↦
-      let h = run_within z in
-      let k : length z ≤ run z = ltb-false (run z) (length z) all in
-      let e : length z ≡ run z = omega arith in
-      ap (λ (c : Bool). unwrap_or (cond c (Some (run z)) None) (length z)) all ∙ e
-]
-
-run_no_slash : (z : List ℕ) → has_slash (take (run z) z) ≡ false
-run_no_slash [] = refl
-run_no_slash (b ∷ z) = elim (cases_Bool (is_name_byte b)) [
-  | inl is ↦
-      let e : run (b ∷ z) ≡ 1 + run z = ap (λ (c : Bool). cond (not (not c)) (1 + run z) 0) is in
-      let f : 1 + run z ≡ suc (run z) = omega arith in
-      ap (λ (n : ℕ). has_slash (take n (b ∷ z))) (e ∙ f) ∙ or_from (is_slash b) (has_slash (take (run z) z)) (no_slash_byte is_name_byte refl b is) (run_no_slash z)
-  | inr isnt ↦ ap (λ (c : Bool). has_slash (take (cond (not (not c)) (1 + run z) 0) (b ∷ z))) isnt
-]
 
 -- a name begins with `_`
 abbrev pub begins_low : List ℕ → Bool
 begins_low [] = false
 begins_low (b ∷ z) = b == 95
 
-letter_first : (b : ℕ) (z : List ℕ) (n : ℕ) → is_ascii_alphabetic b ≡ true → begins_low (take (n + 1) (b ∷ z)) ≡ false
-letter_first b z n h =
-    let e : n + 1 ≡ suc n = omega arith in
-    ap (λ (m : ℕ). begins_low (take m (b ∷ z))) e ∙ false_from_ne_true (b == 95) (λ s. both_ways (is_ascii_alphabetic b) (ap is_ascii_alphabetic (eqb-true b 95 s)) h)
+-- what a name is: letters, digits and `_`, and no `_` in front
+abbrev pub IsNameText : List ℕ → Type 0
+IsNameText z = (list_all is_name_byte z ≡ true) × (begins_low z ≡ false)
 
--- a token that is a name begins with a letter, and has no `/`
+-- a byte that passes a test is none that doesn't
+other_byte : (p : ℕ → Bool) (c : ℕ) → p c ≡ false → (b : ℕ) → p b ≡ true → (b == c) ≡ false
+other_byte p c h b e = false_from_ne_true (b == c) (λ s. both_ways (p b) (ap p (eqb-true b c s) ∙ h) e)
+
+lacks : (c : ℕ) → is_name_byte c ≡ false → (z : List ℕ) → list_all is_name_byte z ≡ true → list_any (λ b. b == c) z ≡ false
+lacks c h [] e = refl
+lacks c h (b ∷ z) e =
+    let p = and_parts (is_name_byte b) (list_all is_name_byte z) e in
+    or_from (b == c) (list_any (λ a. a == c) z) (other_byte is_name_byte c h b p.0) (lacks c h z p.1)
+
+-- a name lacks each byte that is no letter, no digit and no `_`
+pub name_lacks : (c : ℕ) → is_name_byte c ≡ false → (z : List ℕ) → IsNameText z → list_any (λ b. b == c) z ≡ false
+name_lacks c h z n = lacks c h z n.0
+
+-- so a `/`, in lower case too
+pub name_whole : (z : List ℕ) → IsNameText z → has_slash (lowered z) ≡ false
+name_whole z n = low_slashes z ∙ name_lacks 47 refl z n
+
+letter_among : (d u l w : Bool) → (u || l) ≡ true → (((d || u) || l) || w) ≡ true
+letter_among true u l w h = refl
+letter_among false true l w h = refl
+letter_among false false l w h = ap (λ (c : Bool). c || w) h
+
+letter_is : (b : ℕ) → is_ascii_alphabetic b ≡ true → is_name_byte b ≡ true
+letter_is b h = letter_among (is_in_range 48 57 b) (is_in_range 65 90 b) (is_in_range 97 122 b) (b == 95) h
+
+abbrev run : List ℕ → ℕ
+run z = prefix_len (λ x. not (not (is_name_byte x))) z
+
+run_is : (z : List ℕ) → run_len is_name_byte z ≡ run z
+run_is z = elim (cases_Bool (nat_lt (run z) (length z))) [
+  | inl less ↦ ap (λ (c : Bool). unwrap_or (cond c (Some (run z)) None) (length z)) less
+  | inr all ↦
+      let h = prefix_len-le-length (λ x. not (not (is_name_byte x))) z in
+      let k : length z ≤ run z = ltb-false (run z) (length z) all in
+      let e : length z ≡ run z = omega arith in
+      ap (λ (c : Bool). unwrap_or (cond c (Some (run z)) None) (length z)) all ∙ e
+]
+
+run_all : (z : List ℕ) → list_all is_name_byte (take (run z) z) ≡ true
+run_all [] = refl
+run_all (b ∷ z) = elim (cases_Bool (is_name_byte b)) [
+  | inl is ↦
+      let e : run (b ∷ z) ≡ 1 + run z = ap (λ (c : Bool). cond (not (not c)) (1 + run z) 0) is in
+      let f : 1 + run z ≡ suc (run z) = omega arith in
+      ap (λ (n : ℕ). list_all is_name_byte (take n (b ∷ z))) (e ∙ f) ∙ and_from (is_name_byte b) (list_all is_name_byte (take (run z) z)) is (run_all z)
+  | inr isnt ↦ ap (λ (c : Bool). list_all is_name_byte (take (cond (not (not c)) (1 + run z) 0) (b ∷ z))) isnt
+]
+
+-- a token that is a name has a name's text
 abbrev IsFine : ℕ → List ℕ → Kind × ℕ → Type 0
-IsFine b z k = is_name k.0 ≡ true → (is_ascii_alphabetic b ≡ true) × (has_slash (take (k.1 + 1) (b ∷ z)) ≡ false)
+IsFine b z k = is_name k.0 ≡ true → IsNameText (take (k.1 + 1) (b ∷ z))
 
 no_name : (b : ℕ) (z : List ℕ) (k : Kind × ℕ) → is_name k.0 ≡ false → IsFine b z k
 no_name b z k h e = absurd (both_ways (is_name k.0) h e)
@@ -95,7 +112,8 @@ fine_named : (b : ℕ) (z : List ℕ) → is_ascii_alphabetic b ≡ true → IsF
 fine_named b z h e =
     let n = run_len is_name_byte z in
     let f : n + 1 ≡ suc (run z) = let r = run_is z in omega arith in
-    (h, ap (λ (m : ℕ). has_slash (take m (b ∷ z))) f ∙ or_from (is_slash b) (has_slash (take (run z) z)) (no_slash_byte is_ascii_alphabetic refl b h) (run_no_slash z))
+    let letters = and_from (is_name_byte b) (list_all is_name_byte (take (run z) z)) (letter_is b h) (run_all z) in
+    subst (λ (m : ℕ). IsNameText (take m (b ∷ z))) (sym f) (letters, other_byte is_ascii_alphabetic 95 refl b h)
 
 mark_no_name : (ms : Table) (z : List ℕ) → list_all (λ m. not (is_name m.1)) ms ≡ true → is_name (mark_at ms z).0 ≡ false
 mark_no_name [] z h = refl
@@ -148,9 +166,9 @@ fine_token b z =
     fine_if b z (b == 39) (character z) after_slash (λ n. fine_character b z z) (λ n.
     fine_if b z (b == 47) (slashed Idl z) (mark_at idl_marks (b ∷ z)) (λ o. fine_slashed b z z) (λ o. fine_mark b z (b ∷ z))))))))
 
--- a token of a name has no `/`, in lower case either, and doesn't begin with `_`
+-- a token of a name has a name's text
 abbrev pub IsPlainName : Placed Kind → Type 0
-IsPlainName t = is_name t.kind ≡ true → (has_slash (lowered t.text) ≡ false) × (begins_low t.text ≡ false)
+IsPlainName t = is_name t.kind ≡ true → IsNameText t.text
 
 each_if : (c d : Bool) (t : Placed Kind) (s : Stream Kind) → IsPlainName t → EachToken IsPlainName s.tokens
     → EachToken IsPlainName (if c then stream [] t else (if d then s else stream (t ∷ s.tokens) s.end)).tokens
@@ -166,7 +184,7 @@ each_cut zero line column (b ∷ z) =
     let k = lex Idl b z in
     each_if (same_kind k.0 kind.Bad) (same_kind k.0 kind.Blank) (record { kind = k.0; text = take (k.1 + 1) (b ∷ z); line = line; column = column })
     (cut Idl k.1 (line_after b line) (column_after b column) z)
-    (λ e. let f = fine_token b z e in (low_slashes (take (k.1 + 1) (b ∷ z)) ∙ f.1, letter_first b z k.1 f.0)) (each_cut k.1 (line_after b line) (column_after b column) z)
+    (λ e. fine_token b z e) (each_cut k.1 (line_after b line) (column_after b column) z)
 
 -- so of all tokens of a text
 pub plain_names : (text : List ℕ) → EachToken IsPlainName (text_tokens Idl text).tokens

@@ -11,15 +11,13 @@ use Rattle.idl_grammar.specs.declared.label.Inner.{Inner}
 use Rattle.idl_grammar.specs.declared.label.Inner.TheVariants as inner
 use Rattle.idl_grammar.specs.IdlRules.{file}
 use Rattle.idl_grammar.proofs.PlainRules.{idl_plain}
-use Rattle.idl_scopes.specs.Finding.{lowered}
 use Rattle.idl_names.specs.State.{Built, nothing_built}
 use Rattle.idl_names.specs.Labels.{act, judge}
 use Rattle.idl_names.specs.Declaring.{idl}
 use Rattle.idl_names.specs.Whole.{Declares}
 use Rattle.idl_reader.proofs.EachToken.{EachToken}
-use Rattle.idl_reader.proofs.CutNames.{has_slash}
 use Rattle.idl_reader.proofs.Triples.{LeadsAt}
-use Rattle.idl_reader.proofs.NameTokens.{is_name, IsPlainName, plain_names}
+use Rattle.idl_reader.proofs.NameTokens.{is_name, IsNameText, IsPlainName, plain_names}
 use Rattle.idl_reader.proofs.KeptLabels.{declares}
 use Rattle.idl_reader.proofs.Modes.{Modes, after, rule_leads, inner_leads}
 
@@ -162,18 +160,18 @@ inside_after inner.ArrayLength inside n e = e
 inside_after inner.ArrayLength part n e = e
 
 -- a label that declares leads on only at a name
-only_at_names : (d there : Bool) (x : Option Spot) (n : Spot) → (if d then (if there then x else None) else x) ≡ Some n → (x ≡ Some n) × (d ≡ true → there ≡ true)
+pub only_at_names : {X : Type 0} (d there : Bool) (x : Option X) (n : X) → (if d then (if there then x else None) else x) ≡ Some n → (x ≡ Some n) × (d ≡ true → there ≡ true)
 only_at_names true true x n e = (e, λ h. refl)
 only_at_names true false x n e = absurd (none-some n e)
 only_at_names false there x n e = (e, λ h. absurd cc)
 
 module _ (I : Spot → Built → Type 0)
-    (h_at : (label : IdlLabel) (m n : Spot) → goes label m ≡ Some n → (t : Placed Kind) → (declares label ≡ true → has_slash (lowered t.text) ≡ false) → (s c : Built) → I m s → act label t s ≡ Ok c → I n c)
+    (h_at : (label : IdlLabel) (m n : Spot) → goes label m ≡ Some n → (t : Placed Kind) → (declares label ≡ true → IsNameText t.text) → (s c : Built) → I m s → act label t s ≡ Ok c → I n c)
     (h_alone : (label : IdlLabel) (m n : Spot) → goes_alone label m ≡ Some n → (s c : Built) → I m s → judge label s ≡ Ok c → I n c) where
   at_kind : (k : Kind) (label : IdlLabel) (m n : Spot) → goes_at k label m ≡ Some n → LeadsAt idl IsPlainName (I m) k label (I n)
   at_kind k label m n e t same p s c i a =
       let q = only_at_names (declares label) (is_name k) (goes label m) n e in
-      h_at label m n q.0 t (λ d. (p (ap is_name ((idl_plain act judge).rules.same_is t.kind k same) ∙ q.1 d)).0) s c i a
+      h_at label m n q.0 t (λ d. p (ap is_name ((idl_plain act judge).rules.same_is t.kind k same) ∙ q.1 d)) s c i a
 
   only_same : (m n : Spot) → same_spot m n ≡ true → (s : Built) → I m s → I n s
   only_same m n e s i = subst (λ (k : Spot). I k s) (spot_is m n e) i

@@ -1,17 +1,16 @@
 -- How the scopes and the things of a text stand, at each of the spots where a label may stand.
-use Rattle.std.proofs.Common.{◌≡◌, ℕ, ◌+◌, ◌-◌, ◌<◌, arith, true, false, List, [], ◌∷◌, ◌++◌, length, length-append, set, Some, Ok, refl, sym, ap, subst, ◌∙◌}
+use Rattle.std.proofs.Common.{◌≡◌, ℕ, ◌+◌, ◌-◌, ◌<◌, arith, true, List, [], ◌∷◌, ◌++◌, length, length-append, set, Some, Ok, refl, sym, ap, subst, ◌∙◌}
 use Rattle.std.specs.Prelude.{slice_get}
 use Rattle.std.proofs.lemmas.Option.{none-some, same_Some}
 use Rattle.grammar.specs.Language.{Placed}
 use Rattle.idl_tokens.specs.declared.kind.Kind.{Kind}
 use Rattle.idl_grammar.specs.declared.label.IdlLabel.{IdlLabel}
 use Rattle.idl_grammar.specs.declared.label.IdlLabel.TheVariants as l
-use Rattle.idl_scopes.specs.Finding.{lowered}
 use Rattle.idl_names.specs.State.{Thing, nothing, Built, nothing_built}
 use Rattle.idl_names.specs.Changes.{newest}
 use Rattle.idl_names.specs.Labels.{act, judge}
 use Rattle.idl_names.specs.Whole.{Declares}
-use Rattle.idl_reader.proofs.CutNames.{has_slash}
+use Rattle.idl_reader.proofs.NameTokens.{IsNameText}
 use Rattle.idl_reader.proofs.Tables.{no_names_in_order, none_free}
 use Rattle.idl_reader.proofs.KeptNames.{IsOrderly, like}
 use Rattle.idl_reader.proofs.KeptLabels.{declares, kept_judge, kept_act}
@@ -104,7 +103,7 @@ opened_set s c thing a o less h =
     }
 
 -- what each label keeps so at its token
-pub stands_at : (label : IdlLabel) (m n : Spot) → goes label m ≡ Some n → (t : Placed Kind) → (declares label ≡ true → has_slash (lowered t.text) ≡ false) → (s c : Built) → Stands m s → act label t s ≡ Ok c → Stands n c
+pub stands_at : (label : IdlLabel) (m n : Spot) → goes label m ≡ Some n → (t : Placed Kind) → (declares label ≡ true → IsNameText t.text) → (s c : Built) → Stands m s → act label t s ≡ Ok c → Stands n c
 stands_at l.Module outside n e t p s c h a = subst (λ (k : Spot). Stands k c) (same_Some outside n e) (kept_act l.Module t s p (λ d. absurd cc) h c a)
 stands_at l.Module m n e t p s c h a = absurd (none-some n e)
 stands_at l.EndModule outside n e t p s c h a = subst (λ (k : Spot). Stands k c) (same_Some outside n e) (kept_act l.EndModule t s p (λ d. absurd cc) h c a)

@@ -14,6 +14,7 @@ use Rattle.idl_scopes.specs.Finding.{lowered, is_at, scope_in, name_in, scope_at
 use Rattle.idl_scopes.specs.Declaring.{added, finished_in, finished}
 use Rattle.idl_reader.proofs.CutNames.{has_slash}
 use Rattle.idl_reader.proofs.Ids.{InOrder}
+use Rattle.idl_reader.proofs.NameTokens.{IsNameText, name_whole}
 
 -- the scope and the spelling of a declaration
 abbrev pub known : Declared → ℕ × List ℕ
@@ -27,9 +28,9 @@ known_in ds = map known ds
 abbrev pub key_of : ℕ × List ℕ → ℕ × List ℕ
 key_of p = (p.0, lowered p.1)
 
--- names in scopes, in order: none has a `/`, each stands inside of what was declared before, and no two are one name of one scope
+-- names in scopes, in order: each is spelled as a name, each stands inside of what was declared before, and no two are one name of one scope
 pub record AreInOrder (ps : List (ℕ × List ℕ)) : Type 0 where
-  pub plain : (i : ℕ) (p : ℕ × List ℕ) → slice_get ps i ≡ Some p → has_slash (lowered p.1) ≡ false
+  pub plain : (i : ℕ) (p : ℕ × List ℕ) → slice_get ps i ≡ Some p → IsNameText p.1
   pub inwards : (i : ℕ) (p : ℕ × List ℕ) → slice_get ps i ≡ Some p → p.0 ≤ i
   pub apart : (i j : ℕ) (p q : ℕ × List ℕ) → slice_get ps i ≡ Some p → slice_get ps j ≡ Some q → p.0 ≡ q.0 → lowered p.1 ≡ lowered q.1 → i ≡ j
 
@@ -54,10 +55,10 @@ key_there ps scope name i p e a b =
     any_there (is_at scope name) (map key_of ps) i (key_of p) (slice_get-map key_of ps i ∙ ap (λ (o : Option (ℕ × List ℕ)). option_map key_of o) e) (same_key scope name (key_of p) a b)
 
 -- one name more
-pub one_more_name : (ps : List (ℕ × List ℕ)) (scope : ℕ) (name : List ℕ) → AreInOrder ps → scope ≤ length ps → has_slash (lowered name) ≡ false
+pub one_more_name : (ps : List (ℕ × List ℕ)) (scope : ℕ) (name : List ℕ) → AreInOrder ps → scope ≤ length ps → IsNameText name
     → list_any (is_at scope (lowered name)) (map key_of ps) ≡ false → AreInOrder (ps ++ (scope, name) ∷ [])
 one_more_name ps scope name o inside plain new = record {
-  plain = λ i p e. elim (get_behind ps (scope, name) p i e) [ inl h ↦ o.plain i p h | inr h ↦ subst (λ (q : ℕ × List ℕ). has_slash (lowered q.1) ≡ false) h.1 plain ];
+  plain = λ i p e. elim (get_behind ps (scope, name) p i e) [ inl h ↦ o.plain i p h | inr h ↦ subst (λ (q : ℕ × List ℕ). IsNameText q.1) h.1 plain ];
   inwards = λ i p e. elim (get_behind ps (scope, name) p i e) [ inl h ↦ o.inwards i p h | inr h ↦ let k = h.0 in let s : scope ≡ p.0 = ap (λ (q : ℕ × List ℕ). q.0) h.1 in omega arith ];
   apart = λ i j p q e f a b. elim (get_behind ps (scope, name) p i e) [
     | inl h ↦ elim (get_behind ps (scope, name) q j f) [
@@ -117,22 +118,17 @@ scope_from ds i (Some d) e h = h.inwards i (known d) (slice_get-map known ds i �
 
 name_from : (ds : List Declared) (i : ℕ) (o : Option Declared) → slice_get ds i ≡ o → AreInOrder (known_in ds) → has_slash (lowered (name_in o)) ≡ false
 name_from ds i None e h = refl
-name_from ds i (Some d) e h = h.plain i (known d) (slice_get-map known ds i ∙ ap (λ (o : Option Declared). option_map known o) e)
+name_from ds i (Some d) e h = name_whole d.name (h.plain i (known d) (slice_get-map known ds i ∙ ap (λ (o : Option Declared). option_map known o) e))
+
+past : (ds : List Declared) (i : ℕ) → slice_get ds i ≡ None → i < length ds → ⊥
+past [] i e x = omega arith
+past (d ∷ ds) zero e x = none-some d (sym e)
+past (d ∷ ds) (suc i) e x = past ds i e (omega arith)
 
 apart_from : (ds : List Declared) (i j : ℕ) (a b : Option Declared) → slice_get ds i ≡ a → slice_get ds j ≡ b → i < length ds → j < length ds → AreInOrder (known_in ds)
     → scope_in a ≡ scope_in b → lowered (name_in a) ≡ lowered (name_in b) → i ≡ j
 apart_from ds i j None b e f x y h same low = absurd (past ds i e x)
-  where
-    past : (ds : List Declared) (i : ℕ) → slice_get ds i ≡ None → i < length ds → ⊥
-    past [] i e x = omega arith
-    past (d ∷ ds) zero e x = none-some d (sym e)
-    past (d ∷ ds) (suc i) e x = past ds i e (omega arith)
 apart_from ds i j (Some d) None e f x y h same low = absurd (past ds j f y)
-  where
-    past : (ds : List Declared) (i : ℕ) → slice_get ds i ≡ None → i < length ds → ⊥
-    past [] i e x = omega arith
-    past (d ∷ ds) zero e x = none-some d (sym e)
-    past (d ∷ ds) (suc i) e x = past ds i e (omega arith)
 apart_from ds i j (Some d) (Some k) e f x y h same low =
     h.apart i j (known d) (known k) (slice_get-map known ds i ∙ ap (λ (o : Option Declared). option_map known o) e)
     (slice_get-map known ds j ∙ ap (λ (o : Option Declared). option_map known o) f) same low

@@ -23,7 +23,7 @@ pub use laws::{runs_are_piped, what_is_done_is_piped};
 pub use log::{Log, Noted};
 pub use opening::open;
 pub use runs::run_calls;
-pub use turns::{apply_call, run_to_rest};
+pub use turns::{apply_call, invoke, run_to_rest};
 
 #[cfg(test)]
 mod tests;

@@ -48,9 +48,10 @@ fn no_interface(alloc: Global) -> Text
     }
 }
 
-/// Has the servant of the job's object carry it out.
+/// Has the servants carry the job out, by the interface of its object, or by no interface where the setup has no such object. The memory is
+/// the servants'.
 #[tactic(auto, using(crate::proofs::Driving::came_or_wanting))]
-fn invoke<S: Serving>(alloc: Global, setup: &Setup, servants: &S, job: &Job) -> Outcome
+pub fn invoke<S: Serving>(alloc: Global, setup: &Setup, servants: &S, job: &Job) -> Outcome
     ensures came { CameOf (served setup.now (S.outcome servants.now)) job.now result }
     ensures few { body_len result ≤ MAX_BODY }
 {

@@ -67,7 +67,7 @@ heard_goes_on conn (Leave slot) h = absurd (cc)
 made_in : (cell : CellView State) (call : LaneCall) (r : LaneReply) (old new : Sitting) → Calls is_ready IsSound step Opens IsFit cell call r old new → IsOf cell old → IsOf cell new
 made_in cell call r old new c i = (c.0.0 ∙ i.0, c.0.1 ∙ i.1)
 
-same_conn_of : (old new : Pass) → new.who ≡ old.who → new.nth ≡ old.nth → conn_of new ≡ conn_of old
+pub same_conn_of : (old new : Pass) → new.who ≡ old.who → new.nth ≡ old.nth → conn_of new ≡ conn_of old
 same_conn_of old new a b = λ i. record { slot = a i; nth = b i }
 
 -- a call that is heard of the connection

@@ -24,6 +24,7 @@ use Rattle.lane_pool.specs.Pass.{Pass, Leaving, conn_of}
 use Rattle.lane_pool.specs.Passes.{IsLinked, IsUnlinked, Makes, IsFresh}
 use Rattle.lane_pool.specs.Returned.{IsHome}
 use Rattle.lane_pool.specs.Turns.{Writes, Rests}
+use Rattle.lane_pool.proofs.Turns.{same_conn_of}
 use Rattle.lane_pool.proofs.Staying.{fresh_home, home_linked, home_same, same_leave}
 use Rattle.orb_server.specs.Connections.{Conn, IsHeard, IsSaid, IsServed, AreServed, conn_at, writers_left}
 use Rattle.orb_server.specs.SlotEnds.{closed_behind, was_closed}
@@ -38,9 +39,6 @@ room_there setup cell n o l = subst (λ (s : State). n < s.per_slot) (sym o.open
 
 pub pool_is : (setup : SetupData) (cell : CellView State) → IsPoolOf setup cell → cell.terms.opening.pool ≡ setup.pool
 pool_is setup cell o = ap (λ (s : State). s.pool) o.opened
-
-same_conn_of : (old new : Pass) → new.who ≡ old.who → new.nth ≡ old.nth → conn_of new ≡ conn_of old
-same_conn_of old new a b = λ i. record { slot = a i; nth = b i }
 
 -- what a reading side and a writing side did, told of a connection and not of a pass
 heard_of : (setup : SetupData) (cell : CellView State) (end : ReadSideEnd) (reader reader' : Pass) (from to : SourceState)

@@ -1,9 +1,9 @@
 -- What slots begin with, from the last one on.
 use Rattle.std.proofs.Common.{◌≡◌, ℕ, ◌+◌, ◌≤◌, List, [], ◌∷◌, ◌++◌, length, sym, ap, subst, ◌∙◌, arith, vec_capacity}
 use Rattle.std.proofs.lemmas.List.{length-append, map-append}
-use Rattle.orb_base.specs.Pool.{Pool, IsWellFormed, HasSlots}
+use Rattle.orb_base.specs.Pool.{IsWellFormed}
 use Rattle.turn_cell.specs.Seats.{CellView}
-use Rattle.lane_machine.specs.State.{State, CanOpen}
+use Rattle.lane_machine.specs.State.{State}
 use Rattle.adapter_policies.specs.SetupData.{SetupData}
 use Rattle.lane_pool.specs.Pass.{Pass, Sitting}
 use Rattle.lane_pool.specs.Passes.{IsFresh, AreFrom, IsOpen}
@@ -11,9 +11,6 @@ use Rattle.lane_pool.specs.Turns.{Rests, AllRest, AllIdle}
 use Rattle.orb_server.specs.Threads.{IsPoolOf, AreResting, IsStart, AreStarts, IsJob, AreJobs, acceptors_of, AreIdle}
 use Rattle.orb_server.specs.declared.job.SlotJob.{SlotJob}
 use Rattle.orb_server.specs.declared.job.SlotStart.{SlotStart}
-
-pub can_open : (pool : Pool) (slots per_slot : ℕ) → IsWellFormed pool → HasSlots slots per_slot → CanOpen pool slots per_slot
-can_open pool slots per_slot w s = record { well_formed = w; slots = s }
 
 pub pool_of : (setup : SetupData) (cell : CellView State) (root : Sitting) (readers workers : List Pass) → IsOpen setup.pool setup.slots setup.per_slot cell root readers workers → IsWellFormed setup.pool → IsPoolOf setup cell
 pool_of setup cell root readers workers o w = record { opened = o.opened; well_formed = w }

@@ -27,7 +27,6 @@ pub struct Prepared<A, I, O> {
 }
 
 /// Opens the setup's pool.
-#[tactic(auto, using(crate::proofs::Starting::can_open))]
 fn open_pool(alloc: Global, setup: &Setup) -> Result<Opened, NoMemory>
     ensures opened { IfOk result (λ o. IsOpen setup.now.pool setup.now.slots setup.now.per_slot o.pool.cell o.root o.slots.items o.workers.items) }
     ensures slots { IfOk result (λ o. AllRest o.pool.cell 0 o.slots.items) }
@@ -103,7 +102,7 @@ pub fn give_acceptors<A: Drop, I: Drop, O: Drop>(
 }
 
 /// Opens the setup's pool, and takes room for what the run leaves.
-#[tactic(auto, using(crate::proofs::Starting::can_open, crate::proofs::Starting::pool_of, crate::proofs::Starting::all_resting, crate::proofs::Starting::all_idle))]
+#[tactic(auto, using(crate::proofs::Starting::pool_of, crate::proofs::Starting::all_resting, crate::proofs::Starting::all_idle))]
 pub fn prepare<A: Drop, I: Drop, O: Drop>(
     alloc: Global,
     setup: &Setup,

@@ -92,7 +92,7 @@ pub record IsPingsPlace (key : List ℕ) (place : Place) : Type 0 where
   pub place_is : place ≡ record { target = 0; level = 100 }
   pub key_is : key ≡ codes "ping"
 
-past_end : (k : ℕ) (x : ObjectSpec) → slice_get built_in.objects (suc k) ≡ Some x → ⊥
+pub past_end : (k : ℕ) (x : ObjectSpec) → slice_get built_in.objects (suc k) ≡ Some x → ⊥
 past_end k x e = cc
 
 at_first : (target : ℕ) (object : ObjectSpec) → slice_get built_in.objects target ≡ Some object → (target ≡ 0) × (object ≡ built_in_object)

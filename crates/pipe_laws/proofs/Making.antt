@@ -33,9 +33,8 @@ use Rattle.pipe_laws.specs.Piped.{Run, applied, first_given, finished_by, turned
 use Rattle.pipe_laws.specs.Groups.{Group, called, folded}
 use Rattle.pipe_laws.specs.Legality.{IsHeardCall, AreHeardCalls}
 use Rattle.pipe_laws.specs.Serials.{in_front, heard_of, StopsAtClosing, PipedMakesCalls}
-use Rattle.lane_laws.proofs.Marks.{closed_push}
+use Rattle.lane_laws.proofs.Marks.{closed_push, same_self}
 use Rattle.pipe_laws.proofs.Folds.{closing_stays, groups_are_folded}
-use Rattle.pipe_laws.proofs.Once.{same_self}
 
 -- ---- the calls of a history
 

@@ -16,6 +16,7 @@ use Rattle.lane_machine.specs.Entries.{One}
 use Rattle.lane_machine.specs.SeatLaws.{conn_is}
 use Rattle.lane_machine.specs.Fates.{named, admits, finishes, admitted, finished}
 use Rattle.lane_machine.proofs.Fates.{one_place}
+use Rattle.lane_laws.proofs.Marks.{same_self}
 use Rattle.pipe_laws.specs.Lacking.{apart_at, Apart, once_at, FinishesOnce}
 use Rattle.pipe_laws.specs.Serials.{OffersOther, NeverOffers, OffersNew, OffersOnce, OfferedFinishesOnce}
 
@@ -30,9 +31,6 @@ own_few conn c false is = let x : own conn c ≡ 0 = ap (λ (b : Bool). if b the
 own_is : (conn c : ConnId) (b : Bool) → same_conn conn c ≡ b → 1 ≤ own conn c → conn ≡ c
 own_is conn c true is some = conn_is conn c is
 own_is conn c false is some = let x : own conn c ≡ 0 = ap (λ (b : Bool). if b then 1 else 0) is in absurd (omega arith)
-
-pub same_self : (c : ConnId) → same_conn c c ≡ true
-same_self c = and_from (c.slot == c.slot) (c.nth == c.nth) (eq-eqb c.slot c.slot refl) (eq-eqb c.nth c.nth refl)
 
 named_self : (job : JobRecord) → named job.conn job.serial job ≡ 1
 named_self job = ap (λ (b : Bool). if b then 1 else 0)

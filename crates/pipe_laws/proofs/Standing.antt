@@ -1,8 +1,8 @@
 -- A run of the pipe stays legal: each call that it makes is ready and sound.
-use Rattle.std.proofs.Common.{◌≡◌, ℕ, ◌+◌, ◌≤◌, suc, zero, Bool, true, false, cond, ◌||◌, ◌&&◌, ◌==◌, List, [], ◌∷◌, ◌++◌, Option, Some, None, length, refl, sym, ap, ◌∙◌, subst, arith, lit≤, eq-eqb}
+use Rattle.std.proofs.Common.{◌≡◌, ℕ, ◌+◌, ◌≤◌, suc, zero, Bool, true, false, cond, ◌||◌, ◌&&◌, ◌==◌, List, [], ◌∷◌, ◌++◌, Option, Some, None, length, refl, sym, ap, ◌∙◌, subst, arith, lit≤}
 use Rattle.std.specs.Prelude.{slice_get, is_some, count_by, nat_le, if◌then◌else◌, option_map, find, position}
 use Rattle.std.specs.List.{list_any}
-use Rattle.std.proofs.lemmas.Bool.{both_ways, or_left, or_right}
+use Rattle.std.proofs.lemmas.Bool.{or_right}
 use Rattle.std.proofs.lemmas.Option.{none-some, same_Some}
 use Rattle.std.proofs.lemmas.List.Sums.{sum_by-cons}
 use Rattle.orb_base.specs.JobRecord.{JobRecord}
@@ -20,7 +20,7 @@ use Rattle.thread_borrowing.specs.declared.doing.Doing.TheVariants.{Free, Given,
 use Rattle.lane_machine.specs.State.{State, Opens, CanOpen, opening}
 use Rattle.thread_borrowing.specs.ThreadList.{Thread, is_free, is_given, works_for, given, some_threads, pool_threads}
 use Rattle.orb_base.specs.declared.lane_spec.LaneSpec.{LaneSpec}
-use Rattle.thread_borrowing.specs.Choice.{may_run, chosen_thread}
+use Rattle.thread_borrowing.specs.Choice.{chosen_thread}
 use Rattle.request_buffer.specs.Kept.{may_cancel}
 use Rattle.lane_machine.specs.Machine.{step, item_place, item_conn, end_of, is_over, heard, placed, run_by, kept_or_full, may_wait, offered, posted, cancelled, withdrawn, over, collected as taken_out}
 use Rattle.orb_base.specs.Conn.{same_conn}
@@ -288,9 +288,6 @@ stands_folded s ended servant batch g (call ∷ calls) opens short (is, are) sta
     (stands_after s ended servant batch g call g.run.state.closing stands (stands_called s ended servant batch g call opens short is stands))
 
 -- ---- the end
-
-same_self : (c : ConnId) → same_conn c c ≡ true
-same_self c = ap (λ (b : Bool). b && (c.nth == c.nth)) (eq-eqb c.slot c.slot refl) ∙ eq-eqb c.nth c.nth refl
 
 end_found : (s : State) (how : How) → s.ended ≡ (pipe_conn, how) ∷ [] → end_of s pipe_conn ≡ Some how
 end_found s how is = ap (λ (es : List (ConnId × How)). option_map (λ e. e.1) (find (λ e. same_conn e.0 pipe_conn) es)) is

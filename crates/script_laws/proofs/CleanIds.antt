@@ -7,8 +7,7 @@ use Rattle.orb_base.specs.NulFree.{nul_at}
 use Rattle.idl_scopes.specs.Table.{Table, Declared}
 use Rattle.idl_scopes.specs.Finding.{name_in, name_at, scope_at, outer}
 use Rattle.idl_scopes.specs.Ids.{within, id_of}
-use Rattle.script_laws.proofs.CleanNames.{has_nul}
-use Rattle.script_laws.proofs.KeptClean.{IsClean}
+use Rattle.script_laws.proofs.CleanNames.{has_nul, IsClean}
 
 behind_clean : (xs ys : List ℕ) → has_nul xs ≡ false → has_nul ys ≡ false → has_nul (xs ++ ys) ≡ false
 behind_clean xs ys a b = list_any-append (λ x. x == 0) xs ys ∙ or_from (has_nul xs) (has_nul ys) a b

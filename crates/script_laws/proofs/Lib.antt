@@ -19,6 +19,5 @@ pub mod Held
 pub mod KeptConstants
 pub mod Labelled
 pub mod CleanNames
-pub mod KeptClean
 pub mod CleanIds
 pub mod Texts

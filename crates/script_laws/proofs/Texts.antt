@@ -8,7 +8,7 @@ use Rattle.idl_scopes.specs.Table.{Table}
 use Rattle.idl_constants.specs.ConstValues.{Value, number, character, text, truth, choice}
 use Rattle.idl_constants.specs.Fitting.{fit, fit_number, fit_scalar}
 use Rattle.idl_types.specs.Things as things
-use Rattle.idl_types.specs.Things.{ParamView, OperationView, InterfaceView, ConstantView}
+use Rattle.idl_types.specs.Things.{ParamView, OperationView}
 use Rattle.idl_names.specs.State as names
 use Rattle.idl_reader.specs.Values.{constant_value}
 use Rattle.idl_reader.specs.Declared.{declared_at, listed, declared_from}
@@ -25,7 +25,7 @@ use Rattle.script_laws.proofs.Checks.{some_is, none_is}
 use Rattle.script_laws.proofs.Shapes.{every_at}
 use Rattle.script_laws.proofs.Names.{both_every}
 use Rattle.script_laws.proofs.Counts.{all_every}
-use Rattle.script_laws.proofs.KeptClean.{IsClean, names_clean}
+use Rattle.script_laws.proofs.CleanNames.{IsClean, names_clean}
 use Rattle.script_laws.proofs.CleanIds.{id_has_none}
 use Rattle.script_laws.proofs.KeptConstants.{HasFitting, constants_fit}
 use Rattle.script_laws.proofs.Labelled.{members_labelled, labelled_text}

@@ -1,10 +1,11 @@
 -- What a run did, in numbers over its history, and their line: own profile.
 use Rattle.std.specs.Prelude.{ℕ, Bool, true, false, not, ◌&&◌, List, ◌++◌, codes, count_by}
 use Rattle.std.specs.Fmt.{decimal}
+use Rattle.lane_machine.specs.Callers as callers
 use Rattle.lane_machine.specs.Entries.{One}
 use Rattle.lane_machine.specs.Histories.{History}
 use Rattle.lane_machine.specs.declared.call.LaneCall.{LaneCall}
-use Rattle.lane_machine.specs.declared.call.LaneCall.TheVariants.{Offer, Post, Cancel, End}
+use Rattle.lane_machine.specs.declared.call.LaneCall.TheVariants.{Offer, Post, Cancel}
 use Rattle.lane_machine.specs.declared.call.LaneReply.{LaneReply}
 use Rattle.lane_machine.specs.declared.call.LaneReply.TheVariants as reply
 use Rattle.server_runs.specs.declared.summary.Counted.{Counted}
@@ -17,11 +18,6 @@ is_heard (Offer job) = true
 is_heard (Post notice) = true
 is_heard (Cancel conn id) = true
 is_heard call = false
-
--- a limit of the run was met
-abbrev pub is_closing : LaneReply → Bool
-is_closing reply.Closing = true
-is_closing r = false
 
 -- the request was given to a thread, which is lent or not
 abbrev pub is_run : Bool → LaneReply → Bool
@@ -44,29 +40,29 @@ abbrev pub is_removed : LaneReply → Bool
 is_removed reply.Removed = true
 is_removed r = false
 
--- the reading of a connection has ended
-abbrev pub is_ending : LaneCall → Bool
-is_ending (End conn how) = true
-is_ending call = false
-
--- the same of an entry: a heard call by which no limit was met
+-- a connection's bytes mean the call of the entry, and no limit of the run was met by it
 abbrev pub counts : One → Bool
-counts e = is_heard e.call && not (is_closing e.reply)
+counts e = is_heard e.call && not (callers.is_closing e.reply)
 
+-- the request of the entry was given to a thread, which is lent or not
 abbrev pub gives : Bool → One → Bool
 gives lent e = is_run lent e.reply
 
+-- the request of the entry waits
 abbrev pub keeps : One → Bool
 keeps e = is_kept e.reply
 
+-- the request of the entry was refused
 abbrev pub refuses : One → Bool
 refuses e = is_full e.reply
 
+-- the request of the entry was withdrawn
 abbrev pub removes : One → Bool
 removes e = is_removed e.reply
 
+-- the reading of a connection has ended by the entry
 abbrev pub is_end : One → Bool
-is_end e = is_ending e.call
+is_end e = callers.is_end e.call
 
 -- an entry is counted so
 abbrev pub is_counted : Counted → One → Bool

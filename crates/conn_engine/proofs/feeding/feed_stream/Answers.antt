@@ -3,7 +3,8 @@ use Rattle.std.proofs.Common.{◌+◌, ◌≤◌, refl, arith}
 use Rattle.std.proofs.lemmas.Grind.{common_steps}
 use Rattle.std.proofs.lemmas.Result.{err_from_is_err_and}
 use Rattle.pipe_laws.specs.Lacking.{served}
-use Rattle.conn_engine.proofs.ReadRuns.{read_start, took_piece, read_more, stops_with, wants_with, stops_at_end, stops_at_fault, stops_full, wants_first}
+use Rattle.conn_engine.proofs.Taken.{took_piece}
+use Rattle.conn_engine.proofs.ReadRuns.{read_start, read_more, stops_with, wants_with, stops_at_end, stops_at_fault, stops_full, wants_first}
 use Rattle.conn_engine.proofs.feeding.feed_stream.Goals as goal
 
 pub loop-taken-init : goal.loop-taken-init
@@ -22,9 +23,8 @@ returns-in_err-reading-in-Bytes g c =
     let few : (c.in-Bytes.n ≤ 4096) × (c.in-Bytes.n + c.loop-taken.taken ≤ 67108864) = (grind (arith, common_steps, c.in-Bytes.ensures.bytes.1, c.read.auto.into), grind (arith, common_steps, c.in-Bytes.ensures.bytes.1, c.read.auto.into)) in
     let p = err_from_is_err_and c.from_residual-in_err-reading-in-Bytes.result c.from_residual-in_err-reading-in-Bytes.ensures.1 in
     let outcome = served c.args.setup.now (g.S.Serving.outcome c.args.servants.now) in
-    let took = took_piece c.args.setup.now c.args.batch outcome c.loop-taken.hearing c.loop-taken.taken c.in-Bytes.n c.args.lanes.now c.loop-taken.lanes c.args.room.now c.loop-taken.room
-    (g.I.Source.state c.args.source.now) (g.I.Source.state c.loop-taken.source) (g.I.Source.state c.read.new.self) c.args.log.now c.loop-taken.log (g.O.Sink.state c.args.sink.now) (g.O.Sink.state c.loop-taken.sink)
-    c.read.new.into _ _ c.loop-taken.invariant c.in-Bytes.ensures.bytes.1 few.0 few.1 c.in-Bytes.ensures.bytes.2 c.in-Bytes.ensures.bytes.3 refl c.in-Bytes.ensures.fault c.in-Bytes.ensures.end in
+    let took = took_piece c.loop-taken.hearing.framer.fed c.loop-taken.taken c.in-Bytes.n (g.I.Source.state c.args.source.now) (g.I.Source.state c.loop-taken.source) (g.I.Source.state c.read.new.self) c.read.new.into _ _
+    c.loop-taken.invariant.gave c.loop-taken.invariant.count_is c.loop-taken.invariant.reads c.loop-taken.invariant.no_end c.in-Bytes.ensures.bytes.1 few.0 few.1 c.in-Bytes.ensures.bytes.2 c.in-Bytes.ensures.bytes.3 refl c.in-Bytes.ensures.fault c.in-Bytes.ensures.end in
     rw p.1 (wants_with c.args.setup.now c.args.batch outcome c.loop-taken.hearing c.run_piece.new.hearing c.loop-taken.taken (c.loop-taken.taken + c.in-Bytes.n) c.args.lanes.now c.loop-taken.lanes c.run_piece.new.lanes
     c.args.room.now c.loop-taken.room c.run_piece.new.room (g.I.Source.state c.args.source.now) (g.I.Source.state c.loop-taken.source) (g.I.Source.state c.read.new.self)
     c.args.log.now c.loop-taken.log c.run_piece.new.log (g.O.Sink.state c.args.sink.now) (g.O.Sink.state c.loop-taken.sink) (g.O.Sink.state c.run_piece.new.sink) _
@@ -35,9 +35,8 @@ returns-in-Some g c =
     let few : (c.in-Bytes.n ≤ 4096) × (c.in-Bytes.n + c.loop-taken.taken ≤ 67108864) = (grind (arith, common_steps, c.in-Bytes.ensures.bytes.1, c.read.auto.into), grind (arith, common_steps, c.in-Bytes.ensures.bytes.1, c.read.auto.into)) in
     let ran = rw c.in-Some.is at c.in_ok-reading-in-Bytes.ensures in
     let outcome = served c.args.setup.now (g.S.Serving.outcome c.args.servants.now) in
-    let took = took_piece c.args.setup.now c.args.batch outcome c.loop-taken.hearing c.loop-taken.taken c.in-Bytes.n c.args.lanes.now c.loop-taken.lanes c.args.room.now c.loop-taken.room
-    (g.I.Source.state c.args.source.now) (g.I.Source.state c.loop-taken.source) (g.I.Source.state c.read.new.self) c.args.log.now c.loop-taken.log (g.O.Sink.state c.args.sink.now) (g.O.Sink.state c.loop-taken.sink)
-    c.read.new.into _ _ c.loop-taken.invariant c.in-Bytes.ensures.bytes.1 few.0 few.1 c.in-Bytes.ensures.bytes.2 c.in-Bytes.ensures.bytes.3 refl c.in-Bytes.ensures.fault c.in-Bytes.ensures.end in
+    let took = took_piece c.loop-taken.hearing.framer.fed c.loop-taken.taken c.in-Bytes.n (g.I.Source.state c.args.source.now) (g.I.Source.state c.loop-taken.source) (g.I.Source.state c.read.new.self) c.read.new.into _ _
+    c.loop-taken.invariant.gave c.loop-taken.invariant.count_is c.loop-taken.invariant.reads c.loop-taken.invariant.no_end c.in-Bytes.ensures.bytes.1 few.0 few.1 c.in-Bytes.ensures.bytes.2 c.in-Bytes.ensures.bytes.3 refl c.in-Bytes.ensures.fault c.in-Bytes.ensures.end in
     stops_with c.args.setup.now c.args.batch outcome c.loop-taken.hearing c.run_piece.new.hearing c.loop-taken.taken (c.loop-taken.taken + c.in-Bytes.n) c.args.lanes.now c.loop-taken.lanes c.run_piece.new.lanes
     c.args.room.now c.loop-taken.room c.run_piece.new.room (g.I.Source.state c.args.source.now) (g.I.Source.state c.loop-taken.source) (g.I.Source.state c.read.new.self)
     c.args.log.now c.loop-taken.log c.run_piece.new.log (g.O.Sink.state c.args.sink.now) (g.O.Sink.state c.loop-taken.sink) (g.O.Sink.state c.run_piece.new.sink) _
@@ -48,9 +47,8 @@ loop-taken-preserved g c =
     let few : (c.in-Bytes.n ≤ 4096) × (c.in-Bytes.n + c.loop-taken.taken ≤ 67108864) = (grind (arith, common_steps, c.in-Bytes.ensures.bytes.1, c.read.auto.into), grind (arith, common_steps, c.in-Bytes.ensures.bytes.1, c.read.auto.into)) in
     let ran = rw c.in_default.is at c.in_ok-reading-in-Bytes.ensures in
     let outcome = served c.args.setup.now (g.S.Serving.outcome c.args.servants.now) in
-    let took = took_piece c.args.setup.now c.args.batch outcome c.loop-taken.hearing c.loop-taken.taken c.in-Bytes.n c.args.lanes.now c.loop-taken.lanes c.args.room.now c.loop-taken.room
-    (g.I.Source.state c.args.source.now) (g.I.Source.state c.loop-taken.source) (g.I.Source.state c.read.new.self) c.args.log.now c.loop-taken.log (g.O.Sink.state c.args.sink.now) (g.O.Sink.state c.loop-taken.sink)
-    c.read.new.into _ _ c.loop-taken.invariant c.in-Bytes.ensures.bytes.1 few.0 few.1 c.in-Bytes.ensures.bytes.2 c.in-Bytes.ensures.bytes.3 refl c.in-Bytes.ensures.fault c.in-Bytes.ensures.end in
+    let took = took_piece c.loop-taken.hearing.framer.fed c.loop-taken.taken c.in-Bytes.n (g.I.Source.state c.args.source.now) (g.I.Source.state c.loop-taken.source) (g.I.Source.state c.read.new.self) c.read.new.into _ _
+    c.loop-taken.invariant.gave c.loop-taken.invariant.count_is c.loop-taken.invariant.reads c.loop-taken.invariant.no_end c.in-Bytes.ensures.bytes.1 few.0 few.1 c.in-Bytes.ensures.bytes.2 c.in-Bytes.ensures.bytes.3 refl c.in-Bytes.ensures.fault c.in-Bytes.ensures.end in
     read_more c.args.setup.now c.args.batch outcome c.loop-taken.hearing c.run_piece.new.hearing c.loop-taken.taken (c.loop-taken.taken + c.in-Bytes.n) c.args.lanes.now c.loop-taken.lanes c.run_piece.new.lanes
     c.args.room.now c.loop-taken.room c.run_piece.new.room (g.I.Source.state c.args.source.now) (g.I.Source.state c.loop-taken.source) (g.I.Source.state c.read.new.self)
     c.args.log.now c.loop-taken.log c.run_piece.new.log (g.O.Sink.state c.args.sink.now) (g.O.Sink.state c.loop-taken.sink) (g.O.Sink.state c.run_piece.new.sink) _

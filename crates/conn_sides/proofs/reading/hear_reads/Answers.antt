@@ -1,9 +1,10 @@
 -- Each read, and the one with which the reading side comes out.
-use Rattle.std.proofs.Common.{◌≡◌, ◌+◌, ◌≤◌, ◌∙◌, refl, sym, ap, subst, arith}
+use Rattle.std.proofs.Common.{◌+◌, ◌≤◌, ◌∙◌, refl, sym, ap, subst, arith}
 use Rattle.std.proofs.lemmas.Grind.{common_steps}
 use Rattle.orb_base.specs.Pool.{IsWellFormed}
 use Rattle.adapter_policies.specs.SetupData.{SetupData}
-use Rattle.conn_sides.proofs.ReadRuns.{read_start, conn_now, took_piece, read_more, stops_with, reads_with, stops_at_end, stops_at_fault, stops_full}
+use Rattle.conn_engine.proofs.Taken.{took_piece}
+use Rattle.conn_sides.proofs.ReadRuns.{read_start, conn_now, read_more, stops_with, reads_with, stops_at_end, stops_at_fault, stops_full}
 use Rattle.conn_sides.proofs.reading.hear_reads.Goals as goal
 
 pub loop-taken-init : goal.loop-taken-init
@@ -22,9 +23,8 @@ hear_piece-requires-clause-pool g c = c.requires.pool ∙ ap (λ (s : SetupData)
 pub loop-taken-preserved : goal.loop-taken-preserved
 loop-taken-preserved g c =
     let few : (c.in-Bytes.n ≤ 4096) × (c.in-Bytes.n + c.loop-taken.taken ≤ 67108864) = (grind (arith, common_steps, c.in-Bytes.ensures.bytes.1, c.read.auto.into), grind (arith, common_steps, c.in-Bytes.ensures.bytes.1, c.read.auto.into)) in
-    let took = took_piece c.args.pool.now.cell c.args.setup.now c.loop-taken.hearing c.loop-taken.taken c.in-Bytes.n c.args.pass.now c.loop-taken.pass
-    (g.I.Source.state c.args.source.now) (g.I.Source.state c.loop-taken.source) (g.I.Source.state c.read.new.self) c.read.new.into _ _
-    c.loop-taken.invariant c.in-Bytes.ensures.bytes.1 few.0 few.1 c.in-Bytes.ensures.bytes.2 c.in-Bytes.ensures.bytes.3 refl c.in-Bytes.ensures.fault c.in-Bytes.ensures.end in
+    let took = took_piece c.loop-taken.hearing.framer.fed c.loop-taken.taken c.in-Bytes.n (g.I.Source.state c.args.source.now) (g.I.Source.state c.loop-taken.source) (g.I.Source.state c.read.new.self) c.read.new.into _ _
+    c.loop-taken.invariant.gave c.loop-taken.invariant.count_is c.loop-taken.invariant.reads c.loop-taken.invariant.no_end c.in-Bytes.ensures.bytes.1 few.0 few.1 c.in-Bytes.ensures.bytes.2 c.in-Bytes.ensures.bytes.3 refl c.in-Bytes.ensures.fault c.in-Bytes.ensures.end in
     read_more c.args.pool.now.cell c.args.setup.now c.loop-taken.hearing c.hear_piece.new.hearing c.loop-taken.taken (c.loop-taken.taken + c.in-Bytes.n)
     c.args.pass.now c.loop-taken.pass c.hear_piece.new.pass (g.I.Source.state c.args.source.now) (g.I.Source.state c.loop-taken.source) (g.I.Source.state c.read.new.self) _
     c.loop-taken.invariant took c.in-None.ensures
@@ -32,9 +32,8 @@ loop-taken-preserved g c =
 pub returns-in-Some-clause-hears : goal.returns-in-Some-clause-hears
 returns-in-Some-clause-hears g c =
     let few : (c.in-Bytes.n ≤ 4096) × (c.in-Bytes.n + c.loop-taken.taken ≤ 67108864) = (grind (arith, common_steps, c.in-Bytes.ensures.bytes.1, c.read.auto.into), grind (arith, common_steps, c.in-Bytes.ensures.bytes.1, c.read.auto.into)) in
-    let took = took_piece c.args.pool.now.cell c.args.setup.now c.loop-taken.hearing c.loop-taken.taken c.in-Bytes.n c.args.pass.now c.loop-taken.pass
-    (g.I.Source.state c.args.source.now) (g.I.Source.state c.loop-taken.source) (g.I.Source.state c.read.new.self) c.read.new.into _ _
-    c.loop-taken.invariant c.in-Bytes.ensures.bytes.1 few.0 few.1 c.in-Bytes.ensures.bytes.2 c.in-Bytes.ensures.bytes.3 refl c.in-Bytes.ensures.fault c.in-Bytes.ensures.end in
+    let took = took_piece c.loop-taken.hearing.framer.fed c.loop-taken.taken c.in-Bytes.n (g.I.Source.state c.args.source.now) (g.I.Source.state c.loop-taken.source) (g.I.Source.state c.read.new.self) c.read.new.into _ _
+    c.loop-taken.invariant.gave c.loop-taken.invariant.count_is c.loop-taken.invariant.reads c.loop-taken.invariant.no_end c.in-Bytes.ensures.bytes.1 few.0 few.1 c.in-Bytes.ensures.bytes.2 c.in-Bytes.ensures.bytes.3 refl c.in-Bytes.ensures.fault c.in-Bytes.ensures.end in
     stops_with c.args.pool.now.cell c.args.setup.now c.loop-taken.hearing c.hear_piece.new.hearing c.loop-taken.taken (c.loop-taken.taken + c.in-Bytes.n)
     c.args.pass.now c.loop-taken.pass c.hear_piece.new.pass (g.I.Source.state c.args.source.now) (g.I.Source.state c.loop-taken.source) (g.I.Source.state c.read.new.self) _
     c.loop-taken.invariant took c.in-Some.end c.in-Some.ensures
