@@ -188,6 +188,12 @@ fn an_urgent_request_overtakes_in_its_group(rt: HostRuntime) -> Result<(), Fail>
     let (_, ran, written) = run(&rt, alloc, &setup, 1, &[], &calls, How::Bad)?;
     assert!(rt; ran.as_slice() == [(0, 0), (0, 1), (0, 2)].as_slice());
     assert!(rt; is_joined(written.as_slice(), &[REPLY_0, REPLY_1, REPLY_2, ERROR]));
+    if let LaneCall::Offer(job) = &calls[0] {
+        match invoke(alloc, &setup, &Quick { alloc }, job.get()) {
+            Outcome::Returned(body) => assert_eq!(rt; body.as_slice().len(), 0),
+            _ => panic!(rt; "no body"),
+        }
+    }
     Ok(())
 }
 
