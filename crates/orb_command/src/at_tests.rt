@@ -1,13 +1,7 @@
 //! `orb refs --at` over memory: each status with its note, and what is written then.
 
-use super::*;
-use crate::tests::{Told, is_told, net, told};
-use adapter_policies::ConfigCause;
-use orb_base::{List, MemFile, MemFiles, MemSink, Octets, SteadySource, Text};
-use std::alloc::Global;
-use std::sync::Wait;
+use crate::rows::{EMPTY, Row, check, check_all};
 use std::test::Fail;
-use std::thread::Threads;
 
 /// The line of the built-in object at 127.0.0.1:2809.
 const PING: &[u8] =
@@ -23,171 +17,104 @@ pub const UNSERVED: &[u8] =
 pub const FILED: &[u8] =
     b"idl = \"m.idl\"\nscripts = \"m.srv\"\npool = { static = 1, dynamic = 0, default_priority = 1 }\nadapter = [{ name = \"a\", model = \"SERVER_DECLARED\", priority = 1 }]\nobject = [{ key = \"v\", adapter = \"a\", interface = \"IDL:M/V:1.0\" }]\n";
 
-pub fn list<T: Copy>(alloc: Global, items: &[T]) -> Result<List<T>, Fail> {
-    Ok(List::from_vec(Vec::from_slice(alloc, items)?))
-}
+/// The references of the built-in setup, written in pieces.
+const BUILT_IN: Row<'static> = Row {
+    words: &["refs", "--at", "127.0.0.1:2809"],
+    writes: &[9, 5],
+    ..EMPTY
+};
 
-/// Puts a file behind the others.
-pub fn put(
-    files: &mut List<MemFile>,
-    alloc: Global,
-    name: &str,
-    bytes: Octets,
-) -> Result<(), Fail> {
-    let name = match Text::new(alloc, name.as_bytes()) {
-        Ok(name) => name,
-        Err(_) => return Err(Fail::new("a name")),
-    };
-    match files.push(MemFile { name, bytes }) {
-        Ok(()) => Ok(()),
-        Err(_) => Err(Fail::new("a file")),
-    }
-}
+/// The references of the configuration `c`.
+const CONFIGURED: Row<'static> = Row {
+    words: &["refs", "--at", "127.0.0.1:2809", "--config", "c"],
+    ..BUILT_IN
+};
 
-/// A store of the one file `c`, whose reads of these numbers fail.
-pub fn store(alloc: Global, bytes: Octets, failing: &[u64]) -> Result<MemFiles, Fail> {
-    let mut files = List::new(alloc);
-    put(&mut files, alloc, "c", bytes)?;
-    Ok(MemFiles::new(files, list(alloc, failing)?))
-}
-
-/// What `refs --at 127.0.0.1:2809` answers with this configuration, and writes; the read of a file and the writes of these numbers
-/// fail.
-fn ran<R: Wait + Threads + Sync>(
-    rt: &R,
-    alloc: Global,
-    config: Option<&str>,
-    bytes: Octets,
-    failed_reads: &[u64],
-    failed_writes: &[u64],
-) -> Result<(Told, Vec<u8>), Fail> {
-    let mut words = Vec::new(alloc);
-    for word in ["refs", "--at", "127.0.0.1:2809"] {
-        words.push(String::from_str(alloc, word)?)?;
-    }
-    if let Some(name) = config {
-        words.push(String::from_str(alloc, "--config")?)?;
-        words.push(String::from_str(alloc, name)?)?;
-    }
-    let mut files = store(alloc, bytes, failed_reads)?;
-    let mut input = SteadySource::new(List::new(alloc), List::new(alloc));
-    let mut out = MemSink::new(alloc, list(alloc, &[9, 5])?, list(alloc, failed_writes)?);
-    let answered = orb_main(
-        rt,
-        alloc,
-        words.as_slice(),
-        &mut net(alloc),
-        &mut files,
-        &mut input,
-        &mut out,
-    );
-    Ok((answered, Vec::from_slice(alloc, out.held())?))
-}
-
-/// What a run is to answer and to write.
-#[derive(Clone, Copy)]
-struct Want<'a> {
-    status: u8,
-    note: &'a str,
-    written: &'a [u8],
-}
-
-/// Whether a run answers and writes so.
-fn is_so<R: Wait + Threads + Sync>(
-    rt: &R,
-    alloc: Global,
-    config: Option<&str>,
-    bytes: &[u8],
-    failed_reads: &[u64],
-    failed_writes: &[u64],
-    want: &Want<'_>,
-) -> Result<bool, Fail> {
-    let bytes = list(alloc, bytes)?;
-    let (answered, text) = ran(rt, alloc, config, bytes, failed_reads, failed_writes)?;
-    Ok(
-        is_told(alloc, &answered, want.note)?
-            && answered.status == want.status
-            && text.as_slice() == want.written,
-    )
-}
+const ROWS: &[Row<'static>] = &[
+    Row {
+        story: "the built-in setup, which no file has",
+        files: &[("c", OBJECT)],
+        failed_files: &[0],
+        output: PING,
+        ..BUILT_IN
+    },
+    Row {
+        story: "the same as a configuration",
+        files: &[("c", OBJECT)],
+        output: PING,
+        ..CONFIGURED
+    },
+    Row {
+        story: "a configuration that can't be read",
+        files: &[("c", OBJECT)],
+        failed_files: &[0],
+        status: 3,
+        note: "ReadFault",
+        ..CONFIGURED
+    },
+    Row {
+        story: "a failed second write",
+        files: &[("c", OBJECT)],
+        failed_writes: &[1],
+        status: 4,
+        note: "WriteFault",
+        output: b"ping IOR:",
+        ..CONFIGURED
+    },
+    Row {
+        story: "a configuration that isn't there",
+        words: &["refs", "--at", "127.0.0.1:2809", "--config", "d"],
+        files: &[("c", OBJECT)],
+        status: 10,
+        note: "Absent(Config)",
+        ..CONFIGURED
+    },
+    Row {
+        story: "IDL that isn't there",
+        files: &[("c", FILED)],
+        status: 10,
+        note: "Absent(Idl)",
+        ..CONFIGURED
+    },
+    Row {
+        story: "a pool that is no table",
+        files: &[("c", b"pool = 1")],
+        status: 2,
+        note: "Config(WrongKind at pool)",
+        ..CONFIGURED
+    },
+    Row {
+        story: "bytes that are no text",
+        files: &[("c", b"\xff")],
+        status: 2,
+        note: "Config(NotToml at )",
+        ..CONFIGURED
+    },
+    Row {
+        story: "an interface without a servant",
+        files: &[("c", UNSERVED)],
+        status: 2,
+        note: "Config(UnknownInterface at object[0].interface)",
+        ..CONFIGURED
+    },
+];
 
 #[test]
 fn references_at_an_address_have_their_status(rt: HostRuntime) -> Result<(), Fail> {
     let alloc = rt.alloc();
-    let done = Want {
-        status: 0,
-        note: "Nothing",
-        written: PING,
-    };
-    let unread = Want {
-        status: 3,
-        note: "ReadFault",
-        written: b"",
-    };
-    let unwritten = Want {
-        status: 4,
-        note: "WriteFault",
-        written: b"ping IOR:",
-    };
-    let absent = Want {
-        status: 10,
-        note: "Absent(Config)",
-        written: b"",
-    };
-    let without = Want {
-        status: 10,
-        note: "Absent(Idl)",
-        written: b"",
-    };
-    assert!(rt; is_so(&rt, alloc, None, OBJECT, &[0], &[], &done)?);
-    assert!(rt; is_so(&rt, alloc, Some("c"), OBJECT, &[], &[], &done)?);
-    assert!(rt; is_so(&rt, alloc, Some("c"), OBJECT, &[0], &[], &unread)?);
-    assert!(rt; is_so(&rt, alloc, Some("c"), OBJECT, &[], &[1], &unwritten)?);
-    assert!(rt; is_so(&rt, alloc, Some("d"), OBJECT, &[], &[], &absent)?);
-    assert!(rt; is_so(&rt, alloc, Some("c"), FILED, &[], &[], &without)?);
-    Ok(())
-}
-
-/// Whether the configuration is refused with this cause at this path.
-pub fn refuses(answered: &Told, cause: ConfigCause, path: &str) -> bool {
-    match &answered.note {
-        Note::Config(fault) => {
-            answered.status == 2 && fault.cause == cause && fault.path.as_slice() == path.as_bytes()
-        }
-        _ => false,
-    }
-}
-
-#[test]
-fn the_first_fault_of_a_configuration_is_told(rt: HostRuntime) -> Result<(), Fail> {
-    let alloc = rt.alloc();
-    for (bytes, cause, path) in [
-        (b"pool = 1".as_slice(), ConfigCause::WrongKind, "pool"),
-        (b"\xff".as_slice(), ConfigCause::NotToml, ""),
-        (
-            UNSERVED,
-            ConfigCause::UnknownInterface,
-            "object[0].interface",
-        ),
-    ] {
-        let (answered, text) = ran(&rt, alloc, Some("c"), list(alloc, bytes)?, &[], &[])?;
-        assert!(rt; refuses(&answered, cause, path), "{path}");
-        assert_eq!(rt; text.len(), 0, "{path}");
-    }
-    Ok(())
-}
-
-/// A configuration of one byte more than there may be, all of them blanks.
-#[test]
-fn a_longer_configuration_is_not_read(rt: HostRuntime) -> Result<(), Fail> {
-    let alloc = rt.alloc();
-    let mut bytes = Vec::new(alloc);
+    check_all(&rt, alloc, ROWS)?;
+    let mut blanks = Vec::new(alloc);
     for _ in 0..1_048_577 {
-        bytes.push(b' ')?;
+        blanks.push(b' ')?;
     }
-    let (answered, text) = ran(&rt, alloc, Some("c"), List::from_vec(bytes), &[], &[])?;
-    assert_eq!(rt; answered.status, 2);
-    assert_eq!(rt; told(alloc, &answered)?.as_str(), "TooLong(Config)");
-    assert_eq!(rt; text.len(), 0);
+    let files = [("c", blanks.as_slice())];
+    let longer = Row {
+        story: "a configuration of one byte more than there may be",
+        files: &files,
+        status: 2,
+        note: "TooLong(Config)",
+        ..CONFIGURED
+    };
+    check(&rt, alloc, &longer)?;
     Ok(())
 }

@@ -1,22 +1,12 @@
 //! `orb pipe --config` over memory: what is answered by the setup of a configuration, and each status with its note.
 
-use super::*;
-use crate::at_tests::{FILED, UNSERVED, list, refuses, store};
-use crate::tests::{Told, is_told, net};
-use adapter_policies::ConfigCause;
-use orb_base::{List, MemSink, MemSource};
-use std::alloc::Global;
-use std::sync::Wait;
+use crate::at_tests::{FILED, UNSERVED};
+use crate::rows::{EMPTY, Row, check_all};
 use std::test::Fail;
-use std::thread::Threads;
 
 /// `ping` under CLIENT_PROPAGATED at 7; under SERVER_DECLARED at 30 `decl` at its own priority of 32767, and `down` at 30.
 const TWO: &[u8] =
     b"pool = { static = 1, dynamic = 0, default_priority = 5 }\nadapter = [{ name = \"prop\", model = \"CLIENT_PROPAGATED\", priority = 7 }, { name = \"decl\", model = \"SERVER_DECLARED\", priority = 30 }]\nobject = [{ key = \"ping\", adapter = \"prop\", interface = \"IDL:Orb/Ping:1.0\" }, { key = \"decl\", adapter = \"decl\", interface = \"IDL:Orb/Ping:1.0\", priority = 32767 }, { key = \"down\", adapter = \"decl\", interface = \"IDL:Orb/Ping:1.0\" }]\n";
-
-/// Adapter and object of each of the pools below.
-const REST: &str =
-    "adapter = [{ name = \"a\", model = \"CLIENT_PROPAGATED\", priority = 7 }]\nobject = [{ key = \"ping\", adapter = \"a\", interface = \"IDL:Orb/Ping:1.0\" }]\n";
 
 /// Requests for `current` of `ping`, `decl` and `down`, of ids 1, 2 and 3, and their replies: the priorities 7, 32767 and 30.
 const PING: &[u8] =
@@ -54,172 +44,188 @@ const URGENT_REPLIES: &[u8] =
 const URGENT_HISTORY: &[u8] =
     b"offer c0.0 #1 p20 l1 run t1\noffer c0.0 #2 p20 l1 lent t0\noffer c0.0 #3 p20 l1 kept\ntake t0 #2\nfinish t0 #2 returned\ntake t0 #3\nfinish t0 #3 returned\ntake t1 #1\nfinish t1 #1 returned\ncollect c0.0 #2\ncollect c0.0 #3\ncollect c0.0 #1\nend c0.0 quiet\ncollect c0.0 done\n";
 
-/// A configuration under the name `c`, the name that the words give, the words behind it, the input, and the failing calls of the
-/// store, the input and the output.
-#[derive(Clone, Copy)]
-struct Run<'a> {
-    config: &'a [u8],
-    name: &'a str,
-    options: &'a [&'a str],
-    input: &'a [u8],
-    failed: (&'a [u64], &'a [u64], &'a [u64]),
-}
+/// The pipe by the configuration `c`, which writes in pieces.
+const PIPE: Row<'static> = Row {
+    words: &["pipe", "--config", "c"],
+    writes: &[26, 5],
+    ..EMPTY
+};
 
-/// What the pipe answers so, and writes.
-fn ran<R: Wait + Threads + Sync>(
-    rt: &R,
-    alloc: Global,
-    run: &Run<'_>,
-) -> Result<(Told, Vec<u8>), Fail> {
-    let mut words = Vec::new(alloc);
-    for word in ["pipe", "--config", run.name] {
-        words.push(String::from_str(alloc, word)?)?;
-    }
-    for word in run.options {
-        words.push(String::from_str(alloc, word)?)?;
-    }
-    let mut files = store(alloc, list(alloc, run.config)?, run.failed.0)?;
-    let mut input = MemSource::new(
-        list(alloc, run.input)?,
-        List::new(alloc),
-        list(alloc, run.failed.1)?,
-    );
-    let mut out = MemSink::new(alloc, list(alloc, &[26, 5])?, list(alloc, run.failed.2)?);
-    let answered = orb_main(
-        rt,
-        alloc,
-        words.as_slice(),
-        &mut net(alloc),
-        &mut files,
-        &mut input,
-        &mut out,
-    );
-    Ok((answered, Vec::from_slice(alloc, out.held())?))
-}
+/// Each object answers the priority that its adapter mandates; a key of no object is refused. The files, the input and the output
+/// fail, each in its turn.
+const OBJECTS: &[Row<'static>] = &[
+    Row {
+        story: "three objects",
+        files: &[("c", TWO)],
+        input: THREE,
+        output: THREE_REPLIES,
+        ..PIPE
+    },
+    Row {
+        story: "an empty input",
+        files: &[("c", TWO)],
+        ..PIPE
+    },
+    Row {
+        story: "a key of no object",
+        files: &[("c", TWO)],
+        input: PONG,
+        output: NO_OBJECT,
+        ..PIPE
+    },
+    Row {
+        story: "IDL that isn't there",
+        files: &[("c", FILED)],
+        input: PING,
+        status: 10,
+        note: "Absent(Idl)",
+        ..PIPE
+    },
+    Row {
+        story: "a configuration that isn't there",
+        words: &["pipe", "--config", "d"],
+        files: &[("c", TWO)],
+        input: THREE,
+        status: 10,
+        note: "Absent(Config)",
+        ..PIPE
+    },
+    Row {
+        story: "a name with a dash, which no file has",
+        words: &["pipe", "--config", "-c"],
+        files: &[("c", TWO)],
+        input: THREE,
+        status: 14,
+        note: "NotBuilt",
+        ..PIPE
+    },
+    Row {
+        story: "a configuration that can't be read",
+        files: &[("c", TWO)],
+        failed_files: &[0],
+        input: THREE,
+        status: 3,
+        note: "ReadFault",
+        ..PIPE
+    },
+    Row {
+        story: "a failed first read",
+        files: &[("c", TWO)],
+        input: THREE,
+        failed_reads: &[0],
+        status: 3,
+        note: "ReadFault",
+        ..PIPE
+    },
+    Row {
+        story: "a failed second write",
+        files: &[("c", TWO)],
+        input: THREE,
+        failed_writes: &[1],
+        status: 4,
+        note: "WriteFault",
+        output: PING_REPLY,
+        ..PIPE
+    },
+];
 
-/// Whether a run answers and writes so.
-fn is_so<R: Wait + Threads + Sync>(
-    rt: &R,
-    alloc: Global,
-    run: &Run<'_>,
-    status: u8,
-    note: &str,
-    written: &[u8],
-) -> Result<bool, Fail> {
-    let (answered, text) = ran(rt, alloc, run)?;
-    Ok(is_told(alloc, &answered, note)? && answered.status == status && text.as_slice() == written)
-}
+/// Any pool runs.
+const POOLS: &[Row<'static>] = &[
+    Row {
+        story: "slots, and a limit that isn't passed",
+        files: &[(
+            "c",
+            b"pool = { static = 1, dynamic = 0, default_priority = 1 }\nserver = { slots = 2, max_calls = 1 }\nadapter = [{ name = \"a\", model = \"CLIENT_PROPAGATED\", priority = 7 }]\nobject = [{ key = \"ping\", adapter = \"a\", interface = \"IDL:Orb/Ping:1.0\" }]\n",
+        )],
+        input: PING,
+        output: PING_REPLY,
+        ..PIPE
+    },
+    Row {
+        story: "threads that are made when they are wanted",
+        files: &[(
+            "c",
+            b"pool = { static = 1, dynamic = 1, default_priority = 1 }\nadapter = [{ name = \"a\", model = \"CLIENT_PROPAGATED\", priority = 7 }]\nobject = [{ key = \"ping\", adapter = \"a\", interface = \"IDL:Orb/Ping:1.0\" }]\n",
+        )],
+        input: PING,
+        output: PING_REPLY,
+        ..PIPE
+    },
+    Row {
+        story: "lanes",
+        files: &[(
+            "c",
+            b"pool = { lanes = [{ priority = 7, static = 1, dynamic = 0 }] }\nadapter = [{ name = \"a\", model = \"CLIENT_PROPAGATED\", priority = 7 }]\nobject = [{ key = \"ping\", adapter = \"a\", interface = \"IDL:Orb/Ping:1.0\" }]\n",
+        )],
+        input: PING,
+        output: PING_REPLY,
+        ..PIPE
+    },
+    Row {
+        story: "a buffer",
+        files: &[(
+            "c",
+            b"pool = { static = 1, dynamic = 0, default_priority = 1, buffering = true, max_buffered_requests = 1, max_request_buffer_size = 100 }\nadapter = [{ name = \"a\", model = \"CLIENT_PROPAGATED\", priority = 7 }]\nobject = [{ key = \"ping\", adapter = \"a\", interface = \"IDL:Orb/Ping:1.0\" }]\n",
+        )],
+        input: PING,
+        output: PING_REPLY,
+        ..PIPE
+    },
+];
 
-/// A run of the configuration of this name over this input, none of whose calls fails.
-fn of<'a>(config: &'a [u8], name: &'a str, input: &'a [u8]) -> Run<'a> {
-    Run {
-        config,
-        name,
-        options: &[],
-        input,
-        failed: (&[], &[], &[]),
-    }
-}
+/// A group of three requests over two lanes: the bytes of its replies, and the text of its history.
+const OVERTAKEN: &[Row<'static>] = &[
+    Row {
+        story: "an urgent request overtakes",
+        words: &["pipe", "--config", "c", "--batch", "3"],
+        files: &[("c", LANES)],
+        input: URGENT,
+        output: URGENT_REPLIES,
+        ..PIPE
+    },
+    Row {
+        story: "the history of an urgent request",
+        words: &["pipe", "--config", "c", "--batch", "3", "--history"],
+        files: &[("c", LANES)],
+        input: URGENT,
+        output: URGENT_HISTORY,
+        ..PIPE
+    },
+];
 
-/// Each object answers the priority that its adapter mandates; a key of no object is refused.
+/// The first fault of a configuration is told.
+const REFUSED: &[Row<'static>] = &[
+    Row {
+        story: "a pool that is no table",
+        files: &[("c", b"pool = 1")],
+        input: PING,
+        status: 2,
+        note: "Config(WrongKind at pool)",
+        ..PIPE
+    },
+    Row {
+        story: "bytes that are no text",
+        files: &[("c", b"\xff")],
+        input: PING,
+        status: 2,
+        note: "Config(NotToml at )",
+        ..PIPE
+    },
+    Row {
+        story: "an interface without a servant",
+        files: &[("c", UNSERVED)],
+        input: PING,
+        status: 2,
+        note: "Config(UnknownInterface at object[0].interface)",
+        ..PIPE
+    },
+];
+
 #[test]
 fn the_setup_is_that_of_the_configuration(rt: HostRuntime) -> Result<(), Fail> {
     let alloc = rt.alloc();
-    assert!(rt;
-        is_so(
-            &rt,
-            alloc,
-            &of(TWO, "c", THREE),
-            0,
-            "Nothing",
-            THREE_REPLIES
-        )?
-    );
-    assert!(rt; is_so(&rt, alloc, &of(TWO, "c", b""), 0, "Nothing", b"")?);
-    assert!(rt; is_so(&rt, alloc, &of(TWO, "c", PONG), 0, "Nothing", NO_OBJECT)?);
-    assert!(rt; is_so(&rt, alloc, &of(FILED, "c", PING), 10, "Absent(Idl)", b"")?);
-    assert!(rt; is_so(&rt, alloc, &of(TWO, "d", THREE), 10, "Absent(Config)", b"")?);
-    assert!(rt; is_so(&rt, alloc, &of(TWO, "-c", THREE), 14, "NotBuilt", b"")?);
-    Ok(())
-}
-
-/// The files, the input and the output fail, each in its turn.
-#[test]
-fn a_fault_of_each_device_is_told(rt: HostRuntime) -> Result<(), Fail> {
-    let alloc = rt.alloc();
-    let run = of(TWO, "c", THREE);
-    let unread = Run {
-        failed: (&[0], &[], &[]),
-        ..run
-    };
-    let cut = Run {
-        failed: (&[], &[0], &[]),
-        ..run
-    };
-    let unwritten = Run {
-        failed: (&[], &[], &[1]),
-        ..run
-    };
-    assert!(rt; is_so(&rt, alloc, &unread, 3, "ReadFault", b"")?);
-    assert!(rt; is_so(&rt, alloc, &cut, 3, "ReadFault", b"")?);
-    assert!(rt; is_so(&rt, alloc, &unwritten, 4, "WriteFault", PING_REPLY)?);
-    Ok(())
-}
-
-/// Any pool runs: threads that are made when they are wanted, lanes, and a buffer.
-#[test]
-fn any_pool_runs(rt: HostRuntime) -> Result<(), Fail> {
-    let alloc = rt.alloc();
-    for front in [
-        "pool = { static = 1, dynamic = 0, default_priority = 1 }\nserver = { slots = 2, max_calls = 1 }\n",
-        "pool = { static = 1, dynamic = 1, default_priority = 1 }\n",
-        "pool = { lanes = [{ priority = 7, static = 1, dynamic = 0 }] }\n",
-        "pool = { static = 1, dynamic = 0, default_priority = 1, buffering = true, max_buffered_requests = 1, max_request_buffer_size = 100 }\n",
-    ] {
-        let mut config = String::from_str(alloc, front)?;
-        config.push_str(REST)?;
-        let run = of(config.as_bytes(), "c", PING);
-        assert!(rt;
-            is_so(&rt, alloc, &run, 0, "Nothing", PING_REPLY)?,
-            "{front}"
-        );
-    }
-    Ok(())
-}
-
-/// A group of three requests over two lanes: the bytes of its replies, and the text of its history.
-#[test]
-fn an_urgent_request_overtakes(rt: HostRuntime) -> Result<(), Fail> {
-    let alloc = rt.alloc();
-    let run = of(LANES, "c", URGENT);
-    let grouped = Run {
-        options: &["--batch", "3"],
-        ..run
-    };
-    let shown = Run {
-        options: &["--batch", "3", "--history"],
-        ..run
-    };
-    assert!(rt; is_so(&rt, alloc, &grouped, 0, "Nothing", URGENT_REPLIES)?);
-    assert!(rt; is_so(&rt, alloc, &shown, 0, "Nothing", URGENT_HISTORY)?);
-    Ok(())
-}
-
-#[test]
-fn the_first_fault_of_a_configuration_is_told(rt: HostRuntime) -> Result<(), Fail> {
-    let alloc = rt.alloc();
-    for (bytes, cause, path) in [
-        (b"pool = 1".as_slice(), ConfigCause::WrongKind, "pool"),
-        (b"\xff".as_slice(), ConfigCause::NotToml, ""),
-        (
-            UNSERVED,
-            ConfigCause::UnknownInterface,
-            "object[0].interface",
-        ),
-    ] {
-        let (answered, text) = ran(&rt, alloc, &of(bytes, "c", PING))?;
-        assert!(rt; refuses(&answered, cause, path), "{path}");
-        assert_eq!(rt; text.len(), 0, "{path}");
-    }
-    Ok(())
+    check_all(&rt, alloc, OBJECTS)?;
+    check_all(&rt, alloc, POOLS)?;
+    check_all(&rt, alloc, OVERTAKEN)?;
+    check_all(&rt, alloc, REFUSED)
 }

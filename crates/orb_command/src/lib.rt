@@ -22,9 +22,9 @@ mod config_tests;
 #[cfg(test)]
 mod hostile_tests;
 #[cfg(test)]
-mod idl_tests;
-#[cfg(test)]
 mod lane_tests;
+#[cfg(test)]
+mod rows;
 #[cfg(test)]
 mod script_tests;
 #[cfg(test)]

@@ -1,15 +1,7 @@
 //! The server over a net in memory: what it reads, writes and answers.
 
-use super::*;
-use crate::at_tests::{list, store};
-use crate::tests::{Told, is_told};
-use orb_base::{List, MemLink, MemSink, MemSource, SteadySource};
-use orb_nets::{MemNet, MemSlot};
-use std::alloc::Global;
-use std::collections::LinkedList;
-use std::sync::Wait;
+use crate::rows::{EMPTY, Row, check};
 use std::test::Fail;
-use std::thread::Threads;
 
 /// One slot of one connection, one thread, and room for two requests of 1,024 bytes.
 const ONE: &[u8] =
@@ -23,77 +15,57 @@ const REPLY: &[u8] = b"GIOP\x01\x02\0\x01\0\0\0\x0e\0\0\0\x01\0\0\0\0\0\0\0\0\0\
 
 const LINE: &[u8] = b"calls 1 run 1 lent 0 kept 0 full 0 removed 0 connections 1\n";
 
-/// A net with one slot, at which one link gives the ping, and whose calls of these numbers fail.
-fn one_link(alloc: Global, failing: &[u64]) -> Result<MemNet, Fail> {
-    let mut links = LinkedList::new(alloc);
-    links
-        .push_back(MemLink::new(
-            MemSource::new(list(alloc, PING)?, List::new(alloc), List::new(alloc)),
-            MemSink::new(alloc, List::new(alloc), List::new(alloc)),
-        ))
-        .ok()
-        .ok_or("memory")?;
-    let mut slots = LinkedList::new(alloc);
-    slots
-        .push_back(MemSlot {
-            links,
-            failing: List::new(alloc),
-        })
-        .ok()
-        .ok_or("memory")?;
-    Ok(MemNet::new(alloc, slots, LinkedList::new(alloc), list(alloc, failing)?))
-}
+/// The server by the configuration `c`, whose one client sends the ping.
+const SERVED: Row<'static> = Row {
+    story: "a run",
+    words: &["serve", "--config", "c", "--listen", "h:7"],
+    files: &[("c", ONE)],
+    sent: PING,
+    output: LINE,
+    ..EMPTY
+};
 
-/// What `serve` answers to this name, where the store has the one file `c`, and what is written; the calls of the net and the writes of
-/// these numbers fail.
-fn ran<R: Wait + Threads + Sync>(
-    rt: &R,
-    alloc: Global,
-    name: &str,
-    failed_calls: &[u64],
-    failed_writes: &[u64],
-) -> Result<(Told, Vec<u8>), Fail> {
-    let mut words = Vec::new(alloc);
-    for word in ["serve", "--config", name, "--listen", "h:7"] {
-        words.push(String::from_str(alloc, word)?)?;
-    }
-    let mut net = one_link(alloc, failed_calls)?;
-    let mut files = store(alloc, list(alloc, ONE)?, &[])?;
-    let mut input = SteadySource::new(List::new(alloc), List::new(alloc));
-    let mut out = MemSink::new(alloc, List::new(alloc), list(alloc, failed_writes)?);
-    let words = words.as_slice();
-    let answered = orb_main(rt, alloc, words, &mut net, &mut files, &mut input, &mut out);
-    Ok((answered, Vec::from_slice(alloc, out.held())?))
-}
+const UNWRITTEN: Row<'static> = Row {
+    story: "a run whose summary can't be written",
+    failed_writes: &[0],
+    status: 4,
+    note: "WriteFault",
+    output: &[],
+    ..SERVED
+};
+
+const UNSERVED: &[Row<'static>] = &[
+    Row {
+        story: "a net that refuses",
+        failed_calls: &[0],
+        status: 5,
+        note: "NetFault",
+        output: &[],
+        ..SERVED
+    },
+    Row {
+        story: "a configuration that isn't there",
+        words: &["serve", "--config", "d", "--listen", "h:7"],
+        status: 10,
+        note: "Absent(Config)",
+        output: &[],
+        ..SERVED
+    },
+];
 
 #[test]
-fn a_served_run_has_its_summary(rt: HostRuntime) -> Result<(), Fail> {
+fn a_server_writes_its_summary_and_tells_its_faults(rt: HostRuntime) -> Result<(), Fail> {
     let alloc = rt.alloc();
-    let (answered, text) = ran(&rt, alloc, "c", &[], &[])?;
-    assert!(rt; is_told(alloc, &answered, "Nothing")?);
-    assert_eq!(rt; answered.status, 0);
-    assert!(rt; text.as_slice() == LINE);
-    assert_eq!(rt; answered.acceptors.len(), 1);
-    let run = answered.run.as_ref().ok_or("a run")?;
+    let served = check(&rt, alloc, &SERVED)?;
+    assert_eq!(rt; served.acceptors.len(), 1);
+    let run = served.run.as_ref().ok_or("a run")?;
     let log = run.conns.get(0).ok_or("a connection")?;
-    assert!(rt; log.sink.held() == REPLY);
-    Ok(())
-}
-
-#[test]
-fn a_server_tells_its_faults(rt: HostRuntime) -> Result<(), Fail> {
-    let alloc = rt.alloc();
-    let rows: [(&str, &[u64], &[u64], u8, &str, bool); 3] = [
-        ("c", &[0], &[], 5, "NetFault", false),
-        ("c", &[], &[0], 4, "WriteFault", true),
-        ("d", &[], &[], 10, "Absent(Config)", false),
-    ];
-    for (name, calls, writes, status, note, has_run) in rows {
-        let (answered, text) = ran(&rt, alloc, name, calls, writes)?;
-        assert!(rt; is_told(alloc, &answered, note)?, "{note}");
-        assert_eq!(rt; answered.status, status);
-        assert!(rt; text.is_empty());
-        assert!(rt; answered.run.is_some() == has_run);
+    assert_eq!(rt; log.sink.held(), REPLY);
+    let unwritten = check(&rt, alloc, &UNWRITTEN)?;
+    assert!(rt; unwritten.run.is_some());
+    for row in UNSERVED {
+        let unserved = check(&rt, alloc, row)?;
+        assert!(rt; unserved.run.is_none(), "at {}", row.story);
     }
     Ok(())
 }

@@ -1,12 +1,7 @@
-//! `orb dump` and `orb refs` over memory: each status with its note, and what is written then.
+//! `orb dump`, `orb refs` and `orb idl --file` over memory: each status with its note, and what is written then.
 
-use super::*;
-use crate::tests::{Told, net, told};
-use orb_base::{List, MemSink, MemSource, Octets, SteadyFiles};
-use std::alloc::Global;
-use std::sync::Wait;
+use crate::rows::{EMPTY, Row, check, check_all};
 use std::test::Fail;
-use std::thread::Threads;
 
 /// The request of id 1 for `current` of `ping`.
 const PING: &[u8] =
@@ -34,166 +29,207 @@ const ODD_REFERENCE: &[u8] =
 const LINES: &[u8] =
     b"type IDL:Orb/Ping:1.0\nhost 127.0.0.1\nport 2809\nkey ping\nmodel CLIENT_PROPAGATED 100\n";
 
-fn list<T: Copy>(alloc: Global, items: &[T]) -> Result<List<T>, Fail> {
-    Ok(List::from_vec(Vec::from_slice(alloc, items)?))
-}
+/// A listing of messages, read and written in pieces.
+const DUMP: Row<'static> = Row {
+    words: &["dump"],
+    reads: &[40, 24],
+    writes: &[9, 5],
+    ..EMPTY
+};
 
-/// What one command answers to an input, read in pieces of at most this length, and writes; the read and the write of these
-/// numbers fail.
-fn ran<R: Wait + Threads + Sync>(
-    rt: &R,
-    alloc: Global,
-    word: &str,
-    input: Octets,
-    failed_reads: &[u64],
-    failed_writes: &[u64],
-) -> Result<(Told, Vec<u8>), Fail> {
-    let mut words = Vec::new(alloc);
-    words.push(String::from_str(alloc, word)?)?;
-    let mut input = MemSource::new(input, list(alloc, &[40, 24])?, list(alloc, failed_reads)?);
-    let mut out = MemSink::new(alloc, list(alloc, &[9, 5])?, list(alloc, failed_writes)?);
-    let mut files = SteadyFiles::new(List::new(alloc));
-    let answered = orb_main(
-        rt,
-        alloc,
-        words.as_slice(),
-        &mut net(alloc),
-        &mut files,
-        &mut input,
-        &mut out,
-    );
-    Ok((answered, Vec::from_slice(alloc, out.held())?))
-}
+/// The parts of a reference, read and written in pieces.
+const REFS: Row<'static> = Row {
+    words: &["refs"],
+    reads: &[40, 24],
+    writes: &[9, 5],
+    ..EMPTY
+};
+
+const TOLD: &[Row<'static>] = &[
+    Row {
+        story: "a request",
+        input: PING,
+        output: b"0 Request big 48 id 1 flags 3 key ping op current contexts 0 body 0\n",
+        ..DUMP
+    },
+    Row {
+        story: "pieces with a request between them",
+        input: INTERLEAVED,
+        output: b"24 Request big 48 id 2 flags 3 key ping op current contexts 0 body 0\n104 Request big 48 id 1 flags 3 key ping op current contexts 0 body 0\n",
+        ..DUMP
+    },
+    Row {
+        story: "a LocateReply",
+        input: HERE,
+        output: b"0 LocateReply big 20 id 5 status 1\n",
+        ..DUMP
+    },
+    Row {
+        story: "a header that is cut",
+        input: b"GIOP\x01\x02\0\0\0\0\0",
+        status: 8,
+        note: "Input(0, Cut)",
+        ..DUMP
+    },
+    Row {
+        story: "a reply of no status behind a request",
+        input: BAD_STATUS,
+        status: 8,
+        note: "Input(48, BadStatus)",
+        output: b"0 Request big 48 id 1 flags 3 key ping op current contexts 0 body 0\n",
+        ..DUMP
+    },
+    Row {
+        story: "messages whose second read fails",
+        input: PING,
+        failed_reads: &[1],
+        status: 3,
+        note: "ReadFault",
+        ..DUMP
+    },
+    Row {
+        story: "messages whose second write fails",
+        input: PING,
+        failed_writes: &[1],
+        status: 4,
+        note: "WriteFault",
+        output: b"0 Request",
+        ..DUMP
+    },
+    Row {
+        story: "a reference in hexadecimal digits",
+        input: REFERENCE,
+        output: LINES,
+        ..REFS
+    },
+    Row {
+        story: "a reference as a URL",
+        input: b"corbaloc::1.2@h/a%2Fb\n",
+        output: b"host h\nport 2809\nkey a/b\n",
+        ..REFS
+    },
+    Row {
+        story: "a URL of a version that is not spoken",
+        input: b"corbaloc:iiop:1.1@h/a",
+        status: 8,
+        note: "Reference(RefFault { cause: BadVersion, place: 14 })",
+        ..REFS
+    },
+    Row {
+        story: "a digit less",
+        input: ODD_REFERENCE,
+        status: 8,
+        note: "Reference(RefFault { cause: OddHex, place: 215 })",
+        ..REFS
+    },
+    Row {
+        story: "a reference whose third read fails",
+        input: REFERENCE,
+        failed_reads: &[2],
+        status: 3,
+        note: "ReadFault",
+        ..REFS
+    },
+    Row {
+        story: "a reference whose third write fails",
+        input: REFERENCE,
+        failed_writes: &[2],
+        status: 4,
+        note: "WriteFault",
+        output: b"type IDL:Orb/P",
+        ..REFS
+    },
+];
+
+const TWICE: &[u8] = b"module M { interface V { long twice(in long x); }; };";
+
+const ATTRIBUTES: &[u8] = b"interface S { attribute long a; readonly attribute short b; };";
+
+/// A listing of the IDL of the file `c`, written in pieces.
+const IDL: Row<'static> = Row {
+    words: &["idl", "--file", "c"],
+    writes: &[6, 5],
+    ..EMPTY
+};
+
+const LISTED: &[Row<'static>] = &[
+    Row {
+        story: "an operation",
+        files: &[("c", TWICE)],
+        output: b"interface IDL:M/V:1.0\nop twice in 1 out 0 raises 0\n",
+        ..IDL
+    },
+    Row {
+        story: "attributes",
+        files: &[("c", ATTRIBUTES)],
+        output: b"interface IDL:S:1.0\nop _get_a in 0 out 0 raises 0\nop _set_a in 1 out 0 raises 0\nop _get_b in 0 out 0 raises 0\n",
+        ..IDL
+    },
+    Row {
+        story: "an empty file",
+        files: &[("c", b"")],
+        ..IDL
+    },
+    Row {
+        story: "a name that clashes",
+        files: &[("c", b"module Orb { const long x = 1; };")],
+        status: 2,
+        note: "Idl(IdlFault { cause: Clash, line: 1, column: 8 })",
+        ..IDL
+    },
+    Row {
+        story: "a file that can't be read",
+        files: &[("c", TWICE)],
+        failed_files: &[0],
+        status: 3,
+        note: "ReadFault",
+        ..IDL
+    },
+    Row {
+        story: "a listing whose second write fails",
+        files: &[("c", TWICE)],
+        failed_writes: &[1],
+        status: 4,
+        note: "WriteFault",
+        output: b"interf",
+        ..IDL
+    },
+    Row {
+        story: "a file that isn't there",
+        words: &["idl", "--file", "m.idl"],
+        files: &[("c", TWICE)],
+        status: 10,
+        note: "Absent(Idl)",
+        ..IDL
+    },
+    Row {
+        story: "a name with a dash, which no file has",
+        words: &["idl", "--file", "-c"],
+        files: &[("c", TWICE)],
+        status: 14,
+        note: "NotBuilt",
+        ..IDL
+    },
+];
 
 #[test]
-fn a_told_input_gives_its_lines_and_status(rt: HostRuntime) -> Result<(), Fail> {
-    for (word, input, status, note, written) in [
-        (
-            "dump",
-            PING,
-            0,
-            "Nothing",
-            b"0 Request big 48 id 1 flags 3 key ping op current contexts 0 body 0\n".as_slice(),
-        ),
-        (
-            "dump",
-            INTERLEAVED,
-            0,
-            "Nothing",
-            b"24 Request big 48 id 2 flags 3 key ping op current contexts 0 body 0\n104 Request big 48 id 1 flags 3 key ping op current contexts 0 body 0\n".as_slice(),
-        ),
-        (
-            "dump",
-            HERE,
-            0,
-            "Nothing",
-            b"0 LocateReply big 20 id 5 status 1\n".as_slice(),
-        ),
-        (
-            "dump",
-            b"GIOP\x01\x02\0\0\0\0\0".as_slice(),
-            8,
-            "Input(0, Cut)",
-            b"".as_slice(),
-        ),
-        (
-            "dump",
-            BAD_STATUS,
-            8,
-            "Input(48, BadStatus)",
-            b"0 Request big 48 id 1 flags 3 key ping op current contexts 0 body 0\n".as_slice(),
-        ),
-        ("refs", REFERENCE, 0, "Nothing", LINES),
-        (
-            "refs",
-            b"corbaloc::1.2@h/a%2Fb\n".as_slice(),
-            0,
-            "Nothing",
-            b"host h\nport 2809\nkey a/b\n".as_slice(),
-        ),
-        (
-            "refs",
-            b"corbaloc:iiop:1.1@h/a".as_slice(),
-            8,
-            "Reference(RefFault { cause: BadVersion, place: 14 })",
-            b"".as_slice(),
-        ),
-        (
-            "refs",
-            ODD_REFERENCE,
-            8,
-            "Reference(RefFault { cause: OddHex, place: 215 })",
-            b"".as_slice(),
-        ),
-    ] {
-        let (answered, text) = ran(&rt, rt.alloc(), word, list(rt.alloc(), input)?, &[], &[])?;
-        assert_eq!(rt; answered.status, status, "{word}");
-        assert_eq!(rt; told(rt.alloc(), &answered)?.as_str(), note, "{word}");
-        assert_eq!(rt; text.as_slice(), written, "{word}");
-    }
-    Ok(())
-}
-
-#[test]
-fn a_failing_device_has_its_status(rt: HostRuntime) -> Result<(), Fail> {
-    for (word, input, failed_reads, failed_writes, status, note, written) in [
-        (
-            "dump",
-            PING,
-            [1].as_slice(),
-            [].as_slice(),
-            3,
-            "ReadFault",
-            b"".as_slice(),
-        ),
-        (
-            "dump",
-            PING,
-            [].as_slice(),
-            [1].as_slice(),
-            4,
-            "WriteFault",
-            b"0 Request".as_slice(),
-        ),
-        (
-            "refs",
-            REFERENCE,
-            [2].as_slice(),
-            [].as_slice(),
-            3,
-            "ReadFault",
-            b"".as_slice(),
-        ),
-        (
-            "refs",
-            REFERENCE,
-            [].as_slice(),
-            [2].as_slice(),
-            4,
-            "WriteFault",
-            b"type IDL:Orb/P".as_slice(),
-        ),
-    ] {
-        let input = list(rt.alloc(), input)?;
-        let (answered, text) = ran(&rt, rt.alloc(), word, input, failed_reads, failed_writes)?;
-        assert_eq!(rt; answered.status, status, "{word}");
-        assert_eq!(rt; told(rt.alloc(), &answered)?.as_str(), note, "{word}");
-        assert_eq!(rt; text.as_slice(), written, "{word}");
-    }
-    Ok(())
-}
-
-/// The URL has 16 bytes before its key.
-#[test]
-fn a_longer_reference_is_cut(rt: HostRuntime) -> Result<(), Fail> {
+fn each_tool_writes_its_lines_and_has_its_status(rt: HostRuntime) -> Result<(), Fail> {
     let alloc = rt.alloc();
+    check_all(&rt, alloc, TOLD)?;
+    check_all(&rt, alloc, LISTED)?;
+    // The URL has 16 bytes before its key.
     let mut url = Vec::from_slice(alloc, b"corbaloc::1.2@h/")?;
     for _ in 0..65_521 {
         url.push(b'a')?;
     }
-    let (answered, text) = ran(&rt, alloc, "refs", List::from_vec(url), &[], &[])?;
-    assert_eq!(rt; answered.status, 8);
-    assert_eq!(rt; told(alloc, &answered)?.as_str(), "Input(65536, Cut)");
-    assert_eq!(rt; text.len(), 0);
+    let input = url.as_slice();
+    let longer = Row {
+        story: "a reference that is longer than one may be",
+        input,
+        status: 8,
+        note: "Input(65536, Cut)",
+        ..REFS
+    };
+    check(&rt, alloc, &longer)?;
     Ok(())
 }
