@@ -2,20 +2,17 @@
 //!
 //! Nothing is promised of it: waiting changes neither the object nor its history.
 
-use std::hint;
 use std::sync::Wait;
 use std::sync::atomic::AtomicU64;
 use std::sync::atomic::Ordering::SeqCst;
 use std::time::Duration;
+use std::{hint, thread};
 
-/// The most looks that a waiter takes before it sleeps, some 20 to 50 microseconds.
-const MOST_LOOKS: u64 = 1_000;
+/// The most looks that a waiter takes before it sleeps, some 40 to 100 microseconds where no other thread wants its processor.
+const MOST_LOOKS: u64 = 96;
 
-/// The looks that a trial which paid begins with.
-const FIRST_LOOKS: u64 = 250;
-
-/// Fewer looks than this never pay.
-const LEAST_LOOKS: u64 = 16;
+/// How often a look reads before it gives way to other threads.
+pub(crate) const READS: u64 = 16;
 
 /// Where looking didn't pay, one wait in so many tries it again.
 const TRIAL_EVERY: u64 = 64;
@@ -62,16 +59,27 @@ impl Bell {
         self.sleepers.load(SeqCst) > 0
     }
 
-    /// Waits for a ring behind the first `seen` ones, or for a while; whether looking was enough.
-    pub(crate) fn wait<R: Wait>(&self, rt: &R, seen: u64) -> bool {
-        for _ in 0..self.budget() {
+    /// Waits for a ring behind the first `seen` ones, or for a while; how many looks were taken, where they were enough.
+    pub(crate) fn wait<R: Wait>(&self, rt: &R, seen: u64) -> Option<u64> {
+        for looks in 0..self.budget() {
+            if self.looks_behind(seen) {
+                return Some(looks);
+            }
+            thread::yield_now();
+        }
+        self.wasted();
+        self.sleep(rt, seen, LONGEST_SLEEP);
+        None
+    }
+
+    /// Looks for a ring behind the first `seen` ones.
+    fn looks_behind(&self, seen: u64) -> bool {
+        for _ in 0..READS {
             if self.rings() != seen {
                 return true;
             }
             hint::spin_loop();
         }
-        self.wasted();
-        self.sleep(rt, seen, LONGEST_SLEEP);
         false
     }
 
@@ -103,17 +111,15 @@ impl Bell {
         looks
     }
 
-    /// Looking ended in the call.
-    pub(crate) fn paid(&self) {
-        let looks = self.looks.load(SeqCst).min(MOST_LOOKS) * 2;
-        self.looks
-            .store(looks.max(FIRST_LOOKS).min(MOST_LOOKS), SeqCst);
+    /// So many looks ended in the call: twice as many are worth a try from now on.
+    pub(crate) fn paid(&self, looks: u64) {
+        let enough = (looks.min(MOST_LOOKS) * 2 + 1).min(MOST_LOOKS);
+        self.looks.fetch_max(enough, SeqCst);
     }
 
-    /// Looking didn't end in the call.
+    /// Looking didn't end in the call: a quarter less from now on.
     pub(crate) fn wasted(&self) {
-        let looks = self.looks.load(SeqCst) / 2;
-        let looks = if looks < LEAST_LOOKS { 0 } else { looks };
-        self.looks.store(looks, SeqCst);
+        let looks = self.looks.load(SeqCst).min(MOST_LOOKS);
+        self.looks.store(looks * 3 / 4, SeqCst);
     }
 }

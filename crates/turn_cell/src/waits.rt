@@ -1,13 +1,13 @@
 //! How a call waits for the turn, and for its state.
-use crate::bell::{Bell, LONGEST_SLEEP};
+use crate::bell::{LONGEST_SLEEP, READS};
 use crate::bells::Rung;
 use crate::board::Core;
 use crate::cell::Board;
 use crate::object::Object;
 use crate::tried::{Hold, Tried};
-use std::hint;
 use std::sync::Wait;
 use std::time::Duration;
+use std::{hint, thread};
 
 /// How long a call sleeps whose object wanted memory, in milliseconds.
 const WANT_OF_MEMORY: u64 = 1;
@@ -19,8 +19,8 @@ pub(crate) struct Watch {
     number: u32,
     /// The rings that it had seen when it last said that it waits.
     said: Option<u64>,
-    /// Whether looking ended the last wait.
-    looked: bool,
+    /// The looks that ended the last wait, if they did.
+    looked: Option<u64>,
 }
 
 impl<O: Object> Board<O> {
@@ -29,14 +29,14 @@ impl<O: Object> Board<O> {
         Watch {
             number: O::bell_of(call),
             said: None,
-            looked: false,
+            looked: None,
         }
     }
 
     /// The call was answered.
     pub(crate) fn settle(&self, watch: Watch) {
-        if watch.looked {
-            self.bells.bell(watch.number).paid();
+        if let Some(looks) = watch.looked {
+            self.bells.bell(watch.number).paid(looks);
         }
     }
 
@@ -60,7 +60,7 @@ impl<O: Object> Board<O> {
     // Who takes the turn after that sees that the bell is waited at, so no ring is missed.
     fn await_bell<R: Wait>(&self, rt: &R, watch: Watch, word: u64) -> Watch {
         let bell = self.bells.bell(watch.number);
-        if watch.looked {
+        if watch.looked.is_some() {
             bell.wasted();
         }
         let seen = match watch.said {
@@ -71,7 +71,7 @@ impl<O: Object> Board<O> {
                 if self.table.shared.peek(0) != word {
                     return Watch {
                         said: Some(seen),
-                        looked: false,
+                        looked: None,
                         ..watch
                     };
                 }
@@ -85,15 +85,26 @@ impl<O: Object> Board<O> {
         }
     }
 
+    // Looks for a free turn.
+    fn looks_free(&self) -> bool {
+        for _ in 0..READS {
+            if self.table.shared.peek(0) % 2 == 0 {
+                return true;
+            }
+            hint::spin_loop();
+        }
+        false
+    }
+
     // Waits until the turn may be free.
     fn await_turn<R: Wait>(&self, rt: &R) {
         let turn = &self.bells.turn;
-        for _ in 0..turn.budget() {
-            if self.table.shared.peek(0) % 2 == 0 {
-                turn.paid();
+        for looks in 0..turn.budget() {
+            if self.looks_free() {
+                turn.paid(looks);
                 return;
             }
-            hint::spin_loop();
+            thread::yield_now();
         }
         turn.wasted();
         turn.enter();
