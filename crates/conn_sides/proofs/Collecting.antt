@@ -18,7 +18,7 @@ use Rattle.text_streams.specs.Streams.{WritesAll}
 use Rattle.text_streams.specs.declared.writing.WriteAll.{WriteAll}
 use Rattle.text_streams.specs.declared.writing.WriteAll.TheVariants.{Whole}
 use Rattle.pipe_laws.specs.Said.{item_bytes, handed_bytes, said}
-use Rattle.pipe_laws.proofs.Once.{same_self}
+use Rattle.lane_laws.proofs.Marks.{same_self}
 use Rattle.item_writer.specs.Shortness.{HandsShort}
 use Rattle.lane_driver.proofs.Driving.{said_both}
 use Rattle.lane_driver.proofs.Short.{collect_gives}
