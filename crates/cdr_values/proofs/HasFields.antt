@@ -1,13 +1,13 @@
 -- When a value has fields.
-use Rattle.std.proofs.Common.{◌≡◌, ℕ, ℤ, zero, suc, ◌+◌, ◌-◌, ◌<◌, Bool, true, false, not, ◌&&◌, cond, eqb, List, [], ◌∷◌, map, length, Option, Some, None, refl, sym, ap, ◌∙◌, arith, is_some, is_none, option_map}
+use Rattle.std.proofs.Common.{◌≡◌, ℕ, ℤ, zero, suc, ◌-◌, ◌<◌, Bool, true, false, ◌&&◌, cond, eqb, List, [], ◌∷◌, length, Option, Some, None, refl, sym, ap, ◌∙◌, arith, is_some, is_none, option_map}
 use Rattle.std.specs.Prelude.{IfSome}
 use Rattle.std.proofs.lemmas.Bool.{eq-eqb}
 use Rattle.cdr_core.specs.Field.{Field, string_fields}
 use Rattle.cdr_core.specs.Field as core
 use Rattle.std.specs.Int.{w32}
-use Rattle.cdr_values.specs.Trees.{Scalar, boolean, char, unsigned, signed, enumeration, Kind, scalar, words, sequence, array, structure, union, Members, no_members, member, Cases, no_cases, case, Value, truth, number, letter, text, items, chosen, label, Values, no_values, value, values_of, values_len, cases_of}
-use Rattle.cdr_values.specs.Numerals.{numeral, numeral_of, plain_field}
-use Rattle.cdr_values.specs.Spelling.{is_text, is_count, behind, both, one_field, number_field, tag_field, fields_of, fields_each, fields_members, fields_chosen}
+use Rattle.cdr_values.specs.Trees.{Scalar, boolean, char, unsigned, signed, enumeration, Kind, scalar, words, sequence, array, union, member, Cases, Value, truth, number, letter, text, items, chosen, label, Values, no_values, value, values_of, values_len, cases_of}
+use Rattle.cdr_values.specs.Numerals.{plain_field}
+use Rattle.cdr_values.specs.Spelling.{is_text, is_count, behind, both, one_field, tag_field, fields_of, fields_each, fields_chosen}
 use Rattle.cdr_values.specs.Choice.{choose, nth_kind, kind_at}
 use Rattle.cdr_values.specs.Kinds.{cases_view}
 use Rattle.cdr_values.specs.Values.{value_of, values_view}

@@ -1,11 +1,10 @@
 -- What is read is spelled so.
-use Rattle.std.proofs.Common.{◌≡◌, ℕ, zero, suc, ℤ, pos, negsuc, ◌+◌, ◌-◌, ◌<◌, ◌≤◌, ◌^◌, ◌*◌, Bool, true, false, not, ◌&&◌, cond, ltb, leb, eqb, min, List, [], ◌∷◌, ◌++◌, length, get_or, Option, Some, None, Result, Ok, Err, refl, sym, ap, subst, ◌∙◌, arith, inl, inr}
-use Rattle.std.specs.Prelude.{is_none, int_le, int_lt, nat_abs}
-use Rattle.std.proofs.lemmas.Bool.{cases_lt, lt-ltb, le-ltb, ltb-true, ltb-false, eq-eqb, le-leb}
+use Rattle.std.proofs.Common.{◌≡◌, ℕ, zero, suc, ℤ, pos, negsuc, ◌+◌, ◌-◌, ◌<◌, ◌≤◌, ◌^◌, ◌*◌, Bool, true, false, not, cond, ltb, List, [], ◌∷◌, ◌++◌, length, get_or, Option, Some, None, Ok, Err, refl, sym, ap, subst, ◌∙◌, arith, inl, inr}
+use Rattle.std.proofs.lemmas.Bool.{cases_lt, lt-ltb, le-ltb, ltb-true, eq-eqb, le-leb}
 use Rattle.std.proofs.lemmas.List.{get_or-append-add}
-use Rattle.std.proofs.lemmas.Int.{of_z-to_z, to_z_pos}
+use Rattle.std.proofs.lemmas.Int.{to_z_pos}
 use Rattle.std.proofs.Math.Facts.{to_z-neg}
-use Rattle.std.specs.Int.{Width, w8, w16, w32, w64, w128, byte_len, from_bool, cast_signed, cast_unsigned}
+use Rattle.std.specs.Int.{w8, w16, w32, w64, byte_len, from_bool, cast_signed}
 use Rattle.cdr_core.specs.declared.fault.CdrFault.{CdrFault}
 use Rattle.cdr_core.specs.declared.fault.CdrCause.TheVariants.{BadEnum, OverBound}
 use Rattle.cdr_core.specs.Cursor.{Cursor, AreBytes, Reads, fault, aligned}
@@ -15,13 +14,13 @@ use Rattle.cdr_core.specs.Field as core
 use Rattle.cdr_core.specs.Passing.{Spans}
 use Rattle.cdr_core.specs.Reading.{number_at, bool_at, count_at, string_at}
 use Rattle.cdr_core.proofs.CallerLemmas.{bind_ok, guard_ok, ok_is, spans_then, number_takes, bool_takes, count_takes, string_takes}
-use Rattle.cdr_values.specs.Trees.{Size, size1, size2, size4, size8, wide, Scalar, boolean, char, unsigned, signed, enumeration, Kind, scalar, words, sequence, array, structure, union, Members, no_members, member, Cases, no_cases, case, Value, truth, number, letter, text, items, chosen, label, Values, no_values, value, values_of, values_len}
-use Rattle.cdr_values.specs.Numerals.{numeral, plain_field}
+use Rattle.cdr_values.specs.Trees.{Size, size1, size2, size4, size8, wide, Scalar, boolean, char, unsigned, signed, enumeration, Kind, scalar, words, sequence, array, structure, union, Members, no_members, member, Cases, no_cases, case, Value, number, text, items, chosen, Values, no_values, value, values_of, values_len}
+use Rattle.cdr_values.specs.Numerals.{numeral}
 use Rattle.cdr_values.proofs.Labels.{in_range}
 use Rattle.cdr_values.proofs.HasFields.{plain_is}
-use Rattle.cdr_values.specs.Choice.{choose, nth_kind, kind_at}
+use Rattle.cdr_values.specs.Choice.{choose, kind_at}
 use Rattle.cdr_values.specs.Passing.{Passed}
-use Rattle.cdr_values.specs.Spelling.{lowest, is_above, is_text, is_count, behind, both, one_field, number_field, tag_field, fields_of, fields_each, fields_members, fields_chosen}
+use Rattle.cdr_values.specs.Spelling.{is_above, is_text, is_count, behind, both, one_field, number_field, tag_field, fields_of, fields_each, fields_members, fields_chosen}
 use Rattle.cdr_values.specs.Reading.{as_read, label_at, scalar_at, value_at, tag_at, text_at, bounded_count_at, then_values, times, counted, then_member, read, read_members, read_chosen}
 
 pub bytes_behind : (c d : Cursor) (fields : List Field) → Spans c d fields → AreBytes c.rest → AreBytes d.rest
@@ -42,10 +41,6 @@ spans_none a = record { spelling = []; parts = refl; spelled = refl; order = ref
 -- every value that a reading gives stands before the cursor behind it
 abbrev pub Sound : (Cursor → Reads Value) → Kind → Type 0
 Sound one k = (c : Cursor) (v : Value) (d : Cursor) → AreBytes c.rest → one c ≡ Ok (v, d) → Passed c d (fields_of v k)
-
-pub len_of : (vs : List Value) → values_len (values_of vs) ≡ length vs
-len_of [] = refl
-len_of (v ∷ vs) = ap suc (len_of vs)
 
 times_takes : (one : Cursor → Reads Value) (k : Kind) → Sound one k → (n : ℕ) (c : Cursor) (vs : List Value) (d : Cursor) → AreBytes c.rest → times one n c ≡ Ok (vs, d)
     → (values_len (values_of vs) ≡ n) × Passed c d (fields_each (values_of vs) k)

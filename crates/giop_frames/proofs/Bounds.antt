@@ -96,7 +96,7 @@ step_bounded limit p us b d fits h =
     bounded_by limit p (map (grown p) vs) us (opens p.bytes) refl (within_step limit p us d b.within (joins_all limit p us h))
     (omega (arith, map_few p vs, filter_few (λ u. not (ends u.id p.bytes)) us)) b.few (λ o. (opens_new limit us p.bytes h o).1) b.least fits
 
-not_whole : (bytes : List ℕ) → is_whole bytes ≡ false → 12 ≤ length bytes → length bytes < piece_len bytes
+pub not_whole : (bytes : List ℕ) → is_whole bytes ≡ false → 12 ≤ length bytes → length bytes < piece_len bytes
 unfolding is_whole
 not_whole bytes h l = grind arith
 

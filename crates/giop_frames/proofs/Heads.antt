@@ -107,7 +107,7 @@ head_there bytes m v n = let k = kind_there (kind_of bytes) n in (k.0, rw (m, v,
 
 -- ---- headers under a limit
 
-not_lt : (n m : ℕ) → nat_lt n m ≡ false → m ≤ n
+pub not_lt : (n m : ℕ) → nat_lt n m ≡ false → m ≤ n
 not_lt n m h = grind arith
 
 long_none : (b : Bool) → cond b (Some TooLong) None ≡ None → b ≡ false

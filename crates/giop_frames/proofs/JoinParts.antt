@@ -5,7 +5,7 @@ use Rattle.std.proofs.Math.Seq.{take-length, take-append-add}
 use Rattle.orb_base.specs.declared.no_memory.NoMemory.{NoMemory as Lack}
 use Rattle.giop_frames.specs.declared.fault.FrameCause.{FrameCause}
 use Rattle.giop_frames.specs.declared.fault.FeedFault.{FeedFault}
-use Rattle.giop_frames.specs.Pieces.{piece_len, is_whole}
+use Rattle.giop_frames.specs.Pieces.{piece_len}
 use Rattle.giop_frames.specs.declared.header.Header.{Header}
 use Rattle.giop_frames.specs.Headers.{BeginsWith, header_at}
 use Rattle.giop_frames.specs.Messages.{Partial, Message}
@@ -14,6 +14,8 @@ use Rattle.giop_frames.specs.Running.{State}
 use Rattle.giop_frames.specs.Steps.{IsSound, Does}
 use Rattle.giop_frames.specs.Joining.{IsResting, IsFilled, IsReady, Same, Stops, Fails, Reads, Took, lifted, with_tail, Needs, SoFar}
 use Rattle.giop_frames.proofs.Ahead.{piece_len_front, long_piece}
+use Rattle.giop_frames.proofs.Bounds.{not_whole}
+use Rattle.giop_frames.proofs.Deeds.{all_behind}
 use Rattle.giop_frames.proofs.Joins.{behind, finish_reads, put_reads, rests_part, same_fails, same_none, same_same, sound_ready, stops_header, stops_piece}
 
 -- the same, where the code has the parts of the state
@@ -57,9 +59,6 @@ finish_gives r q whole whole' x s us us' tail tail' bytes n e hu ht h ready hb h
     (finish_reads r whole whole' x us' (subst R (sym e) ready) (verdict_as x x us tail None refl hu ht h) (subst D hb ok) err))))
 
 -- a read in parts
-pub all_behind : (n : ℕ) (bytes : List ℕ) → take (length bytes - n) (drop n bytes) ≡ drop n bytes
-all_behind n bytes = ap (λ (k : ℕ). take k (drop n bytes)) (sym (length-drop n bytes)) ∙ take-length (drop n bytes)
-
 take_more : (n m : ℕ) (xs : List ℕ) → n + m ≤ length xs → take n xs ++ take m (drop n xs) ≡ take (n + m) xs
 take_more n m xs h =
     let l : length (take n xs) ≡ n = length-take-le n xs (omega arith) in
@@ -95,10 +94,6 @@ so_far_all taken input whole whole' s s' f h =
     let n : taken ≡ length input = omega (arith, f.within) in
     let P : List ℕ → Type 0 = λ b. Same whole s b whole' s' in
     subst P (ap (λ (k : ℕ). take k input) n ∙ take-length input) f.same
-
-not_whole : (bytes : List ℕ) → is_whole bytes ≡ false → 12 ≤ length bytes → length bytes < piece_len bytes
-unfolding is_whole
-not_whole bytes h l = grind arith
 
 pub needs_header : (s : State) (n : ℕ) → length s.tail < 12 → n ≡ 12 - length s.tail → Needs s n
 needs_header s n h e = record { some = omega arith; header = λ _. omega arith; piece = λ k. absurd (omega arith) }

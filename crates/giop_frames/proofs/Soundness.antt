@@ -11,7 +11,7 @@ use Rattle.giop_frames.specs.Messages.{Partial, is_fragment, opens, continues, e
 use Rattle.giop_frames.specs.Stream.{same_order, fragment_cause, first_cause, piece_cause}
 use Rattle.giop_frames.specs.Running.{grown, stepped}
 use Rattle.giop_frames.specs.Steps.{IsDistinct, IsSound, JoinFits}
-use Rattle.giop_frames.proofs.Heads.{none_rule}
+use Rattle.giop_frames.proofs.Heads.{none_rule, not_lt}
 use Rattle.giop_frames.proofs.Places.{same, none_first}
 use Rattle.giop_frames.proofs.Effects.{opens_is}
 
@@ -50,9 +50,6 @@ or_none false b h = refl
 not_cancel : (kind : ℕ) → comes_whole kind ≡ false → is_kind CancelRequest kind ≡ false
 unfolding comes_whole
 not_cancel kind h = or_none (is_kind CancelRequest kind) _ h
-
-not_lt : (n m : ℕ) → nat_lt n m ≡ false → m ≤ n
-not_lt n m h = grind arith
 
 second_none : (a b : Bool) → cond (not a) (Some BadPiece) (cond b (Some TooLong) None) ≡ None → b ≡ false
 second_none true true h = absurd (cc)

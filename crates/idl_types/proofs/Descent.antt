@@ -7,6 +7,7 @@ use Rattle.std.specs.Str.{bytes_eq}
 use Rattle.std.proofs.lemmas.Bool.{and_parts, eqb-true, eq-eqb, both_ways}
 use Rattle.std.proofs.lemmas.Option.{none-some, same_Some, slice_get_within}
 use Rattle.std.proofs.lemmas.Slice.Eq.{bytes_eq-Decides}
+use Rattle.std.proofs.lemmas.List.{append-nil}
 use Rattle.idl_types.specs.Things.{Thing, constant, named, exception, interface, id_of, bases_of}
 use Rattle.idl_types.specs.Finding.{has_id, place_named, thing_named, as_interface, is_interface, bases_named, has_base, Leads, Descends, IsA, object_id}
 use Rattle.idl_types.specs.Sound.{has_bases_in, are_based}
@@ -14,16 +15,12 @@ use Rattle.idl_types.specs.Bases.{is_place, bases_at, is_base_at}
 use Rattle.idl_types.specs.Walk.{Trail, Reached}
 use Rattle.idl_types.proofs.Places.{at_place, found_at, not_found, position_front, any_all, any_more, any_among}
 
-behind_none : {X : Type 0} (xs : List X) → xs ++ [] ≡ xs
-behind_none [] = refl
-behind_none (x ∷ xs) = ap (λ (ys : List _). x ∷ ys) (behind_none xs)
-
 -- each thing's bases are interfaces among those before it
 based_at : (before ts : List Thing) → are_based before ts ≡ true → (a : ℕ) (t : Thing) → slice_get ts a ≡ Some t → has_bases_in (before ++ take a ts) t ≡ true
 based_at before [] all a t at = absurd (none-some t at)
 based_at before (u ∷ us) all zero t at =
     subst (λ (v : Thing). has_bases_in (before ++ []) v ≡ true) (same_Some u t at)
-    (ap (λ (xs : List Thing). has_bases_in xs u) (behind_none before) ∙ (and_parts (has_bases_in before u) (are_based (before ++ u ∷ []) us) all).0)
+    (ap (λ (xs : List Thing). has_bases_in xs u) (append-nil before) ∙ (and_parts (has_bases_in before u) (are_based (before ++ u ∷ []) us) all).0)
 based_at before (u ∷ us) all (suc a) t at =
     ap (λ (xs : List Thing). has_bases_in xs t) (sym (append_assoc before (u ∷ []) (take a us)))
     ∙ based_at (before ++ u ∷ []) us (and_parts (has_bases_in before u) (are_based (before ++ u ∷ []) us) all).1 a t at

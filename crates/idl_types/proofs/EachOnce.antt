@@ -5,7 +5,7 @@ use Rattle.std.specs.List.{list_all, list_any}
 use Rattle.std.specs.Str.{bytes_eq}
 use Rattle.std.specs.declared.alloc.Global.{Global}
 use Rattle.std.proofs.lemmas.Bool.{cases_Bool, and_parts, and_from}
-use Rattle.std.proofs.lemmas.List.{map-append}
+use Rattle.std.proofs.lemmas.List.{append-nil, map-append}
 use Rattle.std.proofs.lemmas.List.Folds.{list_any-append}
 use Rattle.std.proofs.lemmas.Slice.Eq.{bytes_eq-Decides}
 use Rattle.indexmap.specs.IndexSet.{insert_key}
@@ -43,10 +43,6 @@ module _ {X : Type 0} where
   filter_whole : (xs : List X) → filter (λ x. true) xs ≡ xs
   filter_whole [] = refl
   filter_whole (x ∷ xs) = ap (λ (ys : List X). x ∷ ys) (filter_whole xs)
-
-  behind_none : (xs : List X) → xs ++ [] ≡ xs
-  behind_none [] = refl
-  behind_none (x ∷ xs) = ap (λ (ys : List X). x ∷ ys) (behind_none xs)
 
   all_filtered : (p q : X → Bool) (xs : List X) → list_all p xs ≡ true → list_all p (filter q xs) ≡ true
   all_filtered p q [] all = refl
@@ -86,7 +82,7 @@ one_more ns n m = ap not (list_any-append (bytes_eq m) ns (n ∷ [])) ∙ on (li
 
 -- behind others come those that aren't among them, each once
 behind : (ns more : List (List ℕ)) → with_names ns more ≡ ns ++ filter (is_other ns) (once more)
-behind ns [] = sym (behind_none ns)
+behind ns [] = sym (append-nil ns)
 behind ns (n ∷ more) = elim (cases_Bool (list_any (bytes_eq n) ns)) [
   | inl t ↦ ap (λ (b : Bool). with_names (if b then ns else ns ++ n ∷ []) more) t
       ∙ behind ns more

@@ -6,7 +6,7 @@ use Rattle.std.specs.Map.{keys_of}
 use Rattle.std.specs.Char.{to_ascii_lowercase}
 use Rattle.std.specs.Str.{bytes_eq, str_eq_ignore_ascii_case, str_to_ascii_lowercase}
 use Rattle.std.specs.declared.alloc.Global.{Global}
-use Rattle.std.proofs.lemmas.List.{map-append}
+use Rattle.std.proofs.lemmas.List.{append-nil, map-append}
 use Rattle.std.proofs.lemmas.List.Sums.{sum_by-append}
 use Rattle.std.proofs.lemmas.List.Folds.{list_all-append, list_any-append}
 use Rattle.std.proofs.lemmas.Bool.{and_parts, and_from, or_parts, or_from, or_left, or_right, not-true, not_from_false, both_ways, false_from_ne_true, leb-true, le-leb, or_cases}
@@ -125,12 +125,8 @@ ids_on ts t apart f =
     both : (a b : List ℕ) → str_eq_ignore_ascii_case a b ≡ true → str_eq_ignore_ascii_case b a ≡ true
     both a b e = (bytes_eq-Decides (str_to_ascii_lowercase b) (str_to_ascii_lowercase a)).1 (sym ((bytes_eq-Decides (str_to_ascii_lowercase a) (str_to_ascii_lowercase b)).0 e))
 
-behind_none : {X : Type 0} (xs : List X) → xs ++ [] ≡ xs
-behind_none [] = refl
-behind_none (x ∷ xs) = ap (λ (ys : List _). x ∷ ys) (behind_none xs)
-
 based_behind : (before ts : List Thing) (t : Thing) → are_based before ts ≡ true → has_bases_in (before ++ ts) t ≡ true → are_based before (ts ++ t ∷ []) ≡ true
-based_behind before [] t all one = and_from (has_bases_in before t) true (ap (λ (xs : List Thing). has_bases_in xs t) (sym (behind_none before)) ∙ one) refl
+based_behind before [] t all one = and_from (has_bases_in before t) true (ap (λ (xs : List Thing). has_bases_in xs t) (sym (append-nil before)) ∙ one) refl
 based_behind before (u ∷ us) t all one =
     let p = and_parts (has_bases_in before u) (are_based (before ++ u ∷ []) us) all in
     and_from (has_bases_in before u) (are_based (before ++ u ∷ []) (us ++ t ∷ [])) p.0

@@ -1,17 +1,15 @@
 -- Each admitted request is in one place.
-use Rattle.std.proofs.Common.{◌≡◌, ℕ, ◌+◌, ◌*◌, ◌<◌, ◌≤◌, suc, zero, Bool, true, false, cond, ◌&&◌, ◌==◌, if◌then◌else◌, List, [], ◌∷◌, ◌++◌, length, Option, Some, None, inl, inr, ◌⊎◌, sym, refl, ap, ◌∙◌, subst, arith}
-use Rattle.std.specs.Prelude.{slice_get, find}
+use Rattle.std.proofs.Common.{◌≡◌, ℕ, ◌+◌, ◌≤◌, Bool, cond, ◌&&◌, ◌==◌, if◌then◌else◌, List, [], ◌∷◌, ◌++◌, Option, Some, None, inl, inr, refl, ap, ◌∙◌, arith}
+use Rattle.std.specs.Prelude.{slice_get}
 use Rattle.std.specs.List.{sum_by}
-use Rattle.std.proofs.lemmas.List.Sums.{sum_by-cons, sum_by-append, sum_by_push}
+use Rattle.std.proofs.lemmas.List.Sums.{sum_by-cons, sum_by_push}
 use Rattle.std.proofs.lemmas.Bool.{cases_eq, cases_Bool, and_parts, eqb-true}
 use Rattle.orb_base.specs.declared.conn_id.ConnId.{ConnId}
-use Rattle.orb_base.specs.declared.due.Due.{Due}
 use Rattle.orb_base.specs.declared.due.Due.TheVariants as due
 use Rattle.orb_base.specs.declared.answer.Answer.{Answer}
 use Rattle.orb_base.specs.declared.item.Item.{Item}
 use Rattle.orb_base.specs.declared.item.Item.TheVariants as item
-use Rattle.thread_borrowing.specs.declared.doing.Doing.{Doing}
-use Rattle.thread_borrowing.specs.declared.doing.Doing.TheVariants.{Free, Given, Busy}
+use Rattle.thread_borrowing.specs.declared.doing.Doing.TheVariants.{Given}
 use Rattle.lane_machine.specs.declared.call.LaneCall.{LaneCall}
 use Rattle.lane_machine.specs.declared.call.LaneCall.TheVariants.{Offer, Post, Cancel, Take, Finish, Collect, End, Leave}
 use Rattle.lane_machine.specs.declared.call.LaneReply.{LaneReply}
@@ -28,14 +26,10 @@ use Rattle.lane_machine.specs.State.{State, Opens, opening}
 use Rattle.thread_borrowing.specs.ThreadList.{Thread}
 use Rattle.orb_base.specs.Conn.{same_conn}
 use Rattle.lane_machine.specs.Machine.{step, is_over, early_items, refusals, late_items}
-use Rattle.lane_machine.specs.Readiness.{is_ready, IsSound}
-use Rattle.request_buffer.specs.Kept.{may_cancel}
+use Rattle.lane_machine.specs.Readiness.{IsSound}
 use Rattle.lane_machine.specs.Histories.{History, replay, IsLegal}
 
 -- the requests of a name that are in the machine, and those that run
-both_as : ConnId → ℕ → Doing → ℕ
-both_as conn serial d = given_as conn serial d + busy_as conn serial d
-
 abbrev inside : ConnId → ℕ → Weight
 inside conn serial = record { waits = named conn serial; does = λ d. given_as conn serial d + busy_as conn serial d; owes = λ i. 0; free = refl; given = λ job. omega arith }
 

@@ -22,12 +22,12 @@ use Rattle.lane_machine.specs.declared.call.LaneCall.{LaneCall}
 use Rattle.lane_machine.specs.declared.call.LaneCall.TheVariants.{Offer, Post, Cancel, Take, Finish, Collect, End, Leave}
 use Rattle.lane_machine.specs.declared.call.LaneReply.{LaneReply}
 use Rattle.lane_machine.specs.declared.call.LaneReply.TheVariants as reply
-use Rattle.lane_machine.specs.State.{State, Opens, opening}
-use Rattle.lane_machine.specs.Machine.{step, is_over, heard, early_items, refusals, late_items, add_items, placed, run_by, kept_or_full, may_wait, offered, posted, cancelled, withdrawn, begun, taken, answered, handed_on, freed, finished, handed, collected, over, shut, end_of, was_told, item_place}
-use Rattle.lane_machine.specs.Readiness.{is_ready, IsSound}
+use Rattle.lane_machine.specs.State.{State, Opens}
+use Rattle.lane_machine.specs.Machine.{step, is_over, heard, early_items, refusals, late_items, placed, run_by, kept_or_full, may_wait, offered, posted, cancelled, withdrawn, begun, taken, answered, handed_on, freed, finished, handed, collected, over, shut, end_of, was_told, item_place}
 use Rattle.lane_machine.specs.Histories.{History, replay, IsLegal}
 use Rattle.lane_machine.specs.Refusals.{WasRefused, HasReply}
 use Rattle.lane_machine.specs.Entries.{One}
+use Rattle.lane_machine.specs.SeatLaws.{append_found}
 
 -- the item is no TRANSIENT
 abbrev Plain : Item → Type 0
@@ -43,11 +43,6 @@ IsRefusal job r x = (x ≡ item.Transient job) × (r ≡ reply.Full) × HasReply
 -- each item stood there before, or is new and of this kind
 abbrev Comes : List Item → List Item → (Item → Type 0) → Type 0
 Comes items items' New = (i : ℕ) (x : Item) → slice_get items' i ≡ Some x → ((k : ℕ) × (slice_get items k ≡ Some x)) ⊎ New x
-
-append_found : {X : Type 0} (xs ys : List X) (i : ℕ) (x : X) → slice_get (xs ++ ys) i ≡ Some x → ((k : ℕ) × (slice_get xs k ≡ Some x)) ⊎ ((k : ℕ) × (slice_get ys k ≡ Some x))
-append_found {X} [] ys i x g = inr (i, g)
-append_found {X} (z ∷ xs) ys zero x g = inl (0, g)
-append_found {X} (z ∷ xs) ys (suc i) x g = elim (append_found xs ys i x g) [ inl a ↦ inl (suc a.0, a.1) | inr a ↦ inr a ]
 
 one_new : (New : Item → Type 0) (y : Item) → New y → (i : ℕ) (x : Item) → slice_get (y ∷ []) i ≡ Some x → New x
 one_new New y new zero x g = subst New (same_Some y x g) new

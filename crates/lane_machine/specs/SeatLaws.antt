@@ -280,7 +280,7 @@ sound_if_fit s0 h s n (Leave slot) k f = any_none (λ l. l == slot) s.left (λ i
   | inr x ↦ x
 ])
 
-append_found : {X : Type 0} (xs ys : List X) (i : ℕ) (x : X) → slice_get (xs ++ ys) i ≡ Some x → ((k : ℕ) × (slice_get xs k ≡ Some x)) ⊎ ((k : ℕ) × (slice_get ys k ≡ Some x))
+pub append_found : {X : Type 0} (xs ys : List X) (i : ℕ) (x : X) → slice_get (xs ++ ys) i ≡ Some x → ((k : ℕ) × (slice_get xs k ≡ Some x)) ⊎ ((k : ℕ) × (slice_get ys k ≡ Some x))
 append_found {X} [] ys i x g = inr (i, g)
 append_found {X} (z ∷ xs) ys zero x g = inl (0, g)
 append_found {X} (z ∷ xs) ys (suc i) x g = elim (append_found xs ys i x g) [ inl a ↦ inl (suc a.0, a.1) | inr a ↦ inr a ]

@@ -16,7 +16,7 @@ same_share z a b h = omega (arith, ints)
 bounds : (a b c : ℕ) → (nat_le a b && nat_le b c) ≡ true → (a ≤ b) × (b ≤ c)
 bounds a b c h = grind (arith, nat_tests)
 
-within : (a b c : ℕ) → a ≤ b → b ≤ c → (nat_le a b && nat_le b c) ≡ true
+pub within : (a b c : ℕ) → a ≤ b → b ≤ c → (nat_le a b && nat_le b c) ≡ true
 within a b c h k = grind (arith, nat_tests)
 
 -- what a priority with a native one is

@@ -1,6 +1,5 @@
 -- What linear maps keep.
-use Rattle.std.proofs.Common.{◌≡◌, ℕ, ℤ, ◌+◌, ◌-◌, ◌*◌, ◌/◌, ◌<◌, ◌≤◌, ◌&&◌, nat_le, Some, pos, ◌+ℤ◌, ◌-ℤ◌, ◌≤ℤ◌, unsigned_abs, arith, refl, ap, ◌∙◌, true}
-use Rattle.std.proofs.lemmas.Bool.Decides.{nat_tests}
+use Rattle.std.proofs.Common.{◌≡◌, ℕ, ℤ, ◌+◌, ◌-◌, ◌*◌, ◌/◌, ◌<◌, ◌≤◌, Some, pos, ◌+ℤ◌, ◌-ℤ◌, ◌≤ℤ◌, unsigned_abs, arith, refl, ap, ◌∙◌}
 use Rattle.std.proofs.lemmas.Int.{ints}
 use Rattle.std.proofs.lemmas.Nat.{le-div}
 use Rattle.std.proofs.Math.Nat.{mul-div_cancel, zero-div, zero-mul}
@@ -8,10 +7,7 @@ use Rattle.priority_maps.specs.Linear.{LinearMap, natives, corbas, share, identi
 use Rattle.priority_maps.specs.Maps.{linear}
 use Rattle.priority_maps.specs.Laws.{IsOrdered, KeepsOrder, KeepsEnds, IsIdentity}
 use Rattle.priority_maps.proofs.Shares.{share_below, share_rises}
-use Rattle.priority_maps.proofs.Natives.{native_of, native_within}
-
-within : (a b c : ℕ) → a ≤ b → b ≤ c → (nat_le a b && nat_le b c) ≡ true
-within a b c h k = grind (arith, nat_tests)
+use Rattle.priority_maps.proofs.Natives.{native_of, native_within, within}
 
 pub keeps_order : (m : LinearMap) → IsOrdered m → KeepsOrder m
 keeps_order m h = λ p q a b le hp hq.

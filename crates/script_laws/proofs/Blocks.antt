@@ -3,6 +3,7 @@ use Rattle.std.proofs.Common.{◌≡◌, ◌<◌, ◌≤◌, ◌^◌, ℕ, suc, 
 use Rattle.std.proofs.lemmas.Bool.{eqb-true, and_right}
 use Rattle.std.specs.Option.{option_map}
 use Rattle.std.specs.Str.{bytes_eq}
+use Rattle.std.proofs.lemmas.Option.{none-some, same_Some}
 use Rattle.cdr_values.specs.Trees.{Name, Kind, Value, truth, items, values_of, members_of}
 use Rattle.cdr_values.specs.Fitting.{is_of}
 use Rattle.idl_types.specs.declared.type_ref.TypeRef.{TypeRef}
@@ -14,7 +15,7 @@ use Rattle.servant_scripts.specs.Trees.{Scoped, Said, Fields, place_of, Say, say
 use Rattle.script_names.specs.declared.meaning.Meaning.{Meaning}
 use Rattle.script_names.specs.declared.meaning.Meaning.TheVariants as means
 use Rattle.script_values.specs.Trees as run
-use Rattle.script_values.specs.Trees.{Term, terms_of, Step, let_be, set, branch, leave, give, raise, Steps, no_steps, step, steps_of}
+use Rattle.script_values.specs.Trees.{Term, terms_of, Step, let_be, set, branch, leave, give, raise, Steps, steps_of}
 use Rattle.script_values.specs.Operations as of
 use Rattle.script_values.specs.Operations.{Comes}
 use Rattle.script_values.specs.Evaluation.{value_at, filled, fit_in, blanks_of}
@@ -34,7 +35,7 @@ use Rattle.script_laws.specs.Evaluation.{defined_value, defined_fill, defined_fi
 use Rattle.script_laws.specs.Running.{DefinedRun, then_stored, then_end, one_of, behind, then_run, defined_one, defined_run}
 use Rattle.script_laws.specs.Kinds.{HasKind, FitsDue, Stands}
 use Rattle.script_laws.proofs.Good.{Good, bind, weaken, itself}
-use Rattle.script_laws.proofs.Checks.{both, if_ok, or_ok, ok_is, some_is, none_is}
+use Rattle.script_laws.proofs.Checks.{both, if_ok, or_ok, ok_is}
 use Rattle.script_laws.proofs.Shapes.{is_truth, member_within, fits_kind}
 use Rattle.script_laws.proofs.Holes.{shown, set_shows, put_is, set_long, get_within, fit_good, Fits, built_good}
 use Rattle.script_laws.proofs.References.{field_ref}
@@ -83,23 +84,23 @@ stored_good Q os n v near h =
     (ap (λ (ws : List Value). Ok (next, ws)) (sym (set_shows os n v)), h)
 
 due_placed : (n : ℕ) (o : Option TypeRef) (v : ℕ × TypeRef) → option_map (λ (due : TypeRef). (n, due)) o ≡ Some v → (o ≡ Some v.1) × (n ≡ v.0)
-due_placed n (Some due) v h = let g : (n, due) ≡ v = some_is (n, due) v h in (ap (λ (x : ℕ × TypeRef). Some x.1) g, ap (λ (x : ℕ × TypeRef). x.0) g)
-due_placed n None v h = absurd (none_is v h)
+due_placed n (Some due) v h = let g : (n, due) ≡ v = same_Some (n, due) v h in (ap (λ (x : ℕ × TypeRef). Some x.1) g, ap (λ (x : ℕ × TypeRef). x.0) g)
+due_placed n None v h = absurd (none-some v h)
 
 settable_is : (at : At) (r : Found) (v : ℕ × TypeRef) → settable at r ≡ Ok v → (r.2 ≡ Some v.1) × (r.0 ≡ v.0)
 settable_is at r v e = due_placed r.0 r.2 v (or_ok cause.NotSettable at (option_map (λ (due : TypeRef). (r.0, due)) r.2) v e)
 
 exception_placed : (i : ℕ) (o : Option Thing) (e : ℕ × ExceptionView) → exception_in i o ≡ Some e → (i ≡ e.0) × (o ≡ Some (exception e.1))
-exception_placed i (Some (exception x)) e h = let g : (i, x) ≡ e = some_is (i, x) e h in (ap (λ (y : ℕ × ExceptionView). y.0) g, ap (λ (y : ℕ × ExceptionView). Some (exception y.1)) g)
-exception_placed i (Some (constant x)) e h = absurd (none_is e h)
-exception_placed i (Some (named x)) e h = absurd (none_is e h)
-exception_placed i (Some (interface x)) e h = absurd (none_is e h)
-exception_placed i None e h = absurd (none_is e h)
+exception_placed i (Some (exception x)) e h = let g : (i, x) ≡ e = same_Some (i, x) e h in (ap (λ (y : ℕ × ExceptionView). y.0) g, ap (λ (y : ℕ × ExceptionView). Some (exception y.1)) g)
+exception_placed i (Some (constant x)) e h = absurd (none-some e h)
+exception_placed i (Some (named x)) e h = absurd (none-some e h)
+exception_placed i (Some (interface x)) e h = absurd (none-some e h)
+exception_placed i None e h = absurd (none-some e h)
 
 exception_meant : (ts : List Thing) (m : Meaning) (e : ℕ × ExceptionView) → exception_of ts m ≡ Some e → slice_get ts e.0 ≡ Some (exception e.1)
 exception_meant ts (means.Thing i) e h = let g = exception_placed i (slice_get ts i) e h in ap (slice_get ts) (sym g.0) ∙ g.1
-exception_meant ts (means.Enumerator i n) e h = absurd (none_is e h)
-exception_meant ts means.Other e h = absurd (none_is e h)
+exception_meant ts (means.Enumerator i n) e h = absurd (none-some e h)
+exception_meant ts means.Other e h = absurd (none-some e h)
 
 exception_at : (s : Scene) (n : Scoped) (e : ℕ × ExceptionView) → exception_named s n ≡ Ok e → slice_get s.things e.0 ≡ Some (exception e.1)
 exception_at s n e h =

@@ -7,12 +7,6 @@ use Rattle.script_checks.specs.Scene.{Checks, ◌>>=◌, or_refused, if_holds}
 pub ok_is : {A : Type 0} (x y : A) → ◌≡◌ {A = Checks A} (Ok x) (Ok y) → x ≡ y
 ok_is x y e = cc
 
-pub some_is : {A : Type 0} (x y : A) → Some x ≡ Some y → x ≡ y
-some_is x y e = cc
-
-pub none_is : {A : Type 0} (x : A) → None ≡ Some x → ⊥
-none_is x e = cc
-
 -- both parts passed
 pub both : {A B : Type 0} (r : Checks A) (f : A → Checks B) (y : B) → (r >>= f) ≡ Ok y → (x : A) × (r ≡ Ok x) × (f x ≡ Ok y)
 both (Ok x) f y e = (x, refl, e)

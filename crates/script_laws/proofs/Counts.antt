@@ -6,6 +6,7 @@ use Rattle.std.proofs.Math.Nat.{le-max_left, le-max_right}
 use Rattle.std.specs.List.{list_all}
 use Rattle.std.specs.Str.{bytes_eq}
 use Rattle.std.specs.Option.{option_map}
+use Rattle.std.proofs.lemmas.Option.{none-some, same_Some}
 use Rattle.cdr_values.specs.Trees.{Name, Kind, scalar, words, sequence, array, structure, union, Members, no_members, member, members_of}
 use Rattle.cdr_values.specs.Lawful.{is_lawful, are_lawful, has_member, member_names, differ}
 use Rattle.idl_types.specs.declared.type_ref.Part.{Part}
@@ -18,7 +19,6 @@ use Rattle.idl_types.specs.Things.{Thing, constant, named, exception, interface,
 use Rattle.script_checks.specs.Built.{members_len}
 use Rattle.script_laws.specs.Kinds.{Every}
 use Rattle.script_laws.specs.Things.{steps_in}
-use Rattle.script_laws.proofs.Checks.{some_is, none_is}
 use Rattle.script_laws.proofs.Shapes.{every_at}
 use Rattle.script_laws.proofs.Snoc.{every_weaker}
 use Rattle.script_laws.proofs.References.{then_some, member_of_list}
@@ -59,8 +59,8 @@ steps_deep (structure name ms) = omega arith
 steps_deep (union name d cs) = omega arith
 
 member_deep : (ms : Members) (i : ℕ) (k : Kind) → member_kind i ms ≡ Some k → levels_of k ≤ levels_of_members ms
-member_deep no_members i k e = absurd (none_is k e)
-member_deep (member name d ms) zero k e = subst (λ (j : Kind). levels_of j ≤ max (levels_of d) (levels_of_members ms)) (some_is d k e) (le-max_left (levels_of d) (levels_of_members ms))
+member_deep no_members i k e = absurd (none-some k e)
+member_deep (member name d ms) zero k e = subst (λ (j : Kind). levels_of j ≤ max (levels_of d) (levels_of_members ms)) (same_Some d k e) (le-max_left (levels_of d) (levels_of_members ms))
 member_deep (member name d ms) (suc i) k e = let h = member_deep ms i k e in let g : levels_of_members ms ≤ max (levels_of d) (levels_of_members ms) = le-max_right (levels_of d) (levels_of_members ms) in omega (arith, h, g)
 
 -- ---- sound types
@@ -141,10 +141,10 @@ count_sum f (x ∷ xs) h =
     omega (arith, a, b, c)
 
 one_sum : {A : Type 0} (f : A → ℕ) (xs : List A) (i : ℕ) (x : A) → slice_get xs i ≡ Some x → f x ≤ sum_by f xs
-one_sum f [] i x e = absurd (none_is x e)
+one_sum f [] i x e = absurd (none-some x e)
 one_sum f (y ∷ ys) zero x e =
     let c = sum_by-cons f y ys in
-    let d : f y ≡ f x = ap f (some_is y x e) in
+    let d : f y ≡ f x = ap f (same_Some y x e) in
     omega (arith, c, d)
 one_sum f (y ∷ ys) (suc i) x e =
     let c = sum_by-cons f y ys in
@@ -169,15 +169,15 @@ params_few x o op e l at =
 -- ---- how deep its types are
 
 option_some : {A B : Type 0} (f : A → B) (o : Option A) (y : B) → option_map f o ≡ Some y → (x : A) × (o ≡ Some x) × (f x ≡ y)
-option_some f (Some x) y e = (x, refl, some_is (f x) y e)
-option_some f None y e = absurd (none_is y e)
+option_some f (Some x) y e = (x, refl, same_Some (f x) y e)
+option_some f None y e = absurd (none-some y e)
 
 type_near : (k : Kind) → is_sound_type k ≡ true → steps_in k < 2 ^ 32
 type_near k e = let a = steps_deep k in let b = (sound_type k e).levels in omega (arith, a, b)
 
 result_near : (r : Option Kind) (k : Kind) → is_sound_result r ≡ true → r ≡ Some k → steps_in k < 2 ^ 32
-result_near None k e h = absurd (none_is k h)
-result_near (Some d) k e h = subst (λ (j : Kind). steps_in j < 2 ^ 32) (some_is d k h) (type_near d e)
+result_near None k e h = absurd (none-some k h)
+result_near (Some d) k e h = subst (λ (j : Kind). steps_in j < 2 ^ 32) (same_Some d k h) (type_near d e)
 
 struct_near : (d k : Kind) (i : ℕ) → is_sound_type d ≡ true → member_kind i (members_in d) ≡ Some k → steps_in k < 2 ^ 32
 struct_near (structure name ms) k i e h =
@@ -185,34 +185,34 @@ struct_near (structure name ms) k i e h =
     let b = member_deep ms i k h in
     let c = (sound_type (structure name ms) e).levels in
     omega (arith, a, b, c)
-struct_near (scalar s) k i e h = absurd (none_is k h)
-struct_near (words n) k i e h = absurd (none_is k h)
-struct_near (sequence j n) k i e h = absurd (none_is k h)
-struct_near (array j n) k i e h = absurd (none_is k h)
-struct_near (union name d cs) k i e h = absurd (none_is k h)
+struct_near (scalar s) k i e h = absurd (none-some k h)
+struct_near (words n) k i e h = absurd (none-some k h)
+struct_near (sequence j n) k i e h = absurd (none-some k h)
+struct_near (array j n) k i e h = absurd (none-some k h)
+struct_near (union name d cs) k i e h = absurd (none-some k h)
 
 pub part_near : (r : Part) (t : Thing) (k : Kind) → is_sound_thing t ≡ true → part_kind r t ≡ Some k → steps_in k < 2 ^ 32
-part_near part.Whole (constant c) k e h = subst (λ (j : Kind). steps_in j < 2 ^ 32) (some_is c.kind k h) (type_near c.kind e)
-part_near part.Whole (named t) k e h = subst (λ (j : Kind). steps_in j < 2 ^ 32) (some_is t.kind k h) (type_near t.kind e)
-part_near part.Whole (exception x) k e h = absurd (none_is k h)
-part_near part.Whole (interface x) k e h = absurd (none_is k h)
-part_near (part.Member i) (constant c) k e h = absurd (none_is k h)
+part_near part.Whole (constant c) k e h = subst (λ (j : Kind). steps_in j < 2 ^ 32) (same_Some c.kind k h) (type_near c.kind e)
+part_near part.Whole (named t) k e h = subst (λ (j : Kind). steps_in j < 2 ^ 32) (same_Some t.kind k h) (type_near t.kind e)
+part_near part.Whole (exception x) k e h = absurd (none-some k h)
+part_near part.Whole (interface x) k e h = absurd (none-some k h)
+part_near (part.Member i) (constant c) k e h = absurd (none-some k h)
 part_near (part.Member i) (named t) k e h = struct_near t.kind k i e h
 part_near (part.Member i) (exception x) k e h =
     let a = steps_deep k in
     let b = member_deep (members_of x.members) i k (member_of_list x.members i ∙ h) in
     let c = (sound_members x.members e).levels in
     omega (arith, a, b, c)
-part_near (part.Member i) (interface x) k e h = absurd (none_is k h)
-part_near (part.Outcome o) (constant c) k e h = absurd (none_is k h)
-part_near (part.Outcome o) (named t) k e h = absurd (none_is k h)
-part_near (part.Outcome o) (exception x) k e h = absurd (none_is k h)
+part_near (part.Member i) (interface x) k e h = absurd (none-some k h)
+part_near (part.Outcome o) (constant c) k e h = absurd (none-some k h)
+part_near (part.Outcome o) (named t) k e h = absurd (none-some k h)
+part_near (part.Outcome o) (exception x) k e h = absurd (none-some k h)
 part_near (part.Outcome o) (interface x) k e h =
     let a = then_some (λ (op : OperationView). op.result) (slice_get x.operations o) k h in
     result_near a.0.result k (sound_operation x o a.0 e a.1).result a.2
-part_near (part.Parameter o p) (constant c) k e h = absurd (none_is k h)
-part_near (part.Parameter o p) (named t) k e h = absurd (none_is k h)
-part_near (part.Parameter o p) (exception x) k e h = absurd (none_is k h)
+part_near (part.Parameter o p) (constant c) k e h = absurd (none-some k h)
+part_near (part.Parameter o p) (named t) k e h = absurd (none-some k h)
+part_near (part.Parameter o p) (exception x) k e h = absurd (none-some k h)
 part_near (part.Parameter o p) (interface x) k e h =
     let a = then_some (λ (op : OperationView). option_map (λ (q : ParamView). q.kind) (slice_get op.params p)) (slice_get x.operations o) k h in
     let b = option_some (λ (q : ParamView). q.kind) (slice_get a.0.params p) k a.2 in

@@ -2,6 +2,7 @@
 use Rattle.std.proofs.Common.{◌≡◌, ◌<◌, ◌≤◌, ◌^◌, ℕ, pos, suc, ◌==◌, Bool, true, false, cond, List, [], ◌∷◌, ◌++◌, length, Option, Some, None, Result, Ok, Err, refl, sym, ap, ◌∙◌, subst, slice_get, arith}
 use Rattle.std.proofs.lemmas.Bool.{eqb-true}
 use Rattle.std.specs.Option.{option_map}
+use Rattle.std.proofs.lemmas.Option.{none-some, same_Some}
 use Rattle.cdr_values.specs.Trees.{Kind, scalar, words, sequence, array, structure, union, Members, Value, truth, number, text, label}
 use Rattle.cdr_values.specs.Fitting.{is_of}
 use Rattle.idl_types.specs.declared.type_ref.TypeRef.{TypeRef}
@@ -33,7 +34,7 @@ use Rattle.script_laws.specs.Evaluation.{defined_value, defined_fill}
 use Rattle.script_laws.specs.Kinds.{Every, HasKind, Stands}
 use Rattle.script_laws.specs.Things.{IsSound}
 use Rattle.script_laws.proofs.Good.{Good, bind, weaken, itself}
-use Rattle.script_laws.proofs.Checks.{both, if_ok, or_ok, ok_is, some_is, none_is}
+use Rattle.script_laws.proofs.Checks.{both, if_ok, or_ok, ok_is}
 use Rattle.script_laws.proofs.Shapes.{every_from, list_is, struct_is, found_member, member_within, fits_kind, members_all}
 use Rattle.script_laws.proofs.Operands.{Gives, unary_good, member_good, binary_good}
 use Rattle.script_laws.proofs.Holes.{shown, got_shows, get_within, PartOk, Distinct, built_good}
@@ -60,35 +61,35 @@ pub means_enum : (s : Scene) → Ground s → (n : Scoped) (m : Meaning) → mea
 means_enum s g n m e = meant_all (IsEnum s.things) s.known (λ id o h. known_enum s.things id o (ap (λ k. k.meaning id) (sym g.names) ∙ h)) s.interface n m (meant_ok s n m e)
 
 constant_is : (o : Option Thing) (x : Typed) → constant_in o ≡ Some x → (c : ConstantView) × (o ≡ Some (constant c)) × ((literal c.value, c.kind) ≡ x)
-constant_is (Some (constant c)) x e = (c, refl, some_is (literal c.value, c.kind) x e)
-constant_is (Some (named t)) x e = absurd (none_is x e)
-constant_is (Some (exception t)) x e = absurd (none_is x e)
-constant_is (Some (interface t)) x e = absurd (none_is x e)
-constant_is None x e = absurd (none_is x e)
+constant_is (Some (constant c)) x e = (c, refl, same_Some (literal c.value, c.kind) x e)
+constant_is (Some (named t)) x e = absurd (none-some x e)
+constant_is (Some (exception t)) x e = absurd (none-some x e)
+constant_is (Some (interface t)) x e = absurd (none-some x e)
+constant_is None x e = absurd (none-some x e)
 
 pub struct_same : (d k : Kind) → as_struct d ≡ Some k → d ≡ k
-struct_same (structure name ms) k e = some_is (structure name ms) k e
-struct_same (scalar s) k e = absurd (none_is k e)
-struct_same (words n) k e = absurd (none_is k e)
-struct_same (sequence j n) k e = absurd (none_is k e)
-struct_same (array j n) k e = absurd (none_is k e)
-struct_same (union name d cs) k e = absurd (none_is k e)
+struct_same (structure name ms) k e = same_Some (structure name ms) k e
+struct_same (scalar s) k e = absurd (none-some k e)
+struct_same (words n) k e = absurd (none-some k e)
+struct_same (sequence j n) k e = absurd (none-some k e)
+struct_same (array j n) k e = absurd (none-some k e)
+struct_same (union name d cs) k e = absurd (none-some k e)
 
 struct_placed : (i : ℕ) (d : Kind) (o : Option Kind) (k : ℕ × Kind) → option_map (λ (j : Kind). (i, j)) o ≡ Some k → (i ≡ k.0) × (o ≡ Some k.1)
-struct_placed i d (Some j) k e = let h : (i, j) ≡ k = some_is (i, j) k e in (ap (λ (x : ℕ × Kind). x.0) h, ap (λ (x : ℕ × Kind). Some x.1) h)
-struct_placed i d None k e = absurd (none_is k e)
+struct_placed i d (Some j) k e = let h : (i, j) ≡ k = same_Some (i, j) k e in (ap (λ (x : ℕ × Kind). x.0) h, ap (λ (x : ℕ × Kind). Some x.1) h)
+struct_placed i d None k e = absurd (none-some k e)
 
 struct_in_is : (i : ℕ) (o : Option Thing) (k : ℕ × Kind) → struct_in i o ≡ Some k → (t : TypeView) × (o ≡ Some (named t)) × (i ≡ k.0) × (as_struct t.kind ≡ Some k.1)
 struct_in_is i (Some (named t)) k e = let h = struct_placed i t.kind (as_struct t.kind) k e in (t, refl, h.0, h.1)
-struct_in_is i (Some (constant t)) k e = absurd (none_is k e)
-struct_in_is i (Some (exception t)) k e = absurd (none_is k e)
-struct_in_is i (Some (interface t)) k e = absurd (none_is k e)
-struct_in_is i None k e = absurd (none_is k e)
+struct_in_is i (Some (constant t)) k e = absurd (none-some k e)
+struct_in_is i (Some (exception t)) k e = absurd (none-some k e)
+struct_in_is i (Some (interface t)) k e = absurd (none-some k e)
+struct_in_is i None k e = absurd (none-some k e)
 
 struct_of_is : (ts : List Thing) (m : Meaning) (k : ℕ × Kind) → struct_of ts m ≡ Some k → (t : TypeView) × (slice_get ts k.0 ≡ Some (named t)) × (as_struct t.kind ≡ Some k.1)
 struct_of_is ts (means.Thing i) k e = let h = struct_in_is i (slice_get ts i) k e in (h.0, ap (slice_get ts) (sym h.2) ∙ h.1, h.3)
-struct_of_is ts (means.Enumerator i n) k e = absurd (none_is k e)
-struct_of_is ts means.Other k e = absurd (none_is k e)
+struct_of_is ts (means.Enumerator i n) k e = absurd (none-some k e)
+struct_of_is ts means.Other k e = absurd (none-some k e)
 
 -- a name of a struct is that of a type
 pub struct_at : (s : Scene) (n : Scoped) (k : ℕ × Kind) → struct_named s n ≡ Ok k → (t : TypeView) × (slice_get s.things k.0 ≡ Some (named t)) × (as_struct t.kind ≡ Some k.1)
@@ -144,17 +145,17 @@ module _ (s : Scene) (g : Ground s) (p : ℕ) (vs : List Var) (os : List (Option
       subst Sound c.2 (literal_good c.0.value c.0.kind (g.sound.constants i c.0 c.1))
   meaning_good (means.Enumerator i n) x h e =
       let enum : enum_in (slice_get s.things i) ≡ Some h.0.kind = ap enum_in h.3 in
-      let is : (literal (label (short n)), h.0.kind) ≡ x = some_is (literal (label (short n)), h.0.kind) x (ap (option_map (λ (k : Kind). (literal (label (short n)), k))) (sym enum) ∙ e) in
+      let is : (literal (label (short n)), h.0.kind) ≡ x = same_Some (literal (label (short n)), h.0.kind) x (ap (option_map (λ (k : Kind). (literal (label (short n)), k))) (sym enum) ∙ e) in
       subst Sound is (literal_good (label (short n)) h.0.kind (subst (λ (k : Kind). HasKind k (label (short n))) (sym h.4) (short n, refl)))
-  meaning_good means.Other x h e = absurd (none_is x e)
+  meaning_good means.Other x h e = absurd (none-some x e)
 
   variable_is : (rooted : Bool) (parts : List Part) (r : Found) → variable_of vs rooted parts ≡ Some r → (q : Part) × (find_var 0 vs q.name ≡ Some r)
   variable_is false (q ∷ []) r e = (q, e)
-  variable_is false [] r e = absurd (none_is r e)
-  variable_is false (q ∷ q2 ∷ parts) r e = absurd (none_is r e)
-  variable_is true [] r e = absurd (none_is r e)
-  variable_is true (q ∷ []) r e = absurd (none_is r e)
-  variable_is true (q ∷ q2 ∷ parts) r e = absurd (none_is r e)
+  variable_is false [] r e = absurd (none-some r e)
+  variable_is false (q ∷ q2 ∷ parts) r e = absurd (none-some r e)
+  variable_is true [] r e = absurd (none-some r e)
+  variable_is true (q ∷ []) r e = absurd (none-some r e)
+  variable_is true (q ∷ q2 ∷ parts) r e = absurd (none-some r e)
 
   slot_good : (r : Found) (q : Part) → find_var 0 vs q.name ≡ Some r → Sound (slot r.0, r.1)
   unfolding defined_value value_at
@@ -251,7 +252,7 @@ module _ (s : Scene) (g : Ground s) (p : ℕ) (vs : List Var) (os : List (Option
         let sound : Sound (build (terms_of u.0), q.0.1) =
         built_good (λ (i : ℕ). Some due.1) (HasKind q.0.1) p os u.0 parts.0 parts.1 parts.2
         (λ ws long fits. list_is q.0.1 due.1 ws due.2 (every_from (HasKind due.1) ws (λ m v is. let f = fits m v is in
-        fits_kind v due.1 (subst (λ (d : Kind). is_of v d ≡ true) (sym (some_is due.1 f.0 f.1)) f.2)))) in
+        fits_kind v due.1 (subst (λ (d : Kind). is_of v d ≡ true) (sym (same_Some due.1 f.0 f.1)) f.2)))) in
         subst Sound c.1 sound
 
     pub of_kind_good : (k : Kind) (e : Said) (t : Term) → of_kind s vs k e ≡ Ok t → (d : Kind) × (same_kind k d ≡ true) × Gives d (defined_value p os t) (value_at p (shown os) t)

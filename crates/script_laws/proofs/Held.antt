@@ -5,6 +5,7 @@ use Rattle.std.specs.List.{list_any, position_or_len}
 use Rattle.std.specs.Str.{str_eq_ignore_ascii_case, str_to_ascii_lowercase}
 use Rattle.std.proofs.lemmas.Bool.{and_parts, le-ltb, both_ways, false_from_ne_true}
 use Rattle.std.proofs.lemmas.Slice.Eq.{bytes_eq-Decides}
+use Rattle.std.proofs.lemmas.Option.{none-some, same_Some}
 use Rattle.cdr_values.specs.Trees.{Name}
 use Rattle.idl_types.specs.BuiltIn as built
 use Rattle.idl_types.specs.BuiltIn.{with_ping}
@@ -18,7 +19,6 @@ use Rattle.dynamic_servants.specs.Served.{served_by}
 use Rattle.script_laws.specs.Things.{IsSound}
 use Rattle.script_laws.specs.Held.{AreDeclared, ArePlain, has_labels}
 use Rattle.script_laws.specs.Laws.{HaveZeros, HasBuiltIn, ScriptsAreDefined}
-use Rattle.script_laws.proofs.Checks.{some_is, none_is}
 use Rattle.script_laws.proofs.Shapes.{every_at}
 use Rattle.script_laws.proofs.Sent.{position_is}
 use Rattle.script_laws.proofs.Zeros.{zero_fits}
@@ -28,7 +28,7 @@ use Rattle.script_laws.proofs.Served.{interface_is, served_defined}
 -- ---- lists
 
 get_front : {A : Type 0} (xs ys : List A) (j : ℕ) (x : A) → slice_get xs j ≡ Some x → slice_get (xs ++ ys) j ≡ Some x
-get_front [] ys j x e = absurd (none_is x e)
+get_front [] ys j x e = absurd (none-some x e)
 get_front (y ∷ xs) ys zero x e = e
 get_front (y ∷ xs) ys (suc j) x e = get_front xs ys j x e
 
@@ -38,8 +38,8 @@ get_last (y ∷ xs) x = get_last xs x
 
 -- what stands in a list with one more is in the list, or that one
 either_at : {A : Type 0} (xs : List A) (y : A) (i : ℕ) (x : A) → slice_get (xs ++ y ∷ []) i ≡ Some x → (slice_get xs i ≡ Some x) ⊎ (y ≡ x)
-either_at [] y zero x e = inr (some_is y x e)
-either_at [] y (suc i) x e = absurd (none_is x e)
+either_at [] y zero x e = inr (same_Some y x e)
+either_at [] y (suc i) x e = absurd (none-some x e)
 either_at (z ∷ xs) y zero x e = inl e
 either_at (z ∷ xs) y (suc i) x e = either_at xs y i x e
 
@@ -52,8 +52,8 @@ unreserved true e = absurd cc
 unreserved false e = refl
 
 any_false : {A : Type 0} (p : A → Bool) (xs : List A) (j : ℕ) (x : A) → not (list_any p xs) ≡ true → slice_get xs j ≡ Some x → p x ≡ false
-any_false p [] j x e at = absurd (none_is x at)
-any_false p (y ∷ xs) zero x e at = subst (λ z. p z ≡ false) (some_is y x at) (neither (p y) (list_any p xs) e).0
+any_false p [] j x e at = absurd (none-some x at)
+any_false p (y ∷ xs) zero x e at = subst (λ z. p z ≡ false) (same_Some y x at) (neither (p y) (list_any p xs) e).0
 any_false p (y ∷ xs) (suc j) x e at = any_false p xs j x (neither (p y) (list_any p xs) e).1 at
 
 found_first : {A : Type 0} (b : Bool) (y x : A) (o u : Option A) → (o ≡ Some x → u ≡ Some x) → cond b (Some y) o ≡ Some x → cond b (Some y) u ≡ Some x
@@ -61,11 +61,11 @@ found_first true y x o u f e = e
 found_first false y x o u f e = f e
 
 find_front : {A : Type 0} (p : A → Bool) (xs ys : List A) (x : A) → find p xs ≡ Some x → find p (xs ++ ys) ≡ Some x
-find_front p [] ys x e = absurd (none_is x e)
+find_front p [] ys x e = absurd (none-some x e)
 find_front p (y ∷ xs) ys x e = found_first (p y) y x (find p xs) (find p (xs ++ ys)) (find_front p xs ys x) e
 
 not_first : {A : Type 0} (b : Bool) (y : A) (o u w : Option A) → (o ≡ None → u ≡ w) → cond b (Some y) o ≡ None → cond b (Some y) u ≡ w
-not_first true y o u w f e = absurd (none_is y (sym e))
+not_first true y o u w f e = absurd (none-some y (sym e))
 not_first false y o u w f e = f e
 
 find_behind : {A : Type 0} (p : A → Bool) (xs ys : List A) → find p xs ≡ None → find p (xs ++ ys) ≡ find p ys
@@ -88,8 +88,8 @@ taken b t e =
     (free, f.new, (f.sound, omega (arith, l, c)))
 
 declared_at : (b us : List Thing) (i : ℕ) (t : Thing) → AreDeclared b us → slice_get us i ≡ Some t → (is_reserved (id_of t) ≡ false) × Took t
-declared_at b [] i t d e = absurd (none_is t e)
-declared_at b (u ∷ us) zero t d e = subst (λ (x : Thing). (is_reserved (id_of x) ≡ false) × Took x) (some_is u t e) (let h = taken b u d.0 in (h.0, h.2))
+declared_at b [] i t d e = absurd (none-some t e)
+declared_at b (u ∷ us) zero t d e = subst (λ (x : Thing). (is_reserved (id_of x) ≡ false) × Took x) (same_Some u t e) (let h = taken b u d.0 in (h.0, h.2))
 declared_at b (u ∷ us) (suc i) t d e = declared_at (b ++ u ∷ []) us i t d.1 e
 
 -- no thing before it has its id
@@ -100,17 +100,17 @@ other_id x y e = false_from_ne_true (bytes_eq x y) (λ same.
     both_ways (str_eq_ignore_ascii_case x y) e alike)
 
 new_at : (b us : List Thing) (i : ℕ) (t : Thing) (j : ℕ) (u : Thing) → AreDeclared b us → slice_get us i ≡ Some t → slice_get b j ≡ Some u → has_id (id_of t) u ≡ false
-new_at b [] i t j u d e at = absurd (none_is t e)
+new_at b [] i t j u d e at = absurd (none-some t e)
 new_at b (v ∷ us) zero t j u d e at =
-    subst (λ (x : Thing). has_id (id_of x) u ≡ false) (some_is v t e) (other_id (id_of v) (id_of u) (any_false (λ (w : Thing). str_eq_ignore_ascii_case (id_of v) (id_of w)) b j u (taken b v d.0).1 at))
+    subst (λ (x : Thing). has_id (id_of x) u ≡ false) (same_Some v t e) (other_id (id_of v) (id_of u) (any_false (λ (w : Thing). str_eq_ignore_ascii_case (id_of v) (id_of w)) b j u (taken b v d.0).1 at))
 new_at b (v ∷ us) (suc i) t j u d e at = new_at (b ++ v ∷ []) us i t j u d.1 e (get_front b (v ∷ []) j u at)
 
 -- so the first thing of its id is the thing itself
 found_itself : (b us : List Thing) (i : ℕ) (t : Thing) → AreDeclared b us → slice_get us i ≡ Some t → find (has_id (id_of t)) us ≡ Some t
-found_itself b [] i t d e = absurd (none_is t e)
+found_itself b [] i t d e = absurd (none-some t e)
 found_itself b (u ∷ us) zero t d e =
     let h : has_id (id_of u) u ≡ true = (bytes_eq-Decides (id_of u) (id_of u)).1 refl in
-    subst (λ (x : Thing). find (has_id (id_of x)) (u ∷ us) ≡ Some x) (some_is u t e) (ap (λ (r : Bool). cond r (Some u) (find (has_id (id_of u)) us)) h)
+    subst (λ (x : Thing). find (has_id (id_of x)) (u ∷ us) ≡ Some x) (same_Some u t e) (ap (λ (r : Bool). cond r (Some u) (find (has_id (id_of u)) us)) h)
 found_itself b (u ∷ us) (suc i) t d e =
     let h : has_id (id_of t) u ≡ false = new_at (b ++ u ∷ []) us i t (length b) u d.1 e (get_last b u) in
     ap (λ (r : Bool). cond r (Some u) (find (has_id (id_of t)) us)) h ∙ found_itself (b ++ u ∷ []) us i t d.1 e
@@ -141,20 +141,20 @@ abbrev ping_view : InterfaceView
 ping_view = record { id = ping_id; bases = []; operations = built.operations }
 
 few_raised : (o : ℕ) (op : OperationView) → slice_get built.operations o ≡ Some op → length op.raises ≤ 2 ^ 32
-few_raised zero op e = subst (λ (q : OperationView). length q.raises ≤ 2 ^ 32) (some_is built.current op e) (omega arith)
-few_raised (suc zero) op e = subst (λ (q : OperationView). length q.raises ≤ 2 ^ 32) (some_is built.echo op e) (omega arith)
-few_raised (suc (suc zero)) op e = subst (λ (q : OperationView). length q.raises ≤ 2 ^ 32) (some_is built.note op e) (omega arith)
-few_raised (suc (suc (suc o))) op e = absurd (none_is op e)
+few_raised zero op e = subst (λ (q : OperationView). length q.raises ≤ 2 ^ 32) (same_Some built.current op e) (omega arith)
+few_raised (suc zero) op e = subst (λ (q : OperationView). length q.raises ≤ 2 ^ 32) (same_Some built.echo op e) (omega arith)
+few_raised (suc (suc zero)) op e = subst (λ (q : OperationView). length q.raises ≤ 2 ^ 32) (same_Some built.note op e) (omega arith)
+few_raised (suc (suc (suc o))) op e = absurd (none-some op e)
 
 one_labelled : (j : ℕ) (p : ParamView) → slice_get (built.text_param ∷ []) j ≡ Some p → has_labels p.kind ≡ true
-one_labelled zero p e = subst (λ (q : ParamView). has_labels q.kind ≡ true) (some_is built.text_param p e) refl
-one_labelled (suc j) p e = absurd (none_is p e)
+one_labelled zero p e = subst (λ (q : ParamView). has_labels q.kind ≡ true) (same_Some built.text_param p e) refl
+one_labelled (suc j) p e = absurd (none-some p e)
 
 labels_told : (o : ℕ) (op : OperationView) (j : ℕ) (p : ParamView) → slice_get built.operations o ≡ Some op → slice_get op.params j ≡ Some p → has_labels p.kind ≡ true
-labels_told zero op j p e at = absurd (none_is p (ap (λ (q : OperationView). slice_get q.params j) (some_is built.current op e) ∙ at))
-labels_told (suc zero) op j p e at = one_labelled j p (ap (λ (q : OperationView). slice_get q.params j) (some_is built.echo op e) ∙ at)
-labels_told (suc (suc zero)) op j p e at = absurd (none_is p (ap (λ (q : OperationView). slice_get q.params j) (some_is built.note op e) ∙ at))
-labels_told (suc (suc (suc o))) op j p e at = absurd (none_is op e)
+labels_told zero op j p e at = absurd (none-some p (ap (λ (q : OperationView). slice_get q.params j) (same_Some built.current op e) ∙ at))
+labels_told (suc zero) op j p e at = one_labelled j p (ap (λ (q : OperationView). slice_get q.params j) (same_Some built.echo op e) ∙ at)
+labels_told (suc (suc zero)) op j p e at = absurd (none-some p (ap (λ (q : OperationView). slice_get q.params j) (same_Some built.note op e) ∙ at))
+labels_told (suc (suc (suc o))) op j p e at = absurd (none-some op e)
 
 module _ (ts : List Thing) (d : AreDeclared [] ts) (plain : ArePlain ts) where
   whole : with_ping ts ≡ ts ++ built.ping ∷ []

@@ -2,21 +2,22 @@
 use Rattle.std.proofs.Common.{◌≡◌, ◌<◌, ℕ, zero, suc, ◌==◌, Bool, true, false, cond, eqb, ltb, List, [], ◌∷◌, map, length, replicate, Option, Some, None, Ok, Err, refl, sym, ap, ◌∙◌, subst, slice_get, slice_set, arith}
 use Rattle.std.proofs.lemmas.Bool.{eqb-true, eqb-false, lt-ltb}
 use Rattle.std.specs.Option.{option_map}
+use Rattle.std.proofs.lemmas.Option.{none-some, same_Some}
 use Rattle.cdr_values.specs.Trees.{Kind, Value, items, values_of}
 use Rattle.cdr_values.specs.Fitting.{is_of}
 use Rattle.script_values.specs.declared.limit.Limit.TheVariants.{Misfit, TooLarge}
 use Rattle.script_values.specs.Trees as run
-use Rattle.script_values.specs.Trees.{Term, Terms, no_terms, term, terms_of}
+use Rattle.script_values.specs.Trees.{terms_of}
 use Rattle.script_values.specs.Operations.{Comes, ◌>>=◌, or_blank, blank, member_at}
 use Rattle.script_values.specs.Evaluation as values
-use Rattle.script_values.specs.Evaluation.{value_at, filled, fit_in, fitted, fits_in, blanks_of, terms_len}
+use Rattle.script_values.specs.Evaluation.{value_at, filled, fit_in, fitted, blanks_of, terms_len}
 use Rattle.script_values.specs.Leaves.{leaves, sized}
 use Rattle.script_checks.specs.Built.{is_given}
 use Rattle.script_laws.specs.Defined.{Defined, ◌and_then◌, there, got, put, all_put}
 use Rattle.script_laws.specs.Evaluation.{defined_value, defined_fill, defined_fit, holes_of, whole, then_put}
 use Rattle.script_laws.specs.Kinds.{Every}
 use Rattle.script_laws.proofs.Good.{Good, bind, itself}
-use Rattle.script_laws.proofs.Checks.{some_is, none_is, both_false}
+use Rattle.script_laws.proofs.Checks.{both_false}
 
 -- what the places hold, with what stands for no value
 abbrev pub shown : List (Option Value) → List Value
@@ -33,9 +34,9 @@ somes = map (λ v. Some v)
 -- ---- one place
 
 pub got_shows : (os : List (Option Value)) (n : ℕ) (v : Value) → got os n ≡ Some v → member_at (shown os) n ≡ v
-got_shows [] n v e = absurd (none_is v e)
-got_shows (None ∷ os) zero v e = absurd (none_is v e)
-got_shows (Some w ∷ os) zero v e = some_is w v e
+got_shows [] n v e = absurd (none-some v e)
+got_shows (None ∷ os) zero v e = absurd (none-some v e)
+got_shows (Some w ∷ os) zero v e = same_Some w v e
 got_shows (o ∷ os) (suc n) v e = got_shows os n v e
 
 pub set_shows : (os : List (Option Value)) (n : ℕ) (v : Value) → shown (slice_set os n (Some v)) ≡ slice_set (shown os) n v
@@ -47,7 +48,7 @@ pub put_is : (os : List (Option Value)) (n : ℕ) (v : Value) → n < length os 
 put_is os n v h = ap (λ (b : Bool). cond b (Some (slice_set os n (Some v))) None) (lt-ltb n (length os) h)
 
 pub get_within : {A : Type 0} (xs : List A) (n : ℕ) (x : A) → slice_get xs n ≡ Some x → n < length xs
-get_within [] n x e = absurd (none_is x e)
+get_within [] n x e = absurd (none-some x e)
 get_within (y ∷ ys) zero x e = omega arith
 get_within (y ∷ ys) (suc n) x e = let h = get_within ys n x e in omega (arith, h)
 
@@ -76,9 +77,9 @@ empties (None ∷ os) = suc (empties os)
 empties (Some v ∷ os) = empties os
 
 one_less : (os : List (Option Value)) (n : ℕ) (v : Value) → slice_get os n ≡ Some None → suc (empties (slice_set os n (Some v))) ≡ empties os
-one_less [] n v e = absurd (none_is None e)
+one_less [] n v e = absurd (none-some None e)
 one_less (None ∷ os) zero v e = refl
-one_less (Some w ∷ os) zero v e = absurd (none_is w (sym (some_is (Some w) None e)))
+one_less (Some w ∷ os) zero v e = absurd (none-some w (sym (same_Some (Some w) None e)))
 one_less (None ∷ os) (suc n) v e = ap suc (one_less os n v e)
 one_less (Some w ∷ os) (suc n) v e = one_less os n v e
 
@@ -92,8 +93,8 @@ empty_at (suc n) zero h = refl
 empty_at (suc n) (suc m) h = empty_at n m (omega (arith, h))
 
 empty_only : (n m : ℕ) (v : Value) → slice_get (replicate n None) m ≡ Some (Some v) → ⊥
-empty_only zero m v e = none_is (Some v) e
-empty_only (suc n) zero v e = none_is v (some_is None (Some v) e)
+empty_only zero m v e = none-some (Some v) e
+empty_only (suc n) zero v e = none-some v (same_Some None (Some v) e)
 empty_only (suc n) (suc m) v e = empty_only n m v e
 
 pub blanks_shown : (n : ℕ) → shown (replicate n None) ≡ replicate n blank
@@ -118,7 +119,7 @@ shown_is [] = refl
 shown_is (v ∷ vs) = ap (λ (ws : List Value). v ∷ ws) (shown_is vs)
 
 pub some_at : (vs : List Value) (m : ℕ) (v : Value) → slice_get vs m ≡ Some v → slice_get (somes vs) m ≡ Some (Some v)
-some_at [] m v e = absurd (none_is v e)
+some_at [] m v e = absurd (none-some v e)
 some_at (w ∷ vs) zero v e = ap Some e
 some_at (w ∷ vs) (suc m) v e = some_at vs m v e
 
@@ -137,7 +138,7 @@ fit_set : (kinds : ℕ → Option Kind) (os : List (Option Value)) (n : ℕ) (v 
 fit_set kinds os n v k near fit at is m w true e h =
     let same : m ≡ n = eqb-true m n e in
     let here : Some (Some v) ≡ Some (Some w) = sym (get_set_same os n (Some v) near) ∙ ap (slice_get (slice_set os n (Some v))) (sym same) ∙ h in
-    let value : v ≡ w = some_is v w (some_is (Some v) (Some w) here) in
+    let value : v ≡ w = same_Some v w (same_Some (Some v) (Some w) here) in
     (k, ap kinds same ∙ at, subst (λ (u : Value). is_of u k ≡ true) value is)
 fit_set kinds os n v k near fit at is m w false e h = fit m w (sym (get_set_other os m n (Some v) (eqb-false m n e)) ∙ h)
 

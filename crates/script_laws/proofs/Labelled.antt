@@ -6,7 +6,7 @@ use Rattle.grammar.specs.Language.{Placed}
 use Rattle.grammar.specs.Grammar.{SpelledInner}
 use Rattle.grammar.proofs.Basics.{ok_is}
 use Rattle.cdr_values.specs.Trees as trees
-use Rattle.cdr_values.specs.Trees.{structure, union, scalar, enumeration, members_of, cases_of, Branch}
+use Rattle.cdr_values.specs.Trees.{scalar, enumeration, members_of, cases_of, Branch}
 use Rattle.idl_tokens.specs.declared.kind.Kind.{Kind}
 use Rattle.idl_grammar.specs.declared.label.Basic.{Basic}
 use Rattle.idl_grammar.specs.declared.label.Basic.TheVariants as basic

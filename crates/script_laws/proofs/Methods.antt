@@ -3,6 +3,7 @@ use Rattle.std.proofs.Common.{◌≡◌, ◌⊎◌, inl, inr, ◌<◌, ◌^◌, 
 use Rattle.std.proofs.lemmas.List.{length-replicate}
 use Rattle.std.specs.Option.{option_map, option_and_then}
 use Rattle.std.proofs.lemmas.Slice.Eq.{bytes_eq-Decides}
+use Rattle.std.proofs.lemmas.Option.{none-some, same_Some}
 use Rattle.orb_base.specs.declared.order.Order.{Order}
 use Rattle.orb_base.specs.JobRecord.{JobRecord}
 use Rattle.cdr_values.specs.Trees.{Kind, Value}
@@ -12,7 +13,7 @@ use Rattle.idl_types.specs.declared.way.Way.{Way}
 use Rattle.idl_types.specs.declared.way.Way.TheVariants as way
 use Rattle.idl_types.specs.Things.{Thing, exception, interface, ParamView, OperationView, ExceptionView, InterfaceView}
 use Rattle.idl_types.specs.Finding as finding
-use Rattle.idl_types.specs.Finding.{thing_named, as_exception}
+use Rattle.idl_types.specs.Finding.{as_exception}
 use Rattle.idl_types.specs.References.{kind_at}
 use Rattle.servant_scripts.specs.declared.phrase.At.{At}
 use Rattle.servant_scripts.specs.Trees.{MethodSaid}
@@ -35,7 +36,7 @@ use Rattle.script_laws.specs.Outcome.{defined_result, defined_outs, defined_ende
 use Rattle.script_laws.specs.Kinds.{Every, FitsDue, Stands}
 use Rattle.script_laws.specs.Things.{IsSound, AreOf}
 use Rattle.script_laws.proofs.Good.{Good, bind, itself}
-use Rattle.script_laws.proofs.Checks.{both, if_ok, ok_is, some_is, none_is}
+use Rattle.script_laws.proofs.Checks.{both, if_ok, ok_is}
 use Rattle.script_laws.proofs.Shapes.{fits_kind}
 use Rattle.script_laws.proofs.Holes.{shown, somes, blanks_shown, get_within}
 use Rattle.script_laws.proofs.References.{result_ref, param_ref, short_is}
@@ -94,12 +95,12 @@ none_yet = None
 -- ---- how it ends
 
 mapped_some : (place o : ℕ) (r : Option Kind) (due : TypeRef) → option_map (λ (k : Kind). result_due place o) r ≡ Some due → (k : Kind) × (r ≡ Some k) × (result_due place o ≡ due)
-mapped_some place o (Some k) due e = (k, refl, some_is (result_due place o) due e)
-mapped_some place o None due e = absurd (none_is due e)
+mapped_some place o (Some k) due e = (k, refl, same_Some (result_due place o) due e)
+mapped_some place o None due e = absurd (none-some due e)
 
 mapped_none : (place o : ℕ) (r : Option Kind) → option_map (λ (k : Kind). result_due place o) r ≡ None → r ≡ None
 mapped_none place o None e = refl
-mapped_none place o (Some k) e = absurd (none_is (result_due place o) (sym e))
+mapped_none place o (Some k) e = absurd (none-some (result_due place o) (sym e))
 
 ends_is : (r : Option TypeRef) (all : Bool) (at : At) (u : Unit {0}) → ends_well r all at ≡ Ok u → (r ≡ None) ⊎ (all ≡ true)
 ends_is None all at u e = inl refl
@@ -146,7 +147,7 @@ module _ (s : Scene) (g : Ground s) (place o : ℕ) (x : InterfaceView) (op : Op
       let outs = outs_are os st in
       let r = mapped_some place o op.result may.0 may.1 in
       let same : Some r.0 ≡ Some may.2 = sym r.1 ∙ sym result_is ∙ ap (kind_at s.things) r.2 ∙ may.3 in
-      let fits : is_of v r.0 ≡ true = subst (λ (k : Kind). is_of v k ≡ true) (sym (some_is r.0 may.2 same)) may.4 in
+      let fits : is_of v r.0 ≡ true = subst (λ (k : Kind). is_of v k ≡ true) (sym (same_Some r.0 may.2 same)) may.4 in
       let total : result_of op.result (Some v) ≡ (r.0, v) ∷ [] = ap (λ (k : Option Kind). result_of k (Some v)) r.1 in
       let typed : Every IsTyped (((r.0, v) ∷ []) ++ outs_from 0 op.params (shown os)) = (fits, outs.1) in
       return_sent order (both_lists (defined_result op.result (Some v)) (defined_outs 0 op.params os)) (result_of op.result (Some v) ++ outs_from 0 op.params (shown os))

@@ -2,7 +2,8 @@
 use Rattle.std.proofs.Common.{◌≡◌, ℕ, suc, ◌+◌, Bool, true, false, cond, List, [], ◌∷◌, ◌++◌, map, Option, Some, None, Result, Ok, Err, refl, sym, ap, ◌∙◌, subst, slice_get, arith}
 use Rattle.std.specs.Option.{option_map}
 use Rattle.std.specs.Str.{bytes_eq}
-use Rattle.cdr_values.specs.Trees.{Name, Names, Scalar, boolean, char, unsigned, signed, enumeration, Kind, scalar, words, sequence, array, structure, union}
+use Rattle.std.proofs.lemmas.Option.{none-some, same_Some}
+use Rattle.cdr_values.specs.Trees.{Name, Names, boolean, char, unsigned, signed, enumeration, Kind, scalar, words, sequence, array, structure, union}
 use Rattle.cdr_values.specs.Trees as trees
 use Rattle.cdr_values.specs.Lawful.{member_names}
 use Rattle.idl_types.specs.Apart.{case_names}
@@ -18,7 +19,6 @@ use Rattle.script_names.specs.Meanings.{Pair, unused, enumerators, first_or_file
 use Rattle.script_names.specs.Finding.{own, or_else, among, inside, first_inside, first_part, part_found, further, all_parts, stands_for, meant}
 use Rattle.script_names.specs.Known.{Known, known}
 use Rattle.script_laws.specs.Kinds.{Every}
-use Rattle.script_laws.proofs.Checks.{some_is, none_is}
 
 -- an enumerator is one of an enum
 abbrev pub IsEnum : List Thing → Meaning → Type 0
@@ -78,11 +78,11 @@ beside_enum ts place (u ∷ us) h =
     (beside_enum ts (place + 1) us next)
 
 one_found : (ts : List Thing) (b : Bool) (n m : Meaning) (o : Option Meaning) → IsEnum ts n → (o ≡ Some m → IsEnum ts m) → cond b (Some n) o ≡ Some m → IsEnum ts m
-one_found ts true n m o h f e = subst (IsEnum ts) (some_is n m e) h
+one_found ts true n m o h f e = subst (IsEnum ts) (same_Some n m e) h
 one_found ts false n m o h f e = f e
 
 meaning_found : (ts : List Thing) (ps : List Pair) (id : Name) (m : Meaning) → Every (Of ts) ps → meaning_in ps id ≡ Some m → IsEnum ts m
-meaning_found ts [] id m h e = absurd (none_is m e)
+meaning_found ts [] id m h e = absurd (none-some m e)
 meaning_found ts (p ∷ ps) id m h e = one_found ts (bytes_eq id p.0) p.1 m (meaning_in ps id) h.0 (λ g. meaning_found ts ps id m h.1 g) e
 
 pub known_enum : (ts : List Thing) (id : Name) (m : Meaning) → (known ts).meaning id ≡ Some m → IsEnum ts m
@@ -93,8 +93,8 @@ known_enum ts id m e = meaning_found ts (themselves 0 ts ++ beside 0 ts) id m
 
 module _ (Q : Meaning → Type 0) (k : Known) (all : (id : Name) (m : Meaning) → k.meaning id ≡ Some m → Q m) where
   mapped : (id : Name) (o : Option Meaning) (f : Pair) → ((m : Meaning) → o ≡ Some m → Q m) → option_map (λ m. (id, m)) o ≡ Some f → Q f.1
-  mapped id None f h e = absurd (none_is f e)
-  mapped id (Some m) f h e = subst (λ (g : Pair). Q g.1) (some_is (id, m) f e) (h m refl)
+  mapped id None f h e = absurd (none-some f e)
+  mapped id (Some m) f h e = subst (λ (g : Pair). Q g.1) (same_Some (id, m) f e) (h m refl)
 
   own_all : (name scope : Name) (f : Pair) → own k name scope ≡ Some f → Q f.1
   own_all name scope f e = mapped (id_in scope name) (k.meaning (id_in scope name)) f (all (id_in scope name)) e
@@ -104,14 +104,14 @@ module _ (Q : Meaning → Type 0) (k : Known) (all : (id : Name) (m : Meaning) �
   either_all None b f h i e = i f e
 
   among_all : (name : Name) (ids : Names) (f : Pair) → among k name ids ≡ Some f → Q f.1
-  among_all name [] f e = absurd (none_is f e)
+  among_all name [] f e = absurd (none-some f e)
   among_all name (id ∷ ids) f e = either_all (own k name (path_of id)) (among k name ids) f (own_all name (path_of id)) (among_all name ids) e
 
   inside_all : (name scope : Name) (f : Pair) → inside k name scope ≡ Some f → Q f.1
   inside_all name scope f e = either_all (own k name scope) (among k name (k.bases (id_in [] scope))) f (own_all name scope) (among_all name (k.bases (id_in [] scope))) e
 
   first_all : (name : Name) (scopes : Names) (f : Pair) → first_inside k name scopes ≡ Some f → Q f.1
-  first_all name [] f e = absurd (none_is f e)
+  first_all name [] f e = absurd (none-some f e)
   first_all name (scope ∷ scopes) f e = either_all (inside k name scope) (first_inside k name scopes) f (inside_all name scope) (first_all name scopes) e
 
   part_all : (rooted : Bool) (name scope : Name) (f : Pair) → first_part k rooted name scope ≡ Some f → Q f.1

@@ -2,6 +2,7 @@
 use Rattle.std.proofs.Common.{◌≡◌, ◌<◌, ◌^◌, ℕ, zero, suc, ◌+◌, List, [], ◌∷◌, Option, Some, None, refl, sym, ap, ◌∙◌, slice_get, add-one, arith}
 use Rattle.std.proofs.Math.Nat.{min-eq_left}
 use Rattle.std.specs.Option.{option_map, option_and_then}
+use Rattle.std.proofs.lemmas.Option.{none-some, same_Some}
 use Rattle.cdr_values.specs.Trees.{Name, Kind, scalar, words, sequence, array, structure, union, members_of}
 use Rattle.idl_types.specs.declared.type_ref.Part.TheVariants as part
 use Rattle.idl_types.specs.declared.type_ref.TypeRef.{TypeRef}
@@ -10,7 +11,6 @@ use Rattle.idl_types.specs.References.{member_kind, members_in, part_kind, eleme
 use Rattle.script_checks.specs.Kinds.{element_of}
 use Rattle.script_checks.specs.Dues.{short, member_due, element_due, result_due, param_due}
 use Rattle.script_laws.specs.Things.{IsSound, steps_in}
-use Rattle.script_laws.proofs.Checks.{some_is, none_is}
 
 pub short_is : (n : ℕ) → n < 2 ^ 32 → short n ≡ n
 short_is n h = min-eq_left (omega (arith, h))
@@ -20,7 +20,7 @@ first_step None = refl
 first_step (Some k) = refl
 
 pub then_some : {A B : Type 0} (f : A → Option B) (o : Option A) (y : B) → option_and_then f o ≡ Some y → (x : A) × (o ≡ Some x) × (f x ≡ Some y)
-then_some f None y e = absurd (none_is y e)
+then_some f None y e = absurd (none-some y e)
 then_some f (Some x) y e = (x, refl, e)
 
 -- the type of a member
@@ -72,18 +72,18 @@ param_ref ts place o n x op q at is here near few less =
 -- ---- elements
 
 element_next : (n : ℕ) (d k e : Kind) → element_kind n d ≡ Some k → element_of k ≡ Some e → (element_kind (suc n) d ≡ Some e) × (n < steps_in d)
-element_next zero (sequence j b) k e h is = (ap element_of (some_is (sequence j b) k h) ∙ is, omega arith)
-element_next zero (array j m) k e h is = (ap element_of (some_is (array j m) k h) ∙ is, omega arith)
-element_next zero (scalar s) k e h is = absurd (none_is e (ap element_of (some_is (scalar s) k h) ∙ is))
-element_next zero (words b) k e h is = absurd (none_is e (ap element_of (some_is (words b) k h) ∙ is))
-element_next zero (structure name ms) k e h is = absurd (none_is e (ap element_of (some_is (structure name ms) k h) ∙ is))
-element_next zero (union name d cs) k e h is = absurd (none_is e (ap element_of (some_is (union name d cs) k h) ∙ is))
+element_next zero (sequence j b) k e h is = (ap element_of (same_Some (sequence j b) k h) ∙ is, omega arith)
+element_next zero (array j m) k e h is = (ap element_of (same_Some (array j m) k h) ∙ is, omega arith)
+element_next zero (scalar s) k e h is = absurd (none-some e (ap element_of (same_Some (scalar s) k h) ∙ is))
+element_next zero (words b) k e h is = absurd (none-some e (ap element_of (same_Some (words b) k h) ∙ is))
+element_next zero (structure name ms) k e h is = absurd (none-some e (ap element_of (same_Some (structure name ms) k h) ∙ is))
+element_next zero (union name d cs) k e h is = absurd (none-some e (ap element_of (same_Some (union name d cs) k h) ∙ is))
 element_next (suc n) (sequence j b) k e h is = let g = element_next n j k e h is in (g.0, (let l = g.1 in omega (arith, l)))
 element_next (suc n) (array j m) k e h is = let g = element_next n j k e h is in (g.0, (let l = g.1 in omega (arith, l)))
-element_next (suc n) (scalar s) k e h is = absurd (none_is k h)
-element_next (suc n) (words b) k e h is = absurd (none_is k h)
-element_next (suc n) (structure name ms) k e h is = absurd (none_is k h)
-element_next (suc n) (union name d cs) k e h is = absurd (none_is k h)
+element_next (suc n) (scalar s) k e h is = absurd (none-some k h)
+element_next (suc n) (words b) k e h is = absurd (none-some k h)
+element_next (suc n) (structure name ms) k e h is = absurd (none-some k h)
+element_next (suc n) (union name d cs) k e h is = absurd (none-some k h)
 
 -- the type of the elements of a list type
 pub element_ref : (ts : List Thing) → IsSound ts → (due : TypeRef) (k e : Kind) → kind_at ts due ≡ Some k → element_of k ≡ Some e → kind_at ts (element_due due) ≡ Some e

@@ -1,20 +1,20 @@
 -- The variables of a scope, and the slots in which they stand.
 use Rattle.std.proofs.Common.{◌≡◌, ◌⊎◌, inl, inr, ⊎_elim, ◌<◌, ◌≤◌, ℕ, suc, ◌+◌, Bool, true, false, cond, List, [], ◌∷◌, ◌++◌, length, Option, Some, None, refl, sym, ap, ◌∙◌, subst, slice_set, arith}
 use Rattle.std.specs.Str.{bytes_eq}
+use Rattle.std.proofs.lemmas.Option.{none-some, same_Some}
 use Rattle.cdr_values.specs.Trees.{Name, Kind, Value}
 use Rattle.idl_types.specs.declared.type_ref.TypeRef.{TypeRef}
 use Rattle.idl_types.specs.Things.{Thing}
 use Rattle.script_checks.specs.Scene.{Var, find_var}
 use Rattle.script_laws.specs.Defined.{got}
 use Rattle.script_laws.specs.Kinds.{HasKind, FitsDue, Holds, Stands}
-use Rattle.script_laws.proofs.Checks.{some_is, none_is}
 
 -- what find_var finds
 abbrev pub Found : Type 0
 Found = ℕ × Kind × Option TypeRef
 
 found_var : (b : Bool) (x r : Found) (o : Option Found) → cond b (Some x) o ≡ Some r → (x ≡ r) ⊎ (o ≡ Some r)
-found_var true x r o e = inl (some_is x r e)
+found_var true x r o e = inl (same_Some x r e)
 found_var false x r o e = inr e
 
 held : (ts : List Thing) (x : Var) (o : Option Value) → Holds ts x o → (v : Value) × (o ≡ Some v) × HasKind x.kind v × FitsDue ts x.kind x.due v
@@ -24,7 +24,7 @@ held ts x (Some v) h = (v, refl, h.0, h.1)
 -- the slot of a variable holds a value of its kind
 pub variable_held : (ts : List Thing) (n : ℕ) (xs : List Var) (name : Name) (r : Found) (os : List (Option Value)) → find_var n xs name ≡ Some r → Stands ts xs os
     → (i : ℕ) × (r.0 ≡ n + i) × (v : Value) × (got os i ≡ Some v) × HasKind r.1 v × FitsDue ts r.1 r.2 v
-variable_held ts n [] name r os e h = absurd (none_is r e)
+variable_held ts n [] name r os e h = absurd (none-some r e)
 variable_held ts n (x ∷ xs) name r [] e h = absurd h
 variable_held ts n (x ∷ xs) name r (o ∷ os) e h = ⊎_elim
     (λ is. let v = held ts x o h.0 in (
@@ -60,7 +60,7 @@ stands_front ts (x ∷ xs) ys (o ∷ os) h = (h.0, stands_front ts xs ys os h.1)
 -- a variable is set to a value of its kind
 pub stands_set : (ts : List Thing) (n : ℕ) (xs : List Var) (name : Name) (r : Found) (os : List (Option Value)) → find_var n xs name ≡ Some r → Stands ts xs os
     → (i : ℕ) × (r.0 ≡ n + i) × (i < length os) × ((v : Value) → HasKind r.1 v → FitsDue ts r.1 r.2 v → Stands ts xs (slice_set os i (Some v)))
-stands_set ts n [] name r os e h = absurd (none_is r e)
+stands_set ts n [] name r os e h = absurd (none-some r e)
 stands_set ts n (x ∷ xs) name r [] e h = absurd h
 stands_set ts n (x ∷ xs) name r (o ∷ os) e h = ⊎_elim
     (λ is. (

@@ -3,6 +3,7 @@ use Rattle.std.proofs.Common.{◌≡◌, ◌<◌, ℕ, suc, ◌+◌, Bool, true,
 use Rattle.std.specs.List.{position_or_len}
 use Rattle.std.proofs.lemmas.Bool.{ltb-true}
 use Rattle.std.specs.Option.{option_map}
+use Rattle.std.proofs.lemmas.Option.{none-some, same_Some}
 use Rattle.orb_base.specs.declared.order.Order.{Order}
 use Rattle.orb_base.specs.declared.outcome.Outcome.{Outcome}
 use Rattle.orb_base.specs.declared.outcome.Outcome.TheVariants.{Returned, User}
@@ -26,7 +27,6 @@ use Rattle.script_laws.specs.Defined.{◌and_then◌, got}
 use Rattle.script_laws.specs.Outcome.{defined_out, both_lists, defined_outs, defined_members, defined_exception, defined_body, defined_return, defined_raise}
 use Rattle.script_laws.specs.Kinds.{Every, FitsDue, Holds, Stands}
 use Rattle.script_laws.proofs.Good.{Good, itself}
-use Rattle.script_laws.proofs.Checks.{some_is, none_is}
 use Rattle.script_laws.proofs.Holes.{shown, got_shows, Fits}
 use Rattle.script_laws.proofs.Names.{both_every}
 
@@ -122,7 +122,7 @@ members_sent all (m ∷ ms) n (v ∷ rest) same long fits =
     let value : member_at all n ≡ v = value_at_place all rest n v same in
     let more = members_sent all ms (n + 1) rest (λ j. ap (slice_get all) (let e : (n + 1) + j ≡ n + suc j = omega arith in e) ∙ same (suc j)) (omega (arith, long)) (λ i w e. fits (suc i) w e) in
     let f = fits 0 v refl in
-    let fit : is_of v m.1 ≡ true = subst (λ (k : Kind). is_of v k ≡ true) (sym (some_is m.1 f.0 f.1)) f.2 in (
+    let fit : is_of v m.1 ≡ true = subst (λ (k : Kind). is_of v k ≡ true) (sym (same_Some m.1 f.0 f.1)) f.2 in (
       ap (option_map (λ (xs : List Typed). (m.1, v) ∷ xs)) more.0 ∙ ap (λ (u : Value). Some ((m.1, u) ∷ members_from (n + 1) ms all)) (sym value),
       (subst (λ (u : Value). is_of u m.1 ≡ true) (sym value) fit, more.1),
     )
@@ -156,10 +156,10 @@ placed : {X : Type 0} (p : X → Bool) (xs : List X) (b : Bool) (i : ℕ) → lt
     → (i < length xs) × (x : X) × (slice_get xs i ≡ Some x) × (p x ≡ true)
 placed p xs true i e h =
     let l : position_or_len p xs < length xs = ltb-true (position_or_len p xs) (length xs) e in
-    let is : position_or_len p xs ≡ i = some_is (position_or_len p xs) i h in
+    let is : position_or_len p xs ≡ i = same_Some (position_or_len p xs) i h in
     let f = found_at p xs l in
     (subst (λ (n : ℕ). n < length xs) is l, f.0, ap (slice_get xs) (sym is) ∙ f.1, f.2)
-placed p xs false i e h = absurd (none_is i h)
+placed p xs false i e h = absurd (none-some i h)
 
 -- what a position is that of
 pub position_is : {X : Type 0} (p : X → Bool) (xs : List X) (i : ℕ) → position p xs ≡ Some i → (i < length xs) × (x : X) × (slice_get xs i ≡ Some x) × (p x ≡ true)

@@ -2,6 +2,7 @@
 use Rattle.std.proofs.Common.{◌≡◌, ◌⊎◌, inl, inr, ⊎_elim, ◌<◌, ◌^◌, ℕ, zero, suc, ◌+◌, ◌==◌, ◌||◌, Bool, true, false, cond, List, [], ◌∷◌, ◌++◌, Option, Some, None, Ok, Err, refl, sym, ap, ◌∙◌, subst, slice_get, append-nil, append_assoc, bytes_eq, codes, is_some, true≢false, arith}
 use Rattle.std.proofs.lemmas.Bool.{eqb-true}
 use Rattle.std.specs.Option.{option_map}
+use Rattle.std.proofs.lemmas.Option.{none-some, same_Some}
 use Rattle.orb_base.specs.JobRecord.{JobRecord}
 use Rattle.orb_base.specs.declared.outcome.Outcome.{Outcome}
 use Rattle.cdr_core.specs.Cursor.{Cursor, Reads, AreBytes}
@@ -27,7 +28,7 @@ use Rattle.script_names.specs.Known.{known}
 use Rattle.script_values.specs.Trees.{Term, Step, steps_of, priority, slot, no_steps, step, give}
 use Rattle.script_values.specs.Evaluation.{value_at, fit_in}
 use Rattle.script_values.specs.Running as values
-use Rattle.script_values.specs.Running.{End, next, returned, gone, raised}
+use Rattle.script_values.specs.Running.{End, returned}
 use Rattle.script_checks.specs.declared.fault.CheckCause.TheVariants as cause
 use Rattle.script_checks.specs.Scene.{Scene, ◌>>=◌, or_refused, if_holds}
 use Rattle.script_checks.specs.Dues.{result_due}
@@ -50,7 +51,7 @@ use Rattle.script_laws.specs.Kinds.{Every}
 use Rattle.script_laws.specs.Things.{IsSound, AreOf}
 use Rattle.script_laws.specs.Laws.{HaveZeros, ServedAreDefined}
 use Rattle.script_laws.proofs.Good.{Good, bind, itself, same}
-use Rattle.script_laws.proofs.Checks.{both, if_ok, or_ok, ok_is, some_is, none_is}
+use Rattle.script_laws.proofs.Checks.{both, if_ok, or_ok, ok_is}
 use Rattle.script_laws.proofs.Holes.{shown, somes, fit_good, get_within}
 use Rattle.script_laws.proofs.Snoc.{every_snoc}
 use Rattle.script_laws.proofs.References.{result_ref, then_some}
@@ -72,11 +73,11 @@ ServantOk ts v = (x : InterfaceView) × (slice_get ts v.interface ≡ Some (inte
 -- ---- the check of a script
 
 found_operation : (b : Bool) (n : ℕ) (op : OperationView) (o : Option (ℕ × OperationView)) (r : ℕ × OperationView) → cond b (Some (n, op)) o ≡ Some r → ((n, op) ≡ r) ⊎ (o ≡ Some r)
-found_operation true n op o r e = inl (some_is (n, op) r e)
+found_operation true n op o r e = inl (same_Some (n, op) r e)
 found_operation false n op o r e = inr e
 
 operation_at : (n : ℕ) (os : List OperationView) (name : Name) (r : ℕ × OperationView) → find_operation n os name ≡ Some r → (i : ℕ) × (r.0 ≡ n + i) × (slice_get os i ≡ Some r.1)
-operation_at n [] name r e = absurd (none_is r e)
+operation_at n [] name r e = absurd (none-some r e)
 operation_at n (o ∷ os) name r e = ⊎_elim
     (λ h. (0, ap (λ (x : ℕ × OperationView). x.0) (sym h) ∙ (omega arith), ap (λ (x : ℕ × OperationView). Some x.1) h))
     (λ h. let g = operation_at (n + 1) os name r h in (suc g.0, (let p = g.1 in omega (arith, p)), g.2))
@@ -115,16 +116,16 @@ module _ (s : Scene) (g : Ground s) (place : ℕ) (x : InterfaceView) (at : slic
       methods_ok ms (done ++ a.0 ∷ []) out a.2 (every_snoc (MethodOk s.things x) done a.0 h one)
 
 interface_placed : (i : ℕ) (o : Option Thing) (r : ℕ × InterfaceView) → interface_in i o ≡ Some r → (i ≡ r.0) × (o ≡ Some (interface r.1))
-interface_placed i (Some (interface x)) r h = let g : (i, x) ≡ r = some_is (i, x) r h in (ap (λ (y : ℕ × InterfaceView). y.0) g, ap (λ (y : ℕ × InterfaceView). Some (interface y.1)) g)
-interface_placed i (Some (constant x)) r h = absurd (none_is r h)
-interface_placed i (Some (named x)) r h = absurd (none_is r h)
-interface_placed i (Some (exception x)) r h = absurd (none_is r h)
-interface_placed i None r h = absurd (none_is r h)
+interface_placed i (Some (interface x)) r h = let g : (i, x) ≡ r = same_Some (i, x) r h in (ap (λ (y : ℕ × InterfaceView). y.0) g, ap (λ (y : ℕ × InterfaceView). Some (interface y.1)) g)
+interface_placed i (Some (constant x)) r h = absurd (none-some r h)
+interface_placed i (Some (named x)) r h = absurd (none-some r h)
+interface_placed i (Some (exception x)) r h = absurd (none-some r h)
+interface_placed i None r h = absurd (none-some r h)
 
 interface_meant : (ts : List Thing) (m : Meaning) (r : ℕ × InterfaceView) → interface_of ts m ≡ Some r → slice_get ts r.0 ≡ Some (interface r.1)
 interface_meant ts (means.Thing i) r h = let g = interface_placed i (slice_get ts i) r h in ap (slice_get ts) (sym g.0) ∙ g.1
-interface_meant ts (means.Enumerator i n) r h = absurd (none_is r h)
-interface_meant ts means.Other r h = absurd (none_is r h)
+interface_meant ts (means.Enumerator i n) r h = absurd (none-some r h)
+interface_meant ts means.Other r h = absurd (none-some r h)
 
 module _ (ts : List Thing) (sound : IsSound ts) where
   scene : Name → Scene
@@ -215,14 +216,14 @@ module _ (ts : List Thing) (sound : IsSound ts) where
 chosen : (P : ServantView → Type 0) (w : ServantView) (vs : List ServantView) (place : ℕ) (v : ServantView) (b : Bool) → (w.interface == place) ≡ b → cond b (Some w) (servant_at vs place) ≡ Some v → Every P (w ∷ vs)
     → (servant_at vs place ≡ Some v → P v × (v.interface ≡ place)) → P v × (v.interface ≡ place)
 chosen P w vs place v true is e h f =
-    let same : w ≡ v = some_is w v e in
+    let same : w ≡ v = same_Some w v e in
     (subst P same h.0, subst (λ (u : ServantView). u.interface ≡ place) same (eqb-true w.interface place is))
 chosen P w vs place v false is e h f = f e
 
 both_is : (i : Option (ℕ × InterfaceView)) (v : Option ServantView) (t : Target) → both_of i v ≡ Some t → (r : ℕ × InterfaceView) × (i ≡ Some r) × (r.1 ≡ t.0) × (v ≡ Some t.1)
-both_is None v t e = absurd (none_is t e)
-both_is (Some r) None t e = absurd (none_is t e)
-both_is (Some r) (Some v) t e = let h : (r.1, v) ≡ t = some_is (r.1, v) t e in (r, refl, ap (λ (y : Target). y.0) h, ap (λ (y : Target). Some y.1) h)
+both_is None v t e = absurd (none-some t e)
+both_is (Some r) None t e = absurd (none-some t e)
+both_is (Some r) (Some v) t e = let h : (r.1, v) ≡ t = same_Some (r.1, v) t e in (r, refl, ap (λ (y : Target). y.0) h, ap (λ (y : Target). Some y.1) h)
 
 pub interface_is : (x y : InterfaceView) → interface x ≡ interface y → x ≡ y
 interface_is x y e = cc
@@ -236,7 +237,7 @@ argument_then : (p : ParamView) (ps : List ParamView) (vs : List Value) (c : Cur
 argument_then p ps vs c x e = bind_ok (argument p.way p.kind c) (λ (a : Value × Cursor). arguments ps (vs ++ a.0 ∷ []) a.1) x e
 
 servant_is : (P : ServantView → Type 0) (vs : List ServantView) (place : ℕ) (v : ServantView) → servant_at vs place ≡ Some v → Every P vs → P v × (v.interface ≡ place)
-servant_is P [] place v e h = absurd (none_is v e)
+servant_is P [] place v e h = absurd (none-some v e)
 servant_is P (w ∷ vs) place v e h = chosen P w vs place v (w.interface == place) refl e h (λ later. servant_is P vs place v later h.1)
 
 target_is : (s : Served) (id : Name) (t : Target) → target_of s id ≡ Some t → (place : ℕ) × (slice_get s.things place ≡ Some (interface t.0)) × (servant_at s.servants place ≡ Some t.1)
@@ -249,7 +250,7 @@ target_is s id t e =
 -- ---- the methods of operations
 
 method_there : (n : ℕ) (os : List OperationView) (ms : List MethodView) (i : ℕ) (op : OperationView) → all_there n os ms ≡ true → slice_get os i ≡ Some op → has_method ms (n + i) ≡ true
-method_there n [] ms i op e at = absurd (none_is op at)
+method_there n [] ms i op e at = absurd (none-some op at)
 method_there n (o ∷ os) ms zero op e at = ap (has_method ms) (let z : n + 0 ≡ n = omega arith in z) ∙ (if_true (has_method ms n) (all_there (n + 1) os ms) e).0
 method_there n (o ∷ os) ms (suc i) op e at =
     ap (has_method ms) (let z : n + suc i ≡ (n + 1) + i = omega arith in z) ∙ method_there (n + 1) os ms i op (if_true (has_method ms n) (all_there (n + 1) os ms) e).1 at
@@ -313,7 +314,7 @@ asked_ok ts v x job (Some r) bytes there ok at zeros =
     let is : slice_get x.operations r.0 ≡ Some r.1 = at r refl in
     let has : has_method v.methods r.0 ≡ true = ap (has_method v.methods) (let z : r.0 ≡ 0 + r.0 = omega arith in z) ∙ method_there 0 x.operations v.methods r.0 r.1 there is in
     let w = work_is (MethodOk ts x) v.methods r.0 has ok in
-    let op : w.2.0 ≡ r.1 = some_is w.2.0 r.1 (sym w.2.1 ∙ ap (slice_get x.operations) w.1 ∙ is) in
+    let op : w.2.0 ≡ r.1 = same_Some w.2.0 r.1 (sym w.2.1 ∙ ap (slice_get x.operations) w.1 ∙ is) in
     let good : (args : List Value) → AreOf r.1.params args → Good itself Any (defined_work ts r.1 (w.0.lets, w.0.body) job args) (carried_out ts r.1 (w.0.lets, w.0.body) job args) = λ args are.
     subst (λ (q : OperationView). Good itself Any (defined_work ts q (w.0.lets, w.0.body) job args) (carried_out ts q (w.0.lets, w.0.body) job args)) op
     (w.2.2 job args (subst (λ (q : OperationView). AreOf q.params args) (sym op) are)) in
@@ -333,7 +334,7 @@ answer_ok s id job None sound zeros bytes ok e = refl
 answer_ok s id job (Some t) sound zeros bytes ok e =
     let at = target_is s id t e in
     let v = servant_is (ServantOk s.things) s.servants at.0 t.1 at.2 ok in
-    let x : v.0.0 ≡ t.0 = interface_is v.0.0 t.0 (some_is (interface v.0.0) (interface t.0) (sym v.0.1 ∙ ap (slice_get s.things) v.1 ∙ at.1)) in
+    let x : v.0.0 ≡ t.0 = interface_is v.0.0 t.0 (same_Some (interface v.0.0) (interface t.0) (sym v.0.1 ∙ ap (slice_get s.things) v.1 ∙ at.1)) in
     let there : all_there 0 t.0.operations t.1.methods ≡ true = subst (λ (y : InterfaceView). all_there 0 y.operations t.1.methods ≡ true) x v.0.2 in
     let methods : Every (MethodOk s.things t.0) t.1.methods = subst (λ (y : InterfaceView). Every (MethodOk s.things y) t.1.methods) x v.0.3 in
     let o = find_operation 0 t.0.operations job.operation in

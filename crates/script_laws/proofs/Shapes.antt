@@ -1,6 +1,7 @@
 -- Values of kinds, and those that fit a type.
 use Rattle.std.proofs.Common.{◌≡◌, ◌⊎◌, inl, inr, ⊎_elim, ◌<◌, ℕ, ℤ, zero, suc, ◌+◌, Bool, true, false, cond, List, [], ◌∷◌, length, Option, Some, None, refl, sym, ap, ◌∙◌, subst, slice_get, is_some, ◌==◌, w32, arith}
 use Rattle.std.specs.Str.{bytes_eq}
+use Rattle.std.proofs.lemmas.Option.{none-some, same_Some}
 use Rattle.cdr_core.specs.Field.{Field}
 use Rattle.cdr_core.specs.Field as core
 use Rattle.cdr_values.specs.Trees.{Name, boolean, char, unsigned, signed, enumeration, Kind, scalar, words, sequence, array, structure, union, Members, no_members, member, Value, truth, number, letter, text, items, chosen, label, Values, no_values, value, values_len, list_of, values_of}
@@ -13,7 +14,6 @@ use Rattle.script_checks.specs.Naming.{as_struct}
 use Rattle.script_checks.specs.Operators.{find_member}
 use Rattle.script_checks.specs.Built.{members_len}
 use Rattle.script_laws.specs.Kinds.{Every, HasKind, HaveKinds}
-use Rattle.script_laws.proofs.Checks.{some_is, none_is}
 
 pub is_number : (k : Kind) (v : Value) → same_kind number_kind k ≡ true → HasKind k v → (z : ℤ) × (v ≡ number z)
 is_number (scalar (unsigned s)) v e h = h
@@ -42,8 +42,8 @@ is_truth (union name d cs) v e h = absurd cc
 -- ---- lists
 
 pub every_at : {A : Type 0} (P : A → Type 0) (xs : List A) (n : ℕ) (x : A) → Every P xs → slice_get xs n ≡ Some x → P x
-every_at P [] n x h e = absurd (none_is x e)
-every_at P (y ∷ ys) zero x h e = subst P (some_is y x e) h.0
+every_at P [] n x h e = absurd (none-some x e)
+every_at P (y ∷ ys) zero x h e = subst P (same_Some y x e) h.0
 every_at P (y ∷ ys) (suc n) x h e = every_at P ys n x h.1 e
 
 pub every_from : {A : Type 0} (P : A → Type 0) (xs : List A) → ((n : ℕ) (x : A) → slice_get xs n ≡ Some x → P x) → Every P xs
@@ -52,61 +52,61 @@ every_from P (x ∷ xs) f = (f 0 x refl, every_from P xs (λ n y e. f (suc n) y 
 
 -- the elements of a list are of the kind of elements
 pub elements_are : (k e : Kind) (v : Value) → element_of k ≡ Some e → HasKind k v → (vs : Values) × (v ≡ items vs) × Every (HasKind e) (list_of vs)
-elements_are (sequence k bound) e v is h = subst (λ (d : Kind). (vs : Values) × (v ≡ items vs) × Every (HasKind d) (list_of vs)) (some_is k e is) h
-elements_are (array k n) e v is h = subst (λ (d : Kind). (vs : Values) × (v ≡ items vs) × Every (HasKind d) (list_of vs)) (some_is k e is) h
-elements_are (scalar s) e v is h = absurd (none_is e is)
-elements_are (words bound) e v is h = absurd (none_is e is)
-elements_are (structure name ms) e v is h = absurd (none_is e is)
-elements_are (union name d cs) e v is h = absurd (none_is e is)
+elements_are (sequence k bound) e v is h = subst (λ (d : Kind). (vs : Values) × (v ≡ items vs) × Every (HasKind d) (list_of vs)) (same_Some k e is) h
+elements_are (array k n) e v is h = subst (λ (d : Kind). (vs : Values) × (v ≡ items vs) × Every (HasKind d) (list_of vs)) (same_Some k e is) h
+elements_are (scalar s) e v is h = absurd (none-some e is)
+elements_are (words bound) e v is h = absurd (none-some e is)
+elements_are (structure name ms) e v is h = absurd (none-some e is)
+elements_are (union name d cs) e v is h = absurd (none-some e is)
 
 pub list_is : (k e : Kind) (vs : List Value) → element_of k ≡ Some e → Every (HasKind e) vs → HasKind k (items (values_of vs))
-list_is (sequence k bound) e vs is h = (values_of vs, refl, subst (λ (d : Kind). Every (HasKind d) (list_of (values_of vs))) (sym (some_is k e is)) (subst (Every (HasKind e)) (sym (list_of_values vs)) h))
-list_is (array k n) e vs is h = (values_of vs, refl, subst (λ (d : Kind). Every (HasKind d) (list_of (values_of vs))) (sym (some_is k e is)) (subst (Every (HasKind e)) (sym (list_of_values vs)) h))
-list_is (scalar s) e vs is h = absurd (none_is e is)
-list_is (words bound) e vs is h = absurd (none_is e is)
-list_is (structure name ms) e vs is h = absurd (none_is e is)
-list_is (union name d cs) e vs is h = absurd (none_is e is)
+list_is (sequence k bound) e vs is h = (values_of vs, refl, subst (λ (d : Kind). Every (HasKind d) (list_of (values_of vs))) (sym (same_Some k e is)) (subst (Every (HasKind e)) (sym (list_of_values vs)) h))
+list_is (array k n) e vs is h = (values_of vs, refl, subst (λ (d : Kind). Every (HasKind d) (list_of (values_of vs))) (sym (same_Some k e is)) (subst (Every (HasKind e)) (sym (list_of_values vs)) h))
+list_is (scalar s) e vs is h = absurd (none-some e is)
+list_is (words bound) e vs is h = absurd (none-some e is)
+list_is (structure name ms) e vs is h = absurd (none-some e is)
+list_is (union name d cs) e vs is h = absurd (none-some e is)
 
 -- ---- structs
 
 pub members_are : (k s : Kind) (v : Value) → as_struct k ≡ Some s → HasKind k v → (vs : Values) × (v ≡ items vs) × HaveKinds (members_in s) (list_of vs)
-members_are (structure name ms) s v is h = subst (λ (d : Kind). (vs : Values) × (v ≡ items vs) × HaveKinds (members_in d) (list_of vs)) (some_is (structure name ms) s is) h
-members_are (scalar t) s v is h = absurd (none_is s is)
-members_are (words bound) s v is h = absurd (none_is s is)
-members_are (sequence k bound) s v is h = absurd (none_is s is)
-members_are (array k n) s v is h = absurd (none_is s is)
-members_are (union name d cs) s v is h = absurd (none_is s is)
+members_are (structure name ms) s v is h = subst (λ (d : Kind). (vs : Values) × (v ≡ items vs) × HaveKinds (members_in d) (list_of vs)) (same_Some (structure name ms) s is) h
+members_are (scalar t) s v is h = absurd (none-some s is)
+members_are (words bound) s v is h = absurd (none-some s is)
+members_are (sequence k bound) s v is h = absurd (none-some s is)
+members_are (array k n) s v is h = absurd (none-some s is)
+members_are (union name d cs) s v is h = absurd (none-some s is)
 
 pub struct_is : (k s : Kind) (vs : List Value) → as_struct k ≡ Some s → HaveKinds (members_in s) vs → HasKind s (items (values_of vs))
 struct_is (structure name ms) s vs is h =
-    let e : structure name ms ≡ s = some_is (structure name ms) s is in
+    let e : structure name ms ≡ s = same_Some (structure name ms) s is in
     let g : HaveKinds ms vs = subst (λ (d : Kind). HaveKinds (members_in d) vs) (sym e) h in
     subst (λ (d : Kind). HasKind d (items (values_of vs))) e (values_of vs, refl, subst (HaveKinds ms) (sym (list_of_values vs)) g)
-struct_is (scalar t) s vs is h = absurd (none_is s is)
-struct_is (words bound) s vs is h = absurd (none_is s is)
-struct_is (sequence k bound) s vs is h = absurd (none_is s is)
-struct_is (array k n) s vs is h = absurd (none_is s is)
-struct_is (union name d cs) s vs is h = absurd (none_is s is)
+struct_is (scalar t) s vs is h = absurd (none-some s is)
+struct_is (words bound) s vs is h = absurd (none-some s is)
+struct_is (sequence k bound) s vs is h = absurd (none-some s is)
+struct_is (array k n) s vs is h = absurd (none-some s is)
+struct_is (union name d cs) s vs is h = absurd (none-some s is)
 
 found_here : (b : Bool) (n : ℕ) (k : Kind) (o : Option (ℕ × Kind)) (r : ℕ × Kind) → cond b (Some (n, k)) o ≡ Some r → (b ≡ true) × (r ≡ (n, k)) ⊎ (o ≡ Some r)
-found_here true n k o r e = inl (refl, sym (some_is (n, k) r e))
+found_here true n k o r e = inl (refl, sym (same_Some (n, k) r e))
 found_here false n k o r e = inr e
 
 -- where a member was found
 pub found_member : (n : ℕ) (ms : Members) (name : Name) (r : ℕ × Kind) → find_member n ms name ≡ Some r → (i : ℕ) × (r.0 ≡ n + i) × (member_kind i ms ≡ Some r.1)
-found_member n no_members name r e = absurd (none_is r e)
+found_member n no_members name r e = absurd (none-some r e)
 found_member n (member m k ms) name r e = ⊎_elim (λ h. (0, ap (λ (x : ℕ × Kind). x.0) h.1 ∙ (omega arith), ap (λ (x : ℕ × Kind). Some x.1) (sym h.1)))
     (λ h. let g = found_member (n + 1) ms name r h in (suc g.0, (let p = g.1 in omega (arith, p)), g.2))
     (found_here (bytes_eq m name) n k (find_member (n + 1) ms name) r e)
 
 pub have_kind : (ms : Members) (vs : List Value) (i : ℕ) (k : Kind) → HaveKinds ms vs → member_kind i ms ≡ Some k → (v : Value) × (slice_get vs i ≡ Some v) × HasKind k v
-have_kind no_members vs i k h e = absurd (none_is k e)
+have_kind no_members vs i k h e = absurd (none-some k e)
 have_kind (member name d ms) [] i k h e = absurd h
-have_kind (member name d ms) (v ∷ vs) zero k h e = (v, refl, subst (λ (x : Kind). HasKind x v) (some_is d k e) h.0)
+have_kind (member name d ms) (v ∷ vs) zero k h e = (v, refl, subst (λ (x : Kind). HasKind x v) (same_Some d k e) h.0)
 have_kind (member name d ms) (v ∷ vs) (suc i) k h e = have_kind ms vs i k h.1 e
 
 pub member_within : (ms : Members) (i : ℕ) (k : Kind) → member_kind i ms ≡ Some k → i < members_len ms
-member_within no_members i k e = absurd (none_is k e)
+member_within no_members i k e = absurd (none-some k e)
 member_within (member name d ms) zero k e = omega arith
 member_within (member name d ms) (suc i) k e = let h = member_within ms i k e in omega (arith, h)
 
@@ -203,4 +203,4 @@ members_all no_members (v ∷ vs) n f = absurd (omega (arith, n))
 members_all (member name k ms) [] n f = absurd (omega (arith, n))
 members_all (member name k ms) (v ∷ vs) n f =
     let h = f 0 v refl in
-    (fits_kind v k (subst (λ (d : Kind). is_of v d ≡ true) (sym (some_is k h.0 h.1)) h.2), members_all ms vs (omega (arith, n)) (λ m w e. f (suc m) w e))
+    (fits_kind v k (subst (λ (d : Kind). is_of v d ≡ true) (sym (same_Some k h.0 h.1)) h.2), members_all ms vs (omega (arith, n)) (λ m w e. f (suc m) w e))

@@ -2,6 +2,7 @@
 use Rattle.std.proofs.Common.{◌≡◌, ℕ, zero, suc, ◌+◌, ℤ, pos, negsuc, true, List, [], ◌∷◌, ◌++◌, Some, None, Ok, refl, sym, ap, subst, slice_get, ◌<◌, ◌^◌, length, is_some, arith}
 use Rattle.std.specs.List.{list_all}
 use Rattle.std.proofs.lemmas.Bool.{and_parts}
+use Rattle.std.proofs.lemmas.Option.{none-some, same_Some}
 use Rattle.cdr_values.specs.Trees as trees
 use Rattle.cdr_values.specs.Trees.{Name, size1, size2, size4, size8, Scalar, boolean, char, unsigned, signed, enumeration, Kind, scalar, words, sequence, array, structure, union}
 use Rattle.idl_scopes.specs.Table.{Table}
@@ -21,7 +22,6 @@ use Rattle.dynamic_servants.proofs.Spellings.{id_fits}
 use Rattle.script_laws.specs.Kinds.{Every, HasKind}
 use Rattle.script_laws.specs.Held.{AreDeclared, has_labels}
 use Rattle.script_laws.specs.Laws.{TextsAreDefined}
-use Rattle.script_laws.proofs.Checks.{some_is, none_is}
 use Rattle.script_laws.proofs.Shapes.{every_at}
 use Rattle.script_laws.proofs.Names.{both_every}
 use Rattle.script_laws.proofs.Counts.{all_every}
@@ -105,8 +105,8 @@ all_kept table clean all i (x ∷ rest) h =
 -- ---- each of several things
 
 each_at : (P : List things.Thing → things.Thing → Type 0) (b ts : List things.Thing) (i : ℕ) (t : things.Thing) → Each P b ts → slice_get ts i ≡ Some t → (c : List things.Thing) × P c t
-each_at P b [] i t h e = absurd (none_is t e)
-each_at P b (u ∷ ts) zero t h e = (b, subst (P b) (some_is u t e) h.0)
+each_at P b [] i t h e = absurd (none-some t e)
+each_at P b (u ∷ ts) zero t h e = (b, subst (P b) (same_Some u t e) h.0)
 each_at P b (u ∷ ts) (suc i) t h e = each_at P (b ++ u ∷ []) ts i t h.1 e
 
 each_declared : (b ts : List things.Thing) → Each MayDeclare b ts → AreDeclared b ts

@@ -1,5 +1,6 @@
 -- A load that takes in what was told keeps the rule.
 use Rattle.std.proofs.Common.{◌≡◌, ◌≢◌, ℕ, ◌≤◌, Bool, false, List, [], length, set, Option, Some, sym, refl, ap, ◌∙◌, subst, arith, length-append}
+use Rattle.std.proofs.lemmas.Option.{same_Some}
 use mathlib.Core.Option.{some, some-injective}
 use lib.ListN.{get_elem?}
 use lib.Seq.{set-get_or}
@@ -13,7 +14,7 @@ use Rattle.turn_cell.specs.Views.{longer, hearing}
 use Rattle.turn_cell.specs.Steps.{heard}
 use Rattle.turn_cell.specs.Rule.{Knows}
 use Rattle.turn_cell.specs.Good.{Good}
-use Rattle.turn_cell.proofs.Keeps.{Some-injective, true-ne-false, Rule, views_stay, apart_stays, gone_stays}
+use Rattle.turn_cell.proofs.Keeps.{true-ne-false, Rule, views_stay, apart_stays, gone_stays}
 use Rattle.turn_cell.proofs.Joins.{longer_starts}
 use Rattle.turn_cell.proofs.Begins.{longer_begins, of_begins, Legal_begins, Fit_begins}
 
@@ -55,7 +56,7 @@ module _ {O C R : Type 0} (ready : O → C → Bool) (sound : O → C → Type 0
           refl,
           both.0,
           both.1,
-          λ x n ex en. let q = k.1 n en in let op : terms ≡ x = Some-injective _ _ (sym q.0 ∙ ex) in (
+          λ x n ex en. let q = k.1 n en in let op : terms ≡ x = same_Some _ _ (sym q.0 ∙ ex) in (
             subst (λ (y : Terms O). Good ready sound step' opens fit y z) op (good_begins ready sound step' opens fit terms r.history z r.good starts),
             q.1 ∙ of_begins n r.history z m.0.seen starts both.0 (subst (λ l. length l ≤ length (of n m.0.seen)) q.1 (counts n en)),
           ),

@@ -1,5 +1,6 @@
 -- The steps of a call keep the rule.
 use Rattle.std.proofs.Common.{◌≡◌, ◌≢◌, ℕ, ◌+◌, ◌*◌, ◌%◌, ◌<◌, eqb, Bool, true, false, if◌then◌else◌, List, [], ◌∷◌, ◌++◌, length, get_or, set, zero, suc, ◌==◌, Option, Some, None, sym, refl, ap, ◌∙◌, subst, ⊎_elim, arith, length-set, get_or-set_same, eq-eqb, ne_eqb, append-nil, append_assoc}
+use Rattle.std.proofs.lemmas.Option.{same_Some}
 use mathlib.Core.Logic.{dite}
 use mathlib.Core.Option.{some, some-ne-none}
 use native.Mathlib.Decide.{ℕ_discrete}
@@ -27,9 +28,6 @@ free_if true x n e even = absurd (omega arith)
 
 pub true-ne-false : true ≡ false → ⊥
 true-ne-false e = cc
-
-pub Some-injective : {A : Type 0} (a b : A) → ◌≡◌ {A = Option A} (Some a) (Some b) → a ≡ b
-Some-injective a b e = ap (λ (o : _). elim o [ Some x ↦ x | None ↦ a ]) e
 
 -- the slot's value in hand
 abbrev pub hand : {A : Type 0} → List (ℕ × Option A) → Option A
@@ -146,7 +144,7 @@ module _ {O C R : Type 0} (ready : O → C → Bool) (sound : O → C → Type 0
             now,
             (
               k.0,
-              λ y n ey en. let q = k.1 n en in let op : terms ≡ y = Some-injective _ _ (sym q.0 ∙ ey) in
+              λ y n ey en. let q = k.1 n en in let op : terms ≡ y = same_Some _ _ (sym q.0 ∙ ey) in
                   (subst (λ (z : Terms O). Good ready sound step' opens fit z r.history) op r.good, subst (λ (z : Terms O). Fresh step' z r.history core) op there.2, q.1),
             ),
           )),
@@ -170,7 +168,7 @@ module _ {O C R : Type 0} (ready : O → C → Bool) (sound : O → C → Type 0
       → Allows Rule slots id m 0 (λ _. word) (λ _. released (step slots 0 word 0 mathlib.Core.Option.none) m word)
   gives_turn slots id m core word turn has may is s r wide at small =
       let items : H = core.history.list.items in let x : Terms O = may.0 in let n : ℕ = may.1 in let rest' : H = may.5.0 in let k = r.each_view id m.0 at in let t = k.2 turn in let q = k.1 n may.3 in
-      let op : x ≡ terms = Some-injective _ _ (sym may.2 ∙ q.0) in let w : V = resting m.0 items in
+      let op : x ≡ terms = same_Some _ _ (sym may.2 ∙ q.0) in let w : V = resting m.0 items in
       let grown : items ≡ r.history ++ rest' = may.5.1 ∙ ap (λ z. z ++ rest') t.2 in
       let ended : (j i : ℕ) (d : V) → get_elem? s.views j ≡ some d → d.number ≡ Some i → Each (IsGone heir r.splits_of terms items) d.ended = λ j i d e ei.
       subst (λ (z : H). Each (IsGone heir r.splits_of terms z) d.ended) (sym grown) (gone_grows r.splits_of r.history rest' n may.5.2 d.ended ((r.each_view j d e).1 i ei).4 (r.gone id j m.0 d n i at e may.3 ei)) in (

@@ -1,5 +1,6 @@
 -- A new table meets the rule.
 use Rattle.std.proofs.Common.{◌≡◌, ◌≢◌, ℕ, zero, suc, Bool, true, false, List, [], ◌∷◌, Option, Some, sym, refl, ◌∙◌, subst, arith}
+use Rattle.std.proofs.lemmas.Option.{same_Some}
 use mathlib.Core.Option.{some, some-injective, some-ne-none}
 use lib.ListN.{get_elem?}
 use Rattle.atomic_table.specs.Table.{opening, Me}
@@ -11,7 +12,6 @@ use Rattle.turn_cell.specs.Numbers.{Each, Made, first}
 use Rattle.turn_cell.specs.Views.{starting}
 use Rattle.turn_cell.specs.Rule.{Kept, Knows}
 use Rattle.turn_cell.specs.Tries.{IsSeated}
-use Rattle.turn_cell.proofs.Keeps.{Some-injective}
 
 only : {A : Type 0} (a b : A) (j : ℕ) → get_elem? (a ∷ []) j ≡ some b → (j ≡ 0) × (a ≡ b)
 only a b zero e = (refl, some-injective a b e)
@@ -22,7 +22,7 @@ false-ne-true e = cc
 
 module _ {O C R : Type 0} (ready : O → C → Bool) (sound : O → C → Type 0) (step : O → C → O × R) (opens : O → Type 0) (fit : O → ℕ → List (Entry O C R) → C → Type 0) (heir : ℕ → ℕ → Option ℕ) (terms : Terms O) where
   knows_first : Knows {C = C} {R = R} heir (λ _. 0) terms [] false 0 0 (starting terms)
-  knows_first = (([], refl), (λ n e. (refl, refl, refl, subst (Made heir (λ _. 0)) (Some-injective 0 n e) first, tt)), (λ t. absurd (false-ne-true t)), ([], refl))
+  knows_first = (([], refl), (λ n e. (refl, refl, refl, subst (Made heir (λ _. 0)) (same_Some 0 n e) first, tt)), (λ t. absurd (false-ne-true t)), ([], refl))
 
   pub starts : (core : Core O C R) → opens terms.opening → core.object ≡ terms.opening → core.history.list.items ≡ [] → core.history.length ≡ terms.length
       → Kept ready sound step opens fit heir terms (opening (0 ∷ []) (Some core ∷ []) (starting terms))

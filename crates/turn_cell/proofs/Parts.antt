@@ -1,5 +1,6 @@
 -- A seat that is split from another keeps the rule.
 use Rattle.std.proofs.Common.{◌≡◌, ◌≢◌, ℕ, zero, suc, ◌+◌, ◌≤◌, eqb, ◌⊎◌, inl, inr, ⊎_elim, Bool, true, false, if◌then◌else◌, List, [], ◌∷◌, ◌++◌, length, set, Option, Some, None, sym, refl, ap, ◌∙◌, subst, arith, eq-eqb, ne_eqb}
+use Rattle.std.proofs.lemmas.Option.{same_Some}
 use mathlib.Core.Logic.{dite}
 use mathlib.Core.Option.{some, some-injective, some-ne-none}
 use native.Mathlib.Decide.{ℕ_discrete}
@@ -14,7 +15,7 @@ use Rattle.turn_cell.specs.History.{of}
 use Rattle.turn_cell.specs.Numbers.{Each, Made, first, next, Injects, NotFirst}
 use Rattle.turn_cell.specs.Views.{heir_in, parted, child, note}
 use Rattle.turn_cell.specs.Rule.{IsGone, IsNumbered, Knows}
-use Rattle.turn_cell.proofs.Keeps.{Some-injective, true-ne-false, each_map, each_both, set_there, Rule, views_stay, back, apart_stays, gone_stays}
+use Rattle.turn_cell.proofs.Keeps.{true-ne-false, each_map, each_both, set_there, Rule, views_stay, back, apart_stays, gone_stays}
 
 at_snoc_at : {A : Type 0} (l : List A) (a b : A) (j : ℕ) → get_elem? (l ++ a ∷ []) j ≡ some b → (get_elem? l j ≡ some b) ⊎ ((j ≡ length l) × (a ≡ b))
 at_snoc_at [] a b zero e = inr (refl, some-injective a b e)
@@ -74,7 +75,7 @@ module _ {O C R : Type 0} (ready : O → C → Bool) (sound : O → C → Type 0
       let b = back ready sound step opens fit heir terms s.views id v left at refl refl j d e in ((r.each_view j b.0 b.1).1 i (b.2 ∙ ei)).3 in
       let old_knows : (j : ℕ) (d : V) → get_elem? vs j ≡ some d → Knows heir t terms r.history r.held r.holder j d = views_stay ready sound step opens fit heir terms (Knows heir t terms r.history r.held r.holder) s.views id left (
         k.0,
-        (λ i e. let p = k.1 i e in let same : i ≡ n = Some-injective _ _ (sym e ∙ number) in
+        (λ i e. let p = k.1 i e in let same : i ≡ n = same_Some _ _ (sym e ∙ number) in
             (p.0, p.1, ap (λ (z : ℕ). z + 1) p.2 ∙ (subst (λ (z : ℕ). sp z + 1 ≡ t z) (sym same) (sym (bumped_here heir sp n))), up i p.3, ended v.ended p.4 (r.gone id id v v n n at at number number))),
         k.2,
         k.3,
@@ -88,7 +89,7 @@ module _ {O C R : Type 0} (ready : O → C → Bool) (sound : O → C → Type 0
       )) in
       let new_knows : (j : ℕ) → Knows heir t terms r.history r.held r.holder j right = λ j. (
         k.0,
-        (λ i e. let same : m ≡ i = Some-injective _ _ (sym its ∙ e) in
+        (λ i e. let same : m ≡ i = same_Some _ _ (sym its ∙ e) in
             subst (λ (z : ℕ). IsNumbered heir t terms r.history z right) same
             (q.0, sym (none_of m (Made heir sp) unmade_m r.history r.callers), sym (bumped_other heir sp n m differs ∙ r.unmade m unmade_m), made_m, tt)),
         (λ b. absurd (true-ne-false (sym b))),
@@ -107,13 +108,13 @@ module _ {O C R : Type 0} (ready : O → C → Bool) (sound : O → C → Type 0
         each_view = λ j d e. ⊎_elim (λ old. old_knows j d old) (λ (new : (j ≡ length vs) × (right ≡ d)). subst (Knows heir t terms r.history r.held r.holder j) new.1 (new_knows j)) (at_snoc_at vs right d j e);
         apart = λ i j a b p ea eb na nb. ⊎_elim
             (λ olda. ⊎_elim (λ oldb. apart_stays ready sound step opens fit heir terms s.views id v left at refl refl r.apart i j a b p olda oldb na nb)
-            (λ (newb : (j ≡ length vs) × (right ≡ b)). absurd (unmade_m (subst (Made heir sp) (Some-injective _ _ (sym nb ∙ (ap (λ (z : V). z.number) (sym newb.1) ∙ its))) (number_made i p a olda na)))) (at_snoc_at vs right b j eb))
-            (λ (newa : (i ≡ length vs) × (right ≡ a)). ⊎_elim (λ oldb. absurd (unmade_m (subst (Made heir sp) (Some-injective _ _ (sym na ∙ (ap (λ (z : V). z.number) (sym newa.1) ∙ its))) (number_made j p b oldb nb))))
+            (λ (newb : (j ≡ length vs) × (right ≡ b)). absurd (unmade_m (subst (Made heir sp) (same_Some _ _ (sym nb ∙ (ap (λ (z : V). z.number) (sym newb.1) ∙ its))) (number_made i p a olda na)))) (at_snoc_at vs right b j eb))
+            (λ (newa : (i ≡ length vs) × (right ≡ a)). ⊎_elim (λ oldb. absurd (unmade_m (subst (Made heir sp) (same_Some _ _ (sym na ∙ (ap (λ (z : V). z.number) (sym newa.1) ∙ its))) (number_made j p b oldb nb))))
             (λ (newb : (j ≡ length vs) × (right ≡ b)). newa.0 ∙ sym newb.0) (at_snoc_at vs right b j eb))
             (at_snoc_at vs right a i ea);
         gone = λ i j a b p o ea eb na nb. ⊎_elim
             (λ oldb. ⊎_elim (λ olda. gone_stays ready sound step opens fit heir terms s.views id v left at refl refl r.gone i j a b p o olda oldb na nb)
-            (λ (newa : (i ≡ length vs) × (right ≡ a)). let same : p ≡ m = Some-injective _ _ (sym na ∙ (ap (λ (z : V). z.number) (sym newa.1) ∙ its)) in
+            (λ (newa : (i ≡ length vs) × (right ≡ a)). let same : p ≡ m = same_Some _ _ (sym na ∙ (ap (λ (z : V). z.number) (sym newa.1) ∙ its)) in
             let bk = back ready sound step opens fit heir terms s.views id v left at refl refl j b oldb in
             each_map (IsGone heir sp terms r.history) (λ d. d.number ≢ p) (λ d g e. unmade_m (subst (Made heir sp) (e ∙ same) g.2)) b.ended (subst (Each (IsGone heir sp terms r.history)) bk.3 ((r.each_view j bk.0 bk.1).1 o (bk.2 ∙ nb)).4))
             (at_snoc_at vs right a i ea))

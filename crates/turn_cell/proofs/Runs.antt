@@ -1,5 +1,6 @@
 -- What a history is after one more call, and what a try of a call leaves.
 use Rattle.std.proofs.Common.{◌≡◌, ℕ, ◌+◌, ◌<◌, ◌≤◌, ◌==◌, Bool, true, false, if◌then◌else◌, List, [], ◌∷◌, ◌++◌, length, sym, refl, ap, ◌∙◌, subst, arith, eq-eqb, append-nil, append_assoc, length-append}
+use Rattle.std.proofs.lemmas.Option.{same_Some}
 use Rattle.turn_cell.specs.declared.entry.Entry.{Entry}
 use Rattle.turn_cell.specs.declared.board.Core.{Core}
 use Rattle.turn_cell.specs.declared.board.Known.{Known}
@@ -7,7 +8,6 @@ use Rattle.turn_cell.specs.declared.board.Terms.{Terms}
 use Rattle.turn_cell.specs.declared.tried.Tried.{Tried}
 use Rattle.turn_cell.specs.declared.tried.Tried.TheVariants.{Replied, Worn, NotYet}
 use Rattle.turn_cell.specs.History.{of, StartsWith, replay, Legal, FitFrom}
-use Rattle.turn_cell.proofs.Keeps.{Some-injective}
 use Rattle.turn_cell.specs.Views.{looking, resting, own}
 use Rattle.turn_cell.specs.Good.{Good, entry}
 use Rattle.turn_cell.specs.Steps.{Learns, MayGo}
@@ -53,7 +53,7 @@ module _ {O C R : Type 0} (ready : O → C → Bool) (sound : O → C → Type 0
   )
 
   sits_still : (v : Known O C R) (h : List (Entry O C R)) (core' : Core O C R) → Sits ready sound step opens fit x n v → MayGo ready sound step opens fit (looking v h) core' → Sits ready sound step opens fit x n (resting (looking v h) core'.history.list.items)
-  sits_still v h core' sits may = let op : may.0 ≡ x = Some-injective _ _ (sym may.2 ∙ sits.0) in
+  sits_still v h core' sits may = let op : may.0 ≡ x = same_Some _ _ (sym may.2 ∙ sits.0) in
       (sits.0, sits.1, subst (λ (z : Terms O). Good ready sound step opens fit z core'.history.list.items) op may.4, ap (λ o. own o core'.history.list.items) sits.1, refl)
 
   looked : (v : Known O C R) (h : List (Entry O C R)) (core' : Core O C R) → Sits ready sound step opens fit x n v → (core : Core O C R) → Learns ready sound step opens fit v h core → MayGo ready sound step opens fit (looking v h) core'

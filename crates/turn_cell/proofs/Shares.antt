@@ -2,7 +2,7 @@
 use Rattle.std.proofs.Common.{◌≡◌, ℕ, ◌+◌, ◌≤◌, Bool, false, List, [], length, Option, Some, sym, ap, ◌∙◌, subst, arith}
 use Rattle.std.specs.Prelude.{if◌then◌else◌}
 use Rattle.std.proofs.Math.Dec.{leb-zero}
-use Rattle.atomic_table.specs.Table.{Me, step}
+use Rattle.atomic_table.specs.Table.{Me}
 use Rattle.turn_cell.specs.declared.entry.Entry.{Entry}
 use Rattle.turn_cell.specs.declared.board.Core.{Core}
 use Rattle.turn_cell.specs.declared.board.Known.{Known}

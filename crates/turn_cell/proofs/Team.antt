@@ -1,8 +1,9 @@
 -- The numbers of a register's seats, as tests split and join them.
-use Rattle.std.proofs.Common.{◌≡◌, ℕ, zero, suc, ◌+◌, ◌<◌, ◌&&◌, Bool, List, [], ◌∷◌, ◌++◌, map, Option, Some, None, sym, ap, ap₂, refl, subst, ◌∙◌, arith, inl, inr}
+use Rattle.std.proofs.Common.{◌≡◌, ℕ, zero, suc, ◌+◌, ◌<◌, ◌&&◌, Bool, List, [], ◌∷◌, ◌++◌, map, Some, None, sym, ap, ap₂, refl, subst, ◌∙◌, arith, inl, inr}
 use Rattle.std.specs.Prelude.{if◌then◌else◌, nat_lt}
 use Rattle.std.proofs.lemmas.Bool.{le-leb, eq-eqb}
 use Rattle.std.proofs.Math.Dec.{eqb}
+use Rattle.std.proofs.lemmas.Option.{same_Some}
 use Rattle.turn_cell.specs.declared.board.Gone.{Gone}
 use Rattle.turn_cell.specs.Numbers.{Has, IsWhole}
 use Rattle.turn_cell.specs.Register.{heir}
@@ -14,12 +15,9 @@ use Rattle.turn_cell.specs.Whole.{numbers}
 pub there : (n k : ℕ) → n ≡ 0 → k < 8 → heir n k ≡ Some (k + 1)
 there n k e f = ap₂ (λ (b c : Bool). if b && c then Some (k + 1) else None) (eq-eqb n 0 e) (le-leb (suc k) 8 (omega arith))
 
-pub Some-injective : {A : Type 0} (a b : A) → ◌≡◌ {A = Option A} (Some a) (Some b) → a ≡ b
-Some-injective a b e = ap (λ (o : _). elim o [ Some x ↦ x | None ↦ a ]) e
-
 -- the first seat's heir
 pub heir_is : (n k m : ℕ) → n ≡ 0 → k < 8 → heir n k ≡ Some m → m ≡ k + 1
-heir_is n k m e f h = sym (Some-injective (k + 1) m (sym (there n k e f) ∙ h))
+heir_is n k m e f h = sym (same_Some (k + 1) m (sym (there n k e f) ∙ h))
 
 module _ {O C R : Type 0} where
   abbrev pairs : List (Gone O C R) → List (ℕ × ℕ)
