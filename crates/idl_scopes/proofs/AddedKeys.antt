@@ -1,13 +1,13 @@
 -- A key that isn't there is added behind the others, and a declaration behind the others.
-use Rattle.std.proofs.Common.{◌≡◌, ℕ, Bool, false, List, [], ◌∷◌, ◌++◌, map, refl, sym, ap, ◌∙◌}
+use Rattle.std.proofs.Common.{◌≡◌, ℕ, Bool, false, List, [], ◌∷◌, ◌++◌, map, sym, ap, ◌∙◌}
 use Rattle.std.specs.Prelude.{if◌then◌else◌}
 use Rattle.std.specs.List.{list_any}
 use Rattle.std.proofs.lemmas.List.{map-append}
 use Rattle.indexmap.specs.IndexSet.{insert_key}
 use Rattle.idl_scopes.specs.Finding.{is_at}
-use Rattle.idl_scopes.specs.Views.{known_of, declared_of, sort_of}
+use Rattle.idl_scopes.specs.Declarations.{known_of, declared_of, sort_of}
 use Rattle.idl_scopes.specs.declared.known.Known.{Known}
-use Rattle.idl_scopes.specs.declared.scopes.Declared.{Declared}
+use Rattle.idl_scopes.specs.declared.declared.Declared.{Declared}
 use Rattle.orb_base.proofs.Places.{any_map}
 
 adds_behind : (eq : Known → Known → Bool) (k : Known) (ks : List Known) → ((x : Known) → eq k x ≡ is_at k.scope k.name.items (known_of x))

@@ -1,10 +1,10 @@
 -- A declaration that becomes another, seen as data.
-use Rattle.std.proofs.Common.{◌≡◌, ℕ, List, map, set, Option, Some, option_map, slice_get, refl, sym, ap, ◌∙◌}
+use Rattle.std.proofs.Common.{◌≡◌, ℕ, List, map, set, Some, option_map, slice_get, sym, ap, ◌∙◌}
 use Rattle.std.proofs.lemmas.Option.{slice_get-map}
 use Rattle.std.proofs.lemmas.List.{map-set}
 use Rattle.idl_scopes.specs.Declaring.{finished_in}
-use Rattle.idl_scopes.specs.Views.{declared_of, sort_of}
-use Rattle.idl_scopes.specs.declared.scopes.Declared.{Declared}
+use Rattle.idl_scopes.specs.Declarations.{declared_of, sort_of}
+use Rattle.idl_scopes.specs.declared.declared.Declared.{Declared}
 use Rattle.idl_scopes.specs.declared.sort.Sort.{Sort}
 
 pub finishes : (ds : List Declared) (i : ℕ) (d : Declared) (sort : Sort) → slice_get ds i ≡ Some d

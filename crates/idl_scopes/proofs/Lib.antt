@@ -2,8 +2,12 @@ pub mod Outwards
 pub mod Within
 pub mod AmongScopes
 pub mod AnyOf
+pub mod ClashingScopes
 pub mod FirstBase
+pub mod Grouping
 pub mod AddedKeys
 pub mod FinishedPlaces
-pub mod BaseScopes
+pub mod NamedKeys
+pub mod NoHolders
 pub mod NotTaken
+pub mod PlacedRows

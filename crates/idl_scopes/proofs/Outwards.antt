@@ -1,5 +1,5 @@
 -- One step outwards.
-use Rattle.std.proofs.Common.{◌≡◌, ◌-◌, ◌<◌, arith, ℕ, zero, suc, List, Option, None, refl}
+use Rattle.std.proofs.Common.{◌≡◌, ◌-◌, ◌<◌, arith, ℕ, zero, suc, List, None, refl}
 use Rattle.std.specs.Prelude.{if◌then◌else◌, ◌==◌}
 use Rattle.idl_scopes.specs.Table.{Table}
 use Rattle.idl_scopes.specs.Finding.{inside, outwards, outer, or_else}

@@ -4,5 +4,7 @@ pub mod Keywords
 pub mod Taking
 pub mod Declaring
 pub mod Bases
+pub mod Groups
 pub mod Ids
+pub mod Declarations
 pub mod Views

@@ -1,16 +1,18 @@
 //! The bases of interfaces.
-ghost use Rattle.std.specs.Prelude.{◌≡◌, ◌++◌, ◌∷◌, ◌+◌, ◌<◌, ◌^◌, IfOk, [], All, map, filter, not};
+ghost use Rattle.std.specs.Prelude.{◌≡◌, IfOk};
 ghost use Rattle.std.specs.List.{list_any};
-ghost use Rattle.idl_scopes.specs.Bases.{holds, differs, clashes, bases_clash, joined_to, scopes_from};
-ghost use Rattle.idl_scopes.specs.Finding.{inherited, sort_at, scopes_of};
-ghost use Rattle.idl_scopes.specs.Views.{declared_of, sort_of, table_of};
+ghost use Rattle.idl_scopes.specs.Bases.{holds, differs, bases_clash};
+ghost use Rattle.idl_scopes.specs.Finding.{among, inherited, sort_at, scopes_of};
+ghost use Rattle.idl_scopes.specs.Groups.{clashes_at, clashes_in};
+ghost use Rattle.idl_scopes.specs.Declarations.{sort_of};
+ghost use Rattle.idl_scopes.specs.Views.{table_of};
 
-use crate::{Declared, Scopes, Sort};
+use crate::{Scopes, Sort};
 use orb_base::NoMemory;
 use std::alloc::Global;
 
 /// Whether a scope is among these.
-fn holds(scopes: &[usize], scope: usize) -> bool
+pub(crate) fn holds(scopes: &[usize], scope: usize) -> bool
     ensures { result ≡ holds scopes.now scope }
 {
     scopes.iter().any(|s| *s == scope)
@@ -33,28 +35,6 @@ fn copied(alloc: Global, places: &[usize]) -> Result<Vec<usize>, NoMemory>
     Ok(Vec::from_slice(alloc, places)?)
 }
 
-/// The scopes of a second list that aren't in the first.
-fn further(alloc: Global, first: &[usize], second: &[usize]) -> Result<Vec<usize>, NoMemory>
-    ensures { IfOk result (λ v. v.items ≡ filter (λ s. not (holds first.now s)) second.now) }
-{
-    Ok(
-        second
-            .iter()
-            .copied()
-            .filter(|s| !holds(first, *s))
-            .collect(alloc)?,
-    )
-}
-
-/// The scopes with those of a second list that aren't among them.
-fn joined(alloc: Global, mut first: Vec<usize>, second: &[usize]) -> Result<Vec<usize>, NoMemory>
-    ensures { IfOk result (λ v. v.items ≡ joined_to first.items second.now) }
-{
-    let more = further(alloc, &first, second)?;
-    first.extend_from_slice(&more)?;
-    Ok(first)
-}
-
 /// The scopes that such a declaration inherits.
 fn scopes_in(alloc: Global, sort: &Sort) -> Result<Vec<usize>, NoMemory>
     ensures { IfOk result (λ v. v.items ≡ inherited (sort_of sort.now)) }
@@ -70,7 +50,7 @@ impl Scopes {
     fn inherited_at(&self, at: usize) -> Result<Vec<usize>, NoMemory>
         ensures { IfOk result (λ v. v.items ≡ inherited (sort_at (table_of self.now) at)) }
     {
-        match self.declared.get(at) {
+        match self.rows.declared.get(at) {
             Some(declared) => scopes_in(self.alloc, &declared.sort),
             None => Ok(Vec::new(self.alloc)),
         }
@@ -87,61 +67,88 @@ impl Scopes {
         Ok(scopes)
     }
 
-    /// All scopes whose names these bases give, in the order of looking up, each once.
-    pub fn scopes_from(&self, bases: &[u32]) -> Result<Vec<usize>, NoMemory>
-        ensures { IfOk result (λ v. v.items ≡ scopes_from (table_of self.now) [] bases.now) }
-    {
-        let mut scopes = Vec::new(self.alloc);
-        for base in bases {
-            let more = self.scopes_of(*base)?;
-            scopes = joined(self.alloc, scopes, &more)?;
-        }
-        Ok(scopes)
-    }
-
-    /// Whether a name of a declaration in the later scopes means one thing in the earlier ones and another in these.
-    fn clashes(
+    /// Whether a name means one thing in the earlier scopes and another in the later ones.
+    fn means_both(
         &self,
-        declared: &Declared,
+        name: &[u8],
         earlier: &[usize],
         later: &[usize],
     ) -> Result<bool, NoMemory>
-        ensures { IfOk result (λ b. b ≡ clashes (table_of self.now) earlier.now later.now (declared_of declared.now)) }
+        ensures { IfOk result (λ b. b ≡ differs (among (table_of self.now) name.now earlier.now) (among (table_of self.now) name.now later.now)) }
     {
-        if !holds(later, declared.scope) {
-            return Ok(false);
-        }
-        let before = self.among(&declared.name, earlier)?;
-        let behind = self.among(&declared.name, later)?;
+        let before = self.among(name, earlier)?;
+        let behind = self.among(name, later)?;
         Ok(differs(before, behind))
     }
 
-    /// Whether one of these declarations clashes so.
-    fn any_clashes(
+    /// Whether the declaration at a place is one of a scope, and its name means both.
+    fn clashes_at(
         &self,
-        all: &[Declared],
+        at: usize,
+        scope: usize,
         earlier: &[usize],
         later: &[usize],
     ) -> Result<bool, NoMemory>
-        ensures { IfOk result (λ b. b ≡ list_any (λ d. clashes (table_of self.now) earlier.now later.now (declared_of d)) all.now) }
+        ensures { IfOk result (λ b. b ≡ clashes_at (table_of self.now) earlier.now later.now scope at) }
     {
-        for declared in all {
-            if self.clashes(declared, earlier, later)? {
+        match self.rows.declared.get(at) {
+            Some(declared) => {
+                if scope == declared.scope {
+                    self.means_both(&declared.name, earlier, later)
+                } else {
+                    Ok(false)
+                }
+            }
+            None => Ok(false),
+        }
+    }
+
+    /// Whether one of those at these places does.
+    fn any_clashes_at(
+        &self,
+        places: &[usize],
+        scope: usize,
+        earlier: &[usize],
+        later: &[usize],
+    ) -> Result<bool, NoMemory>
+        ensures { IfOk result (λ b. b ≡ list_any (clashes_at (table_of self.now) earlier.now later.now scope) places.now) }
+    {
+        for at in places {
+            if self.clashes_at(*at, scope, earlier, later)? {
                 return Ok(true);
             }
         }
         Ok(false)
     }
 
+    /// Whether one of all declarations of a scope does.
+    fn any_clashes_in(
+        &self,
+        scope: usize,
+        earlier: &[usize],
+        later: &[usize],
+    ) -> Result<bool, NoMemory>
+        ensures { IfOk result (λ b. b ≡ list_any (clashes_in (table_of self.now) earlier.now later.now scope) (table_of self.now).declared) }
+    {
+        let places = self.rows.places_in(scope);
+        let any = self.any_clashes_at(places, scope, earlier, later)?;
+        Ok(any)
+    }
+
     /// Whether a further base, which gives the later scopes, gives another thing of a name than the bases before it, which
-    /// give the earlier ones. For a first base nothing is looked up, and else each name of the text once or twice.
-    #[tactic(auto, using(orb_base::proofs::Places::any_map, crate::proofs::FirstBase::first_base))]
+    /// give the earlier ones. For a first base nothing is looked up, and else each name of the later scopes in both; for a
+    /// name that few scopes of the text have this is a few comparisons for each scope, and one or two look-ups.
     pub fn bases_clash(&self, earlier: &[usize], later: &[usize]) -> Result<bool, NoMemory>
         ensures { IfOk result (λ b. b ≡ bases_clash (table_of self.now) earlier.now later.now) }
     {
         if earlier.is_empty() {
             return Ok(false);
         }
-        self.any_clashes(&self.declared, earlier, later)
+        for scope in later {
+            if self.any_clashes_in(*scope, earlier, later)? {
+                return Ok(true);
+            }
+        }
+        Ok(false)
     }
 }

@@ -2,7 +2,8 @@
 ghost use Rattle.std.specs.Prelude.{◌≡◌, OnOk, false};
 ghost use Rattle.idl_scopes.specs.Taking.{is_in, is_taken_part, is_taken};
 ghost use Rattle.idl_scopes.specs.Declaring.{added, Declares};
-ghost use Rattle.idl_scopes.specs.Views.{sort_of, table_of};
+ghost use Rattle.idl_scopes.specs.Declarations.{sort_of};
+ghost use Rattle.idl_scopes.specs.Views.{table_of};
 
 use crate::{DeclareFault, Declared, Place, Scopes, Sort};
 use orb_base::NoMemory;
@@ -15,13 +16,14 @@ impl Scopes {
     {
         let key = self.key(name, scope)?;
         let name = Vec::from_slice(self.alloc, name)?;
-        self.known.insert(key)?;
-        self.declared.push(Declared {
+        self.index.add(self.alloc, key)?;
+        let declared = Declared {
             scope,
             name,
             place,
             sort,
-        })?;
+        };
+        self.rows.add(self.alloc, declared)?;
         Ok(())
     }
 

@@ -1,26 +1,32 @@
 //! Looking up names.
-ghost use Rattle.std.specs.Prelude.{◌≡◌, ◌-◌, IfOk, position};
-ghost use Rattle.idl_scopes.specs.Finding.{is_at, place_in, own, inherited, above, among, inside, outwards, looked_up, inside_of, module_in, sort_at, scopes_of, is_operation, is_module};
-ghost use Rattle.idl_scopes.specs.Views.{sort_of, table_of};
+ghost use Rattle.std.specs.Prelude.{◌≡◌, ◌-◌, IfOk, false, true};
+ghost use Rattle.idl_scopes.specs.Bases.{holds};
+ghost use Rattle.idl_scopes.specs.Finding.{place_in, own, inherited, above, among, inside, outwards, looked_up, inside_of, module_in, sort_at, scopes_of, is_operation, is_module};
+ghost use Rattle.idl_scopes.specs.Groups.{AreHolders};
+ghost use Rattle.idl_scopes.specs.Declarations.{sort_of};
+ghost use Rattle.idl_scopes.specs.Views.{table_of};
 
-use crate::known::Known;
+use crate::bases::holds;
 use crate::{Scopes, Sort};
 use orb_base::NoMemory;
 
-impl Scopes {
-    /// The place of a key.
-    fn place_of(&self, key: &Known) -> Option<usize>
-        ensures { result ≡ position (is_at key.now.scope key.now.name.items) (table_of self.now).keys }
-    {
-        self.known.get_index_of(key)
-    }
+/// So many scopes that may have a name are compared before they are looked up.
+const MOST_COMPARED: usize = 64;
 
+/// Whether a scope isn't among these, as far as that costs little.
+pub(crate) fn lacks(holders: &[usize], scope: usize) -> bool
+    ensures { result ≡ true → holds holders.now scope ≡ false }
+{
+    holders.len() <= MOST_COMPARED && !holds(holders, scope)
+}
+
+impl Scopes {
     /// The place of the declaration of a scope that has this name, case aside.
     pub(crate) fn place_in(&self, name: &[u8], scope: usize) -> Result<Option<usize>, NoMemory>
         ensures { IfOk result (λ o. o ≡ place_in (table_of self.now) name.now scope) }
     {
         let key = self.key(name, scope)?;
-        Ok(self.place_of(&key))
+        Ok(self.index.place_of(&key))
     }
 
     /// The place of the declaration of a scope that is spelled so and whose end has been read.
@@ -39,12 +45,37 @@ impl Scopes {
         }
     }
 
-    /// The first of several scopes that has the name gives it.
+    /// Scopes, among which are all that have a name, case aside. Costs a hash.
+    pub(crate) fn holders(&self, name: &[u8]) -> Result<&[usize], NoMemory>
+        ensures { IfOk result (λ scopes. AreHolders (table_of self.now) name.now scopes.now) }
+    {
+        let low = name.to_ascii_lowercase(self.alloc)?;
+        Ok(self.index.holders(&low))
+    }
+
+    /// The same as `own`, where the name's scopes are known.
+    fn own_of(&self, name: &[u8], holders: &[usize], scope: usize) -> Result<Option<usize>, NoMemory>
+        requires { AreHolders (table_of self.now) name.now holders.now }
+        ensures { IfOk result (λ o. o ≡ own (table_of self.now) name.now scope) }
+    {
+        if lacks(holders, scope) {
+            return Ok(None);
+        }
+        self.own(name, scope)
+    }
+
+    /// The first of several scopes that has the name gives it. One look-up where no scope of the text has the name; a few
+    /// comparisons for each of the several where few have it, and a look-up for each of these; and where more than 64 have
+    /// it, a look-up for each of the several.
     pub(crate) fn among(&self, name: &[u8], scopes: &[usize]) -> Result<Option<usize>, NoMemory>
         ensures { IfOk result (λ o. o ≡ among (table_of self.now) name.now scopes.now) }
     {
+        let holders = self.holders(name)?;
+        if holders.is_empty() {
+            return Ok(None);
+        }
         for scope in scopes {
-            if let Some(at) = self.own(name, *scope)? {
+            if let Some(at) = self.own_of(name, holders, *scope)? {
                 return Ok(Some(at));
             }
         }
@@ -65,7 +96,7 @@ impl Scopes {
     fn among_inherited_at(&self, name: &[u8], at: usize) -> Result<Option<usize>, NoMemory>
         ensures { IfOk result (λ o. o ≡ among (table_of self.now) name.now (inherited (sort_at (table_of self.now) at))) }
     {
-        match self.declared.get(at) {
+        match self.rows.declared.get(at) {
             Some(declared) => self.among_inherited(name, &declared.sort),
             None => Ok(None),
         }
@@ -116,14 +147,14 @@ impl Scopes {
     pub fn find(&self, name: &[u8], scope: usize) -> Result<Option<usize>, NoMemory>
         ensures { IfOk result (λ o. o ≡ looked_up (table_of self.now) name.now scope) }
     {
-        self.outwards(self.declared.len(), name, scope)
+        self.outwards(self.rows.declared.len(), name, scope)
     }
 
     /// Whether the declaration at a place is an operation or an attribute.
     pub(crate) fn is_operation_at(&self, at: usize) -> bool
         ensures { result ≡ is_operation (sort_at (table_of self.now) at) }
     {
-        match self.declared.get(at) {
+        match self.rows.declared.get(at) {
             Some(declared) => declared.sort.is_operation(),
             None => false,
         }
@@ -133,7 +164,7 @@ impl Scopes {
     fn is_module_at(&self, at: usize) -> bool
         ensures { result ≡ is_module (sort_at (table_of self.now) at) }
     {
-        match self.declared.get(at) {
+        match self.rows.declared.get(at) {
             Some(declared) => declared.sort.is_module(),
             None => false,
         }

@@ -29,7 +29,7 @@ impl Scopes {
         ensures { IfOk result (λ v. v.items ≡ id_of (table_of self.now) at) }
     {
         let mut id = Vec::from_slice(self.alloc, b"IDL:")?;
-        self.write_within(self.declared.len(), self.scope_at(at), &mut id)?;
+        self.write_within(self.rows.declared.len(), self.scope_at(at), &mut id)?;
         id.extend_from_slice(self.name_at(at))?;
         id.extend_from_slice(b":1.0")?;
         Ok(id)

@@ -7,20 +7,25 @@
 #![tactic(auto)]
 
 mod bases;
+mod declared;
 mod declaring;
 mod fault;
 mod finding;
+mod groups;
 mod ids;
+mod index;
 mod keywords;
 mod known;
 mod place;
+mod rows;
 mod scopes;
 mod sort;
 mod taking;
 
+pub use declared::Declared;
 pub use fault::DeclareFault;
 pub use place::Place;
-pub use scopes::{Declared, Scopes};
+pub use scopes::Scopes;
 pub use sort::Sort;
 
 #[cfg(test)]

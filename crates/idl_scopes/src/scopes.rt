@@ -3,32 +3,22 @@ ghost use Rattle.std.specs.Prelude.{◌≡◌, IfOk, length, slice_get};
 ghost use Rattle.idl_scopes.specs.Table.{no_names};
 ghost use Rattle.idl_scopes.specs.Finding.{lowered, is_spelled, is_spelled_in, scope_at, outer, name_at, place_at};
 ghost use Rattle.idl_scopes.specs.Declaring.{finished};
-ghost use Rattle.idl_scopes.specs.Views.{declared_of, sort_of, table_of};
+ghost use Rattle.idl_scopes.specs.Declarations.{declared_of, sort_of};
+ghost use Rattle.idl_scopes.specs.Views.{table_of};
 
+use crate::index::Index;
 use crate::known::Known;
-use crate::{Place, Sort};
-use indexmap::IndexSet;
+use crate::rows::Rows;
+use crate::{Declared, Place, Sort};
 use orb_base::NoMemory;
 use std::alloc::Global;
-
-/// A declaration.
-#[derive(Debug, Drop)]
-pub struct Declared {
-    /// The scope in which it stands.
-    pub scope: usize,
-    /// Its name as it was spelled there.
-    pub name: Vec<u8>,
-    /// Where its name stands.
-    pub place: Place,
-    pub sort: Sort,
-}
 
 /// The declarations of a text so far.
 #[derive(Drop)]
 pub struct Scopes {
     pub(crate) alloc: Global,
-    pub(crate) known: IndexSet<Known>,
-    pub(crate) declared: Vec<Declared>,
+    pub(crate) index: Index,
+    pub(crate) rows: Rows,
 }
 
 /// Whether a declaration is spelled so, and its end has been read.
@@ -45,8 +35,8 @@ impl Scopes {
     {
         Scopes {
             alloc,
-            known: IndexSet::new(alloc),
-            declared: Vec::new(alloc),
+            index: Index::new(alloc),
+            rows: Rows::new(alloc),
         }
     }
 
@@ -54,14 +44,14 @@ impl Scopes {
     pub fn len(&self) -> usize
         ensures { result ≡ length (table_of self.now).declared }
     {
-        self.declared.len()
+        self.rows.declared.len()
     }
 
     /// Where the name of the declaration at a place stands; behind the last one 0 and 0.
     pub fn place_at(&self, at: usize) -> Place
         ensures { result ≡ place_at (table_of self.now) at }
     {
-        match self.declared.get(at) {
+        match self.rows.declared.get(at) {
             Some(declared) => declared.place,
             None => Place { line: 0, column: 0 },
         }
@@ -71,7 +61,7 @@ impl Scopes {
     pub fn name_at(&self, at: usize) -> &[u8]
         ensures { result.now ≡ name_at (table_of self.now) at }
     {
-        match self.declared.get(at) {
+        match self.rows.declared.get(at) {
             Some(declared) => declared.name.as_slice(),
             None => b"".as_slice(),
         }
@@ -81,7 +71,7 @@ impl Scopes {
     pub fn scope_at(&self, at: usize) -> usize
         ensures { result ≡ scope_at (table_of self.now) at }
     {
-        match self.declared.get(at) {
+        match self.rows.declared.get(at) {
             Some(declared) => declared.scope,
             None => 0,
         }
@@ -98,7 +88,7 @@ impl Scopes {
     pub(crate) fn is_spelled_at(&self, at: usize, name: &[u8]) -> bool
         ensures { result ≡ is_spelled_in name.now (slice_get (table_of self.now).declared at) }
     {
-        match self.declared.get(at) {
+        match self.rows.declared.get(at) {
             Some(declared) => is_spelled(declared, name),
             None => false,
         }
@@ -119,8 +109,6 @@ impl Scopes {
     pub fn finish(&mut self, at: usize, sort: Sort)
         ensures { table_of self.new ≡ finished (table_of self.old) at (sort_of sort) }
     {
-        if at < self.declared.len() {
-            self.declared[at].sort = sort;
-        }
+        self.rows.finish(at, sort);
     }
 }

@@ -1,7 +1,7 @@
 //! What a scope needs to know of a declaration.
 ghost use Rattle.std.specs.Prelude.{◌≡◌};
 ghost use Rattle.idl_scopes.specs.Finding.{is_finished, is_module, is_operation};
-ghost use Rattle.idl_scopes.specs.Views.{sort_of};
+ghost use Rattle.idl_scopes.specs.Declarations.{sort_of};
 
 /// What was declared, as far as looking up needs it.
 #[derive(Debug, Drop)]

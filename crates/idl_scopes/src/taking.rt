@@ -3,11 +3,13 @@ ghost use Rattle.std.specs.Prelude.{◌≡◌, ◌-◌, IfOk, slice_get};
 ghost use Rattle.std.specs.List.{list_any};
 ghost use Rattle.std.specs.Str.{str_eq_ignore_ascii_case};
 ghost use Rattle.idl_scopes.specs.Finding.{is_at, inherited, above, sort_at};
+ghost use Rattle.idl_scopes.specs.Groups.{AreHolders};
 ghost use Rattle.idl_scopes.specs.Taking.{is_in, is_named, is_named_in, is_owner, is_operation_in, is_taken_part, is_taken};
-ghost use Rattle.idl_scopes.specs.Views.{declared_of, sort_of, table_of};
+ghost use Rattle.idl_scopes.specs.Declarations.{declared_of, sort_of};
+ghost use Rattle.idl_scopes.specs.Views.{table_of};
 
+use crate::finding::lacks;
 use crate::keywords::is_keyword;
-use crate::known::Known;
 use crate::{Declared, Scopes, Sort};
 use orb_base::NoMemory;
 
@@ -19,18 +21,11 @@ fn is_named(declared: &Declared, name: &[u8]) -> bool
 }
 
 impl Scopes {
-    /// Whether there is such a key.
-    fn has_key(&self, key: &Known) -> bool
-        ensures { result ≡ list_any (is_at key.now.scope key.now.name.items) (table_of self.now).keys }
-    {
-        self.known.contains(key)
-    }
-
     /// Whether the declaration at a place has this name, case aside.
     fn is_named_at(&self, at: usize, name: &[u8]) -> bool
         ensures { result ≡ is_named_in name.now (slice_get (table_of self.now).declared at) }
     {
-        match self.declared.get(at) {
+        match self.rows.declared.get(at) {
             Some(declared) => is_named(declared, name),
             None => false,
         }
@@ -56,12 +51,27 @@ impl Scopes {
         }
     }
 
+    /// Whether it has, where the name's scopes are known.
+    fn is_operation_of(&self, name: &[u8], holders: &[usize], scope: usize) -> Result<bool, NoMemory>
+        requires { AreHolders (table_of self.now) name.now holders.now }
+        ensures { IfOk result (λ b. b ≡ is_operation_in (table_of self.now) name.now scope) }
+    {
+        if lacks(holders, scope) {
+            return Ok(false);
+        }
+        self.is_operation_in(name, scope)
+    }
+
     /// Whether one of these scopes has.
     fn is_operation_among(&self, name: &[u8], scopes: &[usize]) -> Result<bool, NoMemory>
         ensures { IfOk result (λ b. b ≡ list_any (is_operation_in (table_of self.now) name.now) scopes.now) }
     {
+        let holders = self.holders(name)?;
+        if holders.is_empty() {
+            return Ok(false);
+        }
         for scope in scopes {
-            if self.is_operation_in(name, *scope)? {
+            if self.is_operation_of(name, holders, *scope)? {
                 return Ok(true);
             }
         }
@@ -82,7 +92,7 @@ impl Scopes {
     fn inherits_operation_at(&self, name: &[u8], at: usize) -> Result<bool, NoMemory>
         ensures { IfOk result (λ b. b ≡ list_any (is_operation_in (table_of self.now) name.now) (inherited (sort_at (table_of self.now) at))) }
     {
-        match self.declared.get(at) {
+        match self.rows.declared.get(at) {
             Some(declared) => self.inherits_operation(name, &declared.sort),
             None => Ok(false),
         }
@@ -103,7 +113,7 @@ impl Scopes {
         ensures { IfOk result (λ b. b ≡ is_taken_part (table_of self.now) name.now scope) }
     {
         let key = self.key(name, scope)?;
-        Ok(is_keyword(&key.name) || self.has_key(&key))
+        Ok(is_keyword(&key.name) || self.index.has(&key))
     }
 
     /// Whether it is that, or the name of what the scope is the scope of, or that of an operation which the scope inherits.

@@ -21,7 +21,7 @@ fn two_interfaces(rt: &HostRuntime) -> Result<Scopes, Fail> {
     clashes(&mut scopes, "A", 2, Sort::Interface(Vec::new(rt.alloc())))?;
     clashes(&mut scopes, "T", 3, Sort::Other)?;
     clashes(&mut scopes, "f", 3, Sort::Operation)?;
-    let bases = scopes.scopes_from(&[2])?;
+    let bases = scopes.scopes_of(2)?;
     clashes(&mut scopes, "B", 2, Sort::Interface(bases))?;
     Ok(scopes)
 }
@@ -101,7 +101,24 @@ fn two_bases_that_give_different_things_of_one_name_clash(rt: HostRuntime) -> Re
     assert!(rt; !scopes.bases_clash(&[], &first)?);
     assert!(rt; !scopes.bases_clash(&first, &second)?);
     assert!(rt; scopes.bases_clash(&second, &third)?);
-    let all = scopes.scopes_from(&[5, 2, 6])?;
-    assert_eq!(rt; all.as_slice(), [6, 3, 7].as_slice());
+    assert_eq!(rt; second.as_slice(), [6, 3].as_slice());
+    Ok(())
+}
+
+#[test]
+fn a_name_that_many_scopes_have_is_found_in_the_first_of_the_bases(
+    rt: HostRuntime,
+) -> Result<(), Fail> {
+    let mut scopes = Scopes::new(rt.alloc());
+    for scope in 100..170 {
+        clashes(&mut scopes, "x", scope, Sort::Other)?;
+    }
+    let bases = Vec::from_slice(rt.alloc(), &[500, 120, 130])?;
+    clashes(&mut scopes, "B", 0, Sort::Interface(bases))?;
+    assert_eq!(rt; scopes.find(b"x", 71)?, Some(20));
+    assert_eq!(rt; scopes.find_inside(b"x", 70)?, Some(20));
+    assert!(rt; scopes.bases_clash(&[500, 120], &[130])?);
+    assert!(rt; !scopes.bases_clash(&[500], &[130])?);
+    assert!(rt; !scopes.bases_clash(&[130], &[500, 130])?);
     Ok(())
 }

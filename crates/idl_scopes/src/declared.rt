@@ -1,0 +1,15 @@
+//! One declaration.
+
+use crate::{Place, Sort};
+
+/// A declaration.
+#[derive(Debug, Drop)]
+pub struct Declared {
+    /// The scope in which it stands.
+    pub scope: usize,
+    /// Its name as it was spelled there.
+    pub name: Vec<u8>,
+    /// Where its name stands.
+    pub place: Place,
+    pub sort: Sort,
+}
