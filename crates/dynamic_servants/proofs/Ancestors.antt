@@ -1,5 +1,6 @@
 -- The test of kin tells what bases lead to, since they stand before what is derived from them.
-use Rattle.std.proofs.Common.{◌≡◌, ℕ, ◌≤◌, suc, zero, Bool, true, false, ◌||◌, List, [], ◌∷◌, length, Option, Some, None, ◌↔◌, inl, inr, refl, sym, ap, ◌∙◌, arith}
+use Rattle.std.proofs.Common.{◌≡◌, ℕ, ◌≤◌, suc, zero, Bool, true, ◌||◌, List, [], ◌∷◌, length, Option, Some, None, ◌↔◌, inl, inr, refl, sym, ap, ◌∙◌, arith}
+use Rattle.std.specs.Cmp.{both_ways}
 use Rattle.std.specs.Prelude.{IsTrue}
 use Rattle.std.specs.List.{list_any}
 use Rattle.std.specs.Str.{bytes_eq}
@@ -84,10 +85,5 @@ passes ts based id other a =
       | inr d ↦ or_right (bytes_eq other object_id) (leads_within (length ts) ts id other) (descent_found ts based id other p.0 p.1 d)
     ])
 
-alike : (a b : Bool) → (a ≡ true → b ≡ true) → (b ≡ true → a ≡ true) → a ≡ b
-alike true b h k = sym (h refl)
-alike false true h k = k refl
-alike false false h k = refl
-
 pub told_kin : (ts : List Thing) (based : are_based [] ts ≡ true) (id other : List ℕ) (b : Bool) → IsTrue b ↔ IsA ts id other → b ≡ is_one_of ts id other
-told_kin ts based id other b both = alike b (is_one_of ts id other) (λ e. passes ts based id other (both.0 e)) (λ e. both.1 (tested ts id other e))
+told_kin ts based id other b both = both_ways b (is_one_of ts id other) (λ e. passes ts based id other (both.0 e)) (λ e. both.1 (tested ts id other e))

@@ -32,3 +32,10 @@ fn writes_system_exceptions(rt: HostRuntime) -> Result<(), Fail> {
     );
     Ok(())
 }
+
+#[test]
+fn numbers_what_was_completed(rt: HostRuntime) {
+    assert_eq!(rt; completion_status(Completed::Yes), 0);
+    assert_eq!(rt; completion_status(Completed::No), 1);
+    assert_eq!(rt; completion_status(Completed::Maybe), 2);
+}

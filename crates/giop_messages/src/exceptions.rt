@@ -24,8 +24,8 @@ fn repository_id(name: SysName) -> &'static [u8]
     }
 }
 
-/// The number of a completion status.
-fn completion_status(completed: Completed) -> u32
+/// The number of a completion status (CORBA 3.0.3, section 4.12.1). Takes no memory.
+pub fn completion_status(completed: Completed) -> u32
     ensures { result ≡ completion completed }
 {
     match completed {

@@ -20,7 +20,7 @@ mod request;
 mod target;
 mod write;
 
-pub use exceptions::system_exception_body;
+pub use exceptions::{completion_status, system_exception_body};
 pub use flags::due_of;
 pub use laws::{framed_is_message, reads_one_way, spelled_is_read, written_is_read};
 pub use length::{message_len, reply_len};
@@ -34,7 +34,7 @@ pub use refused::Fault;
 pub use reply::Reply;
 pub use request::Request;
 pub use target::Target;
-pub use write::{write_message, write_reply};
+pub use write::{header_start, write_message, write_reply};
 
 #[cfg(test)]
 mod exception_tests;

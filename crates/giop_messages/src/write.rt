@@ -4,6 +4,7 @@ ghost use Rattle.std.specs.Int.{w8, w32};
 ghost use Rattle.cdr_core.specs.Field.{number, run, fields_end};
 ghost use Rattle.cdr_core.specs.Writing.{Puts};
 ghost use Rattle.giop_frames.specs.declared.kind.Kind.TheVariants as kinds;
+ghost use Rattle.giop_frames.specs.Headers.{magic};
 ghost use Rattle.giop_frames.specs.Kinds.{number as kind_number};
 ghost use Rattle.giop_messages.specs.Message as Spec;
 ghost use Rattle.cdr_core.specs.Encapsulation.{order_byte};
@@ -36,6 +37,14 @@ fn flag(order: Order) -> u8
     }
 }
 
+/// The first eight octets of a header, in front of the size: the magic number, GIOP 1.2, the byte order in bit 0 of the
+/// flags, and the number of the message's kind (CORBA 3.0.3, section 15.4.1). Takes no memory.
+pub fn header_start(order: Order, kind: u8) -> [u8; 8]
+    ensures { result ≡ magic ++ 1 ∷ 2 ∷ order_byte order ∷ kind ∷ [] }
+{
+    [b'G', b'I', b'O', b'P', 1, 2, flag(order), kind]
+}
+
 /// The number of a message's kind.
 fn kind(message: &Message) -> u8
     ensures { result ≡ Spec.kind_of (message_of message.now) }
@@ -55,7 +64,7 @@ fn kind(message: &Message) -> u8
 fn put_header(into: &mut Writer, order: Order, kind: u8, size: u32) -> Result<(), NoMemory>
     ensures { Puts result into.old into.new (header_fields order kind size) }
 {
-    let head = [b'G', b'I', b'O', b'P', 1, 2, flag(order), kind];
+    let head = header_start(order, kind);
     into.put_run(1, &head)?;
     into.put_u32(size)
 }

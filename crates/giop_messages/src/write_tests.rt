@@ -267,3 +267,9 @@ fn writes_a_reply_of_borrowed_parts(rt: HostRuntime) -> Result<(), Fail> {
     );
     Ok(())
 }
+
+#[test]
+fn starts_a_header(rt: HostRuntime) {
+    assert_eq!(rt; header_start(Order::Big, 0), *b"GIOP\x01\x02\0\0");
+    assert_eq!(rt; header_start(Order::Little, 7), *b"GIOP\x01\x02\x01\x07");
+}

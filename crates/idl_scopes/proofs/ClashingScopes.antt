@@ -1,6 +1,7 @@
 -- The declarations whose names clash, scope by scope.
 use Rattle.std.proofs.Common.{◌≡◌, ℕ, suc, Bool, true, false, ◌&&◌, ◌||◌, List, [], ◌∷◌, map, Option, Some, None, inl, inr, refl, sym, ap, subst, ◌∙◌, eqb-true}
 use Rattle.std.specs.Prelude.{slice_get, ◌==◌}
+use Rattle.std.specs.Cmp.{both_ways}
 use Rattle.std.specs.Option.{option_map}
 use Rattle.std.specs.List.{list_any}
 use Rattle.std.proofs.lemmas.Bool.{and_parts, or_cases}
@@ -22,12 +23,6 @@ passes p (x ∷ xs) any = elim (or_cases (p x) (list_any p xs) any) [
   | inr h ↦ (let q = passes p xs h in (suc q.0, q.1, q.2, q.3))
 ]
 
--- two tests that imply each other
-alike : (a b : Bool) → (a ≡ true → b ≡ true) → (b ≡ true → a ≡ true) → a ≡ b
-alike true b f g = sym (f refl)
-alike false true f g = g refl
-alike false false f g = refl
-
 module _ (t : Table) (earlier later : List ℕ) (scope : ℕ) where
   there : (o : Option plain.Declared) → clashes_here t earlier later scope o ≡ true → (d : plain.Declared) × (o ≡ Some d) × (clashes_in t earlier later scope d ≡ true)
   there None h = absurd cc
@@ -36,7 +31,7 @@ module _ (t : Table) (earlier later : List ℕ) (scope : ℕ) where
   -- the places of a scope's declarations tell as much as all declarations
   pub by_places : (ds : List Declared) (places : List ℕ) → t.declared ≡ map declared_of ds → ((i : ℕ) (d : Declared) → slice_get ds i ≡ Some d → d.scope ≡ scope → holds places i ≡ true)
       → list_any (clashes_at t earlier later scope) places ≡ list_any (clashes_in t earlier later scope) t.declared
-  by_places ds places are all = alike (list_any (clashes_at t earlier later scope) places) (list_any (clashes_in t earlier later scope) t.declared) forth back
+  by_places ds places are all = both_ways (list_any (clashes_at t earlier later scope) places) (list_any (clashes_in t earlier later scope) t.declared) forth back
     where
       forth : list_any (clashes_at t earlier later scope) places ≡ true → list_any (clashes_in t earlier later scope) t.declared ≡ true
       forth h =

@@ -1,11 +1,12 @@
 //! The bodies of replies that tell system exceptions: CORBA 3.0.3, sections 4.12 and 15.4.3.2. Takes no memory.
 ghost use Rattle.std.specs.Prelude.{◌≡◌, ◌≤◌, ◌+◌, length};
-ghost use Rattle.giop_messages.specs.Exceptions.{exception_id, completion, exception_body};
+ghost use Rattle.giop_messages.specs.Exceptions.{exception_id, exception_body};
 ghost use Rattle.item_writer.specs.Heads.{padded};
 
 use crate::heads::{Head, put, put_u32};
 use arrayvec::ArrayVec;
-use orb_base::{Completed, Order, Sys, SysName};
+use giop_messages::completion_status;
+use orb_base::{Order, Sys, SysName};
 
 /// The repository id of an exception, with its NUL and the pad behind it.
 fn padded_id(name: SysName) -> &'static [u8]
@@ -40,17 +41,6 @@ fn id_len(name: SysName) -> u32
     }
 }
 
-/// The number of a completion status.
-fn completion_of(completed: Completed) -> u32
-    ensures { result ≡ completion completed }
-{
-    match completed {
-        Completed::Yes => 0,
-        Completed::No => 1,
-        Completed::Maybe => 2,
-    }
-}
-
 /// The body of a reply without contexts whose status is SYSTEM_EXCEPTION.
 #[tactic(auto, using(crate::proofs::Spelling::exception_spelled))]
 pub fn exception_body_of(order: Order, system: Sys) -> Head
@@ -60,6 +50,6 @@ pub fn exception_body_of(order: Order, system: Sys) -> Head
     put_u32(&mut body, order, id_len(system.name));
     put(&mut body, padded_id(system.name));
     put_u32(&mut body, order, system.minor);
-    put_u32(&mut body, order, completion_of(system.completed));
+    put_u32(&mut body, order, completion_status(system.completed));
     body
 }

@@ -10,6 +10,7 @@ ghost use Rattle.item_writer.specs.Heads.{numbered_head, reply_head};
 
 use arrayvec::ArrayVec;
 use cdr_core::bytes_of_u32;
+use giop_messages::header_start;
 use orb_base::{Order, Sink};
 use text_streams::{WriteAll, write_all};
 
@@ -40,26 +41,13 @@ pub fn put_u32(head: &mut Head, order: Order, n: u32)
     put(head, &bytes_of_u32(order, n));
 }
 
-/// Bit 0 of the flags.
-fn flag(order: Order) -> u8
-    ensures { result ≡ order_byte order }
-{
-    match order {
-        Order::Big => 0,
-        Order::Little => 1,
-    }
-}
-
 /// The header of a message: its kind, and how many bytes stand behind the header.
 pub fn header_of(order: Order, kind: u8, size: u32) -> Head
     ensures items { result.items ≡ header order (order_byte order) kind size }
     ensures len { length result.items ≡ 12 }
 {
     let mut head = ArrayVec::new();
-    put(
-        &mut head,
-        &[b'G', b'I', b'O', b'P', 1, 2, flag(order), kind],
-    );
+    put(&mut head, &header_start(order, kind));
     put_u32(&mut head, order, size);
     head
 }

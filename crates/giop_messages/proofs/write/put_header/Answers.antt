@@ -10,7 +10,7 @@ use Rattle.giop_messages.proofs.write.put_header.Goals as goal
 pub returns-in_err-put_run : goal.returns-in_err-put_run
 returns-in_err-put_run c =
     let p = err_from_is_err_and c.from_residual.result c.from_residual.ensures.1 in
-    rw p.1 (puts_first c.args.into.now c.put_run.new.self (run 1 (magic ++ 1 ∷ 2 ∷ order_byte c.args.order ∷ c.args.kind ∷ []) ∷ []) (number w32 c.args.size ∷ []) (rw c.flag.ensures at c.in_err-put_run.ensures))
+    rw p.1 (puts_first c.args.into.now c.put_run.new.self (run 1 (magic ++ 1 ∷ 2 ∷ order_byte c.args.order ∷ c.args.kind ∷ []) ∷ []) (number w32 c.args.size ∷ []) (rw c.header_start-head.ensures at c.in_err-put_run.ensures))
 
 pub returns : goal.returns
-returns c = puts_then c.put_u32.result c.args.into.now c.put_run.new.self c.put_u32.new.self (run 1 (magic ++ 1 ∷ 2 ∷ order_byte c.args.order ∷ c.args.kind ∷ []) ∷ []) (number w32 c.args.size ∷ []) (rw c.flag.ensures at c.in_ok-put_run.ensures) c.put_u32.ensures
+returns c = puts_then c.put_u32.result c.args.into.now c.put_run.new.self c.put_u32.new.self (run 1 (magic ++ 1 ∷ 2 ∷ order_byte c.args.order ∷ c.args.kind ∷ []) ∷ []) (number w32 c.args.size ∷ []) (rw c.header_start-head.ensures at c.in_ok-put_run.ensures) c.put_u32.ensures
