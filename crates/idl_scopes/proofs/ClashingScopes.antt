@@ -51,7 +51,7 @@ module _ (t : Table) (earlier later : List ℕ) (scope : ℕ) where
           let p = passes (λ (s : ℕ). s == q.0) places (found q.0 (slice_get ds q.0) q.1 refl seen same) in
           let here : p.1 ≡ q.0 = eqb-true p.1 q.0 p.3 in
           any_passes_from_place (clashes_at t earlier later scope) places p.0 p.1 p.2
-            (subst (λ (i : ℕ). clashes_at t earlier later scope i ≡ true) (sym here) (ap (clashes_here t earlier later scope) q.2 ∙ q.3))
+          (subst (λ (i : ℕ). clashes_at t earlier later scope i ≡ true) (sym here) (ap (clashes_here t earlier later scope) q.2 ∙ q.3))
 
 module _ {X : Type 0} (f : X → ℕ) (q : X → Bool) where
   none : (xs : List X) → list_any (λ x. false && q x) xs ≡ false

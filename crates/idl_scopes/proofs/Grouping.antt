@@ -77,4 +77,4 @@ module _ {K S : Type 0} (eq : K → K → Bool) (laws : IsEquivalence eq) (m m' 
   pub begun_put : (n : ℕ) → v.items ≡ n ∷ [] → at ≡ length lists → holds (listed (lists ++ v ∷ []) (get eq m' key)) n ≡ true
   begun_put n is last =
       subst (λ (o : Option ℕ). holds (listed (lists ++ v ∷ []) o) n ≡ true)
-        (sym (updates key ∙ ap (λ (b : Bool). cond b (Some at) (get eq m key)) (laws.refl key) ∙ ap Some last)) (put_longer lists v n is)
+      (sym (updates key ∙ ap (λ (b : Bool). cond b (Some at) (get eq m key)) (laws.refl key) ∙ ap Some last)) (put_longer lists v n is)

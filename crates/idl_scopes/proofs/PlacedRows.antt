@@ -59,7 +59,7 @@ module _ (g : Groups ℕ) where
   written n (x ∷ xs) zero d e is same all =
       let p = and_parts (Placed g x n) (placed_in g (n + 1) xs) all in
       and_from (Placed g e n) (placed_in g (n + 1) xs)
-        (subst (λ (s : ℕ). holds (numbers_of nat_eq g s) n ≡ true) (ap (λ (y : Declared). y.scope) (same_Some x d is) ∙ sym same) p.0) p.1
+      (subst (λ (s : ℕ). holds (numbers_of nat_eq g s) n ≡ true) (ap (λ (y : Declared). y.scope) (same_Some x d is) ∙ sym same) p.0) p.1
   written n (x ∷ xs) (suc i) d e is same all =
       let p = and_parts (Placed g x n) (placed_in g (n + 1) xs) all in
       and_from (Placed g x n) (placed_in g (n + 1) (set xs i e)) p.0 (written (n + 1) xs i d e is same p.1)

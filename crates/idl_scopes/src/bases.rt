@@ -68,12 +68,7 @@ impl Scopes {
     }
 
     /// Whether a name means one thing in the earlier scopes and another in the later ones.
-    fn means_both(
-        &self,
-        name: &[u8],
-        earlier: &[usize],
-        later: &[usize],
-    ) -> Result<bool, NoMemory>
+    fn means_both(&self, name: &[u8], earlier: &[usize], later: &[usize]) -> Result<bool, NoMemory>
         ensures { IfOk result (λ b. b ≡ differs (among (table_of self.now) name.now earlier.now) (among (table_of self.now) name.now later.now)) }
     {
         let before = self.among(name, earlier)?;

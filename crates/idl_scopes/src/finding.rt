@@ -54,7 +54,12 @@ impl Scopes {
     }
 
     /// The same as `own`, where the name's scopes are known.
-    fn own_of(&self, name: &[u8], holders: &[usize], scope: usize) -> Result<Option<usize>, NoMemory>
+    fn own_of(
+        &self,
+        name: &[u8],
+        holders: &[usize],
+        scope: usize,
+    ) -> Result<Option<usize>, NoMemory>
         requires { AreHolders (table_of self.now) name.now holders.now }
         ensures { IfOk result (λ o. o ≡ own (table_of self.now) name.now scope) }
     {

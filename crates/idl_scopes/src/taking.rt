@@ -52,7 +52,12 @@ impl Scopes {
     }
 
     /// Whether it has, where the name's scopes are known.
-    fn is_operation_of(&self, name: &[u8], holders: &[usize], scope: usize) -> Result<bool, NoMemory>
+    fn is_operation_of(
+        &self,
+        name: &[u8],
+        holders: &[usize],
+        scope: usize,
+    ) -> Result<bool, NoMemory>
         requires { AreHolders (table_of self.now) name.now holders.now }
         ensures { IfOk result (λ b. b ≡ is_operation_in (table_of self.now) name.now scope) }
     {

@@ -10,7 +10,7 @@ use Rattle.idl_scopes.proofs.groups.Groups.add.Goals as goal
 pub returns-clause-kept : goal.returns-clause-kept
 returns-clause-kept g c = λ k n h.
     kept_grown c.args.self.now.lists.items c.place_of-at.result (get g.K.PartialEq.eq c.args.self.now.numbered k) c.index_mut.result.now c.push.new.self c.args.number
-      (search (slice_get_read, rules)) c.in_ok-push.ensures.items n h
+    (search (slice_get_read, rules)) c.in_ok-push.ensures.items n h
 
 pub returns-clause-put : goal.returns-clause-put
 returns-clause-put g c =

@@ -14,4 +14,4 @@ pub returns-clause-put : goal.returns-clause-put
 returns-clause-put g c =
     subst (λ (lists : _). holds (listed lists (get g.K.PartialEq.eq c.insert.new.self c.args.key)) c.args.number ≡ true) (sym c.in_ok-push-2.ensures.items)
     (begun_put g.K.PartialEq.eq g.met.K.Eq.laws c.args.self.now.numbered c.insert.new.self c.args.self.now.lists.items c.push.new.self c.args.key c.len-at.result c.in_ok-insert.ensures.updates.0
-      c.args.number (c.in_ok-push.ensures.items ∙ ap (λ (xs : _). xs ++ c.args.number ∷ []) c.new-list.ensures.items) (search rules))
+    c.args.number (c.in_ok-push.ensures.items ∙ ap (λ (xs : _). xs ++ c.args.number ∷ []) c.new-list.ensures.items) (search rules))

@@ -12,10 +12,12 @@ pub invariant_of-self : goal.invariant_of-self
 invariant_of-self c = record { named = named_kept c.args.self.now.by_name c.add.new.self c.args.self.now.known.keys c.add.ensures.kept c.args.self.now.named }
 
 pub invariant_of-self-2 : goal.invariant_of-self-2
-invariant_of-self-2 c = record { named =
-    named_put c.add.new.self ghosts.eq c.insert.result c.args.self.now.known.keys c.insert.new.self.keys c.args.key c.insert.ensures.keys c.insert.ensures.err
+invariant_of-self-2 c = record {
+  named =
+      named_put c.add.new.self ghosts.eq c.insert.result c.args.self.now.known.keys c.insert.new.self.keys c.args.key c.insert.ensures.keys c.insert.ensures.err
       (named_kept c.args.self.now.by_name c.add.new.self c.args.self.now.known.keys c.add.ensures.kept c.args.self.now.named)
-      (subst (λ (zs : _). holds (listed c.add.new.self.lists.items (get_by (λ x. bytes_eq zs x.items) c.add.new.self.numbered)) c.args.key.scope ≡ true) (c.in_ok-low.ensures.items ∙ ap (λ x. x) c.deref.ensures.value) c.in_ok-add.ensures.put) }
+      (subst (λ (zs : _). holds (listed c.add.new.self.lists.items (get_by (λ x. bytes_eq zs x.items) c.add.new.self.numbered)) c.args.key.scope ≡ true) (c.in_ok-low.ensures.items ∙ ap (λ x. x) c.deref.ensures.value) c.in_ok-add.ensures.put);
+}
 
 pub returns : goal.returns
 returns c = key_added ghosts.eq c.args.key c.args.key.scope c.args.key.name.items c.args.self.now.known.keys c.insert.new.self.keys c.in_ok-insert.ensures.keys refl refl c.requires (λ x. refl)

@@ -7,6 +7,8 @@ pub invariant_of-self : goal.invariant_of-self
 invariant_of-self c = record { placed = placed_kept c.args.self.now.by_scope c.add.new.self 0 c.args.self.now.declared.items c.add.ensures.kept c.args.self.now.placed }
 
 pub invariant_of-self-2 : goal.invariant_of-self-2
-invariant_of-self-2 c = record { placed =
-    placed_put c.add.new.self c.args.self.now.declared.items c.push.new.self.items c.args.declared (is_ok c.push.result) c.len-at.result c.push.ensures.items (search rules)
-      (placed_kept c.args.self.now.by_scope c.add.new.self 0 c.args.self.now.declared.items c.add.ensures.kept c.args.self.now.placed) c.in_ok-add.ensures.put }
+invariant_of-self-2 c = record {
+  placed =
+      placed_put c.add.new.self c.args.self.now.declared.items c.push.new.self.items c.args.declared (is_ok c.push.result) c.len-at.result c.push.ensures.items (search rules)
+      (placed_kept c.args.self.now.by_scope c.add.new.self 0 c.args.self.now.declared.items c.add.ensures.kept c.args.self.now.placed) c.in_ok-add.ensures.put;
+}

@@ -14,11 +14,11 @@ returns-then-is_empty c =
 pub returns-then-branch : goal.returns-then-branch
 returns-then-branch c =
     any_found (λ scope. list_any (clashes_in (table_of c.args.self.now) c.args.earlier.now c.args.later.now scope) (table_of c.args.self.now).declared) c.args.later.now c.loop-scope.scope-index 0 _
-      c.loop-scope-test.true (sym c.in_ok-any_clashes_in.ensures ∙ c.if-branch.true) c.loop-scope.invariant
+    c.loop-scope-test.true (sym c.in_ok-any_clashes_in.ensures ∙ c.if-branch.true) c.loop-scope.invariant
     ∙ scope_by_scope (table_of c.args.self.now) c.args.earlier.now c.args.later.now
 
 pub returns : goal.returns
 returns c =
     any_end (λ scope. list_any (clashes_in (table_of c.args.self.now) c.args.earlier.now c.args.later.now scope) (table_of c.args.self.now).declared) c.args.later.now c.loop-scope.scope-index _
-      c.loop-scope-test.false c.loop-scope.invariant
+    c.loop-scope-test.false c.loop-scope.invariant
     ∙ scope_by_scope (table_of c.args.self.now) c.args.earlier.now c.args.later.now
