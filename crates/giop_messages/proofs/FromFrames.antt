@@ -5,6 +5,7 @@ use Rattle.std.specs.Int.{w32, byte_len}
 use Rattle.std.specs.List.{All}
 use Rattle.std.proofs.lemmas.List.{take_at, drop_at, append-nil}
 use Rattle.std.proofs.lemmas.List.Elements.{All-nil, All-head, All-tail, All-cons, All-append}
+use Rattle.orb_base.specs.declared.limits.TheConstants.{MAX_MESSAGE}
 use Rattle.orb_base.specs.declared.order.Order.{Order}
 use Rattle.orb_base.specs.declared.order.Order.TheVariants.{Big, Little}
 use Rattle.cdr_core.specs.Field.{number_bytes}
@@ -77,7 +78,7 @@ piece_begun limit bytes more l h m f =
 
 -- ---- a message of one piece
 
-lone_is : (limit : ℕ) (p : Piece) → limit ≤ 262144 → 12 ≤ length p.bytes → length p.bytes ≡ piece_len p.bytes → header_cause limit p.bytes ≡ None
+lone_is : (limit : ℕ) (p : Piece) → limit ≤ MAX_MESSAGE → 12 ≤ length p.bytes → length p.bytes ≡ piece_len p.bytes → header_cause limit p.bytes ≡ None
     → has_more p.bytes ≡ false → is_fragment p.bytes ≡ false → IsMessage (lone p)
 lone_is limit p few l w h m f =
     let n = no_cause limit p.bytes h in
@@ -144,7 +145,7 @@ back t f = ap f (sym t.parts)
 abbrev made : ℕ → Order → ℕ → List ℕ → Message
 made at order kind bytes = record { at = at; order = order; kind = kind; bytes = bytes }
 
-sealed_is : (at : ℕ) (order : Order) (bytes : List ℕ) → IsBegun order true bytes → length bytes ≤ 262144 → IsMessage (made at order (kind_of bytes) (sealed order bytes))
+sealed_is : (at : ℕ) (order : Order) (bytes : List ℕ) → IsBegun order true bytes → length bytes ≤ MAX_MESSAGE → IsMessage (made at order (kind_of bytes) (sealed order bytes))
 sealed_is at order bytes h short =
     let t = twelve bytes h.long in
     let n : ℕ = length t.behind in
@@ -221,15 +222,15 @@ none_is = All-nil IsMessage
 one_is : (m : Message) → IsMessage m → All IsMessage (m ∷ [])
 one_is m h = All-cons IsMessage m [] h none_is
 
-joined_is : (limit : ℕ) (p : Piece) (u : Partial) → limit ≤ 262144 → IsBegun u.order true u.bytes → fragment_cause limit (order_of p.bytes) p.bytes (Some u) ≡ None → IsMessage (joined_message p u)
+joined_is : (limit : ℕ) (p : Piece) (u : Partial) → limit ≤ MAX_MESSAGE → IsBegun u.order true u.bytes → fragment_cause limit (order_of p.bytes) p.bytes (Some u) ≡ None → IsMessage (joined_message p u)
 joined_is limit p u few h e =
     let all : List ℕ = u.bytes ++ added p in
-    let short : length all ≤ 262144 = omega (arith, length-append u.bytes (added p), length-drop 16 p.bytes, fragment_fits limit (order_of p.bytes) p.bytes u e, few) in
+    let short : length all ≤ MAX_MESSAGE = omega (arith, length-append u.bytes (added p), length-drop 16 p.bytes, fragment_fits limit (order_of p.bytes) p.bytes u e, few) in
     subst (λ (k : ℕ). IsMessage (made p.at u.order k (sealed u.order all))) (kind_front u.bytes (added p) h.long)
     (sealed_is p.at u.order all (begun_more u.order true u.bytes (added p) h) short)
 
 completed_by : (limit : ℕ) (us : List Partial) (p : Piece) (m f : Bool) (o : Option Partial) → has_more p.bytes ≡ m → is_fragment p.bytes ≡ f → open_at (id_of p.bytes) us ≡ o
-    → limit ≤ 262144 → AreBegun us → 12 ≤ length p.bytes → length p.bytes ≡ piece_len p.bytes → header_cause limit p.bytes ≡ None → piece_cause limit us p.bytes ≡ None
+    → limit ≤ MAX_MESSAGE → AreBegun us → 12 ≤ length p.bytes → length p.bytes ≡ piece_len p.bytes → header_cause limit p.bytes ≡ None → piece_cause limit us p.bytes ≡ None
     → All IsMessage (option_to_list (cond m None (cond f (option_map (joined_message p) o) (Some (lone p)))))
 completed_by limit us p true f o em ef eo few hs l w h k = none_is
 completed_by limit us p false false o em ef eo few hs l w h k = one_is (lone p) (lone_is limit p few l w h em ef)
@@ -238,7 +239,7 @@ completed_by limit us p false true (Some u) em ef eo few hs l w h k =
     one_is (joined_message p u)
     (joined_is limit p u few (found_begun (id_of p.bytes) us u hs eo) (ap (fragment_cause limit (order_of p.bytes) p.bytes) (sym eo) ∙ joins_within limit us p.bytes k ef))
 
-completed_is : (limit : ℕ) (us : List Partial) (p : Piece) → limit ≤ 262144 → AreBegun us → 12 ≤ length p.bytes → length p.bytes ≡ piece_len p.bytes → header_cause limit p.bytes ≡ None
+completed_is : (limit : ℕ) (us : List Partial) (p : Piece) → limit ≤ MAX_MESSAGE → AreBegun us → 12 ≤ length p.bytes → length p.bytes ≡ piece_len p.bytes → header_cause limit p.bytes ≡ None
     → piece_cause limit us p.bytes ≡ None → All IsMessage (option_to_list (completed us p))
 unfolding completed
 completed_is limit us p few hs l w h k = completed_by limit us p (has_more p.bytes) (is_fragment p.bytes) (open_at (id_of p.bytes) us) refl refl refl few hs l w h k
@@ -258,7 +259,7 @@ goes_on : (us : List Partial) (p : Piece) (cause : Option FrameCause) (later : S
 goes_on us p (Some cause) later h = none_is
 goes_on us p None later h = All-append IsMessage (option_to_list (completed us p)) later.messages (h refl).0 (h refl).1
 
-run_is : (limit : ℕ) (us : List Partial) (ps : List Piece) (tail : Piece) (at : ℕ) → limit ≤ 262144 → AreBegun us → ArePieces at ps tail.at → All IsMessage (run limit us ps tail).messages
+run_is : (limit : ℕ) (us : List Partial) (ps : List Piece) (tail : Piece) (at : ℕ) → limit ≤ MAX_MESSAGE → AreBegun us → ArePieces at ps tail.at → All IsMessage (run limit us ps tail).messages
 unfolding run
 run_is limit us [] tail at few hs a = end_is us tail (tail_cause limit tail.bytes)
 run_is limit us (p ∷ later) tail at few hs a =
@@ -288,18 +289,18 @@ appended : (whole new whole' : List Message) → whole' ≡ whole ++ new → All
 appended whole new whole' e h k = subst (All IsMessage) (sym e) (All-append IsMessage whole new h k)
 
 -- those that the later stream has and the earlier has not
-pub added_messages : (f f' : Feed) (new : List Message) → f'.limit ≤ 262144 → (said f').messages ≡ (said f).messages ++ new → All IsMessage new
+pub added_messages : (f f' : Feed) (new : List Message) → f'.limit ≤ MAX_MESSAGE → (said f').messages ≡ (said f).messages ++ new → All IsMessage new
 added_messages f f' new few e = back_of (said f).messages new (subst (All IsMessage) e (streams_messages f'.limit f'.fed few))
 
-added_is : (f f' : Feed) (whole whole' : List Message) → f'.limit ≤ 262144 → Adds f f' whole whole' → All IsMessage whole → All IsMessage whole'
+added_is : (f f' : Feed) (whole whole' : List Message) → f'.limit ≤ MAX_MESSAGE → Adds f f' whole whole' → All IsMessage whole → All IsMessage whole'
 added_is f f' whole whole' few a h = appended whole a.new whole' a.gives h (added_messages f f' a.new few a.says_new)
 
-front_is : (f f' : Feed) (whole whole' : List Message) → f'.limit ≤ 262144 → AddsFront f f' whole whole' → All IsMessage whole → All IsMessage whole'
+front_is : (f f' : Feed) (whole whole' : List Message) → f'.limit ≤ MAX_MESSAGE → AddsFront f f' whole whole' → All IsMessage whole → All IsMessage whole'
 front_is f f' whole whole' few a h =
     let more : All IsMessage (a.new ++ a.left []) = back_of (said f).messages (a.new ++ a.left []) (subst (All IsMessage) (a.says_new []) (streams_messages f'.limit (f'.fed ++ []) few)) in
     appended whole a.new whole' a.gives h (front_of a.new (a.left []) more)
 
-lacking : (f f' : Feed) (whole whole' : List Message) (b : Bool) → f.lacked ≡ b → f'.limit ≤ 262144 → (f.lacked ≡ false → AddsFront f f' whole whole') → (f.lacked ≡ true → whole' ≡ whole)
+lacking : (f f' : Feed) (whole whole' : List Message) (b : Bool) → f.lacked ≡ b → f'.limit ≤ MAX_MESSAGE → (f.lacked ≡ false → AddsFront f f' whole whole') → (f.lacked ≡ true → whole' ≡ whole)
     → All IsMessage whole → All IsMessage whole'
 lacking f f' whole whole' true e few front same h = subst (All IsMessage) (sym (same e)) h
 lacking f f' whole whole' false e few front same h = front_is f f' whole whole' few (front e) h
@@ -316,9 +317,9 @@ reads_messages (Err NoMemory) limit bytes whole whole' few r h =
     appended whole r.new whole' r.gives h (front_of r.new r.left (subst (All IsMessage) r.says_new (streams_messages limit bytes few)))
 
 -- a feed into an empty list
-pub first_messages : (result : Result (Unit {0}) FeedFault) (f f' : Feed) (whole whole' : List Message) → whole ≡ [] → f'.limit ≤ 262144 → Tells result f f' whole whole' → All IsMessage whole'
+pub first_messages : (result : Result (Unit {0}) FeedFault) (f f' : Feed) (whole whole' : List Message) → whole ≡ [] → f'.limit ≤ MAX_MESSAGE → Tells result f f' whole whole' → All IsMessage whole'
 first_messages result f f' whole whole' e few t = feeds_messages result f f' whole whole' few t (subst (All IsMessage) (sym e) none_is)
 
 -- a feed whose framer keeps its limit
-pub more_messages : (result : Result (Unit {0}) FeedFault) (f f' : Feed) (whole whole' : List Message) → f'.limit ≡ f.limit → f.limit ≤ 262144 → Tells result f f' whole whole' → All IsMessage whole → All IsMessage whole'
+pub more_messages : (result : Result (Unit {0}) FeedFault) (f f' : Feed) (whole whole' : List Message) → f'.limit ≡ f.limit → f.limit ≤ MAX_MESSAGE → Tells result f f' whole whole' → All IsMessage whole → All IsMessage whole'
 more_messages result f f' whole whole' e few t h = feeds_messages result f f' whole whole' (omega (arith, e, few)) t h

@@ -2,6 +2,7 @@
 use Rattle.std.proofs.Common.{◌≡◌, ℕ, ◌+◌, ◌/◌, ◌%◌, ◌^◌, ◌<◌, ◌≤◌, true, false, ◌==◌, ◌&&◌, cond, Bool, List, [], ◌∷◌, ◌++◌, length, refl, sym, ap, ◌∙◌, subst, arith, length-append}
 use Rattle.std.specs.Int.{w32, byte_len}
 use Rattle.std.proofs.lemmas.List.{take_at}
+use Rattle.orb_base.specs.declared.limits.TheConstants.{MAX_MESSAGE}
 use Rattle.orb_base.specs.declared.order.Order.{Order}
 use Rattle.orb_base.specs.declared.order.Order.TheVariants.{Big, Little}
 use Rattle.cdr_core.specs.Field.{number_bytes}
@@ -25,7 +26,7 @@ pub record IsHeaded (m : Frames.Message) : Type 0 where
   pub unfragmented : flags / 2 % 2 ≡ 0
   pub few_kinds : m.kind ≤ 6
   pub long : 12 ≤ length m.bytes
-  pub short : length m.bytes ≤ 262144
+  pub short : length m.bytes ≤ MAX_MESSAGE
   pub parts : m.bytes ≡ header m.order flags m.kind (length behind) ++ behind
 
 -- the first twelve bytes, and those behind them

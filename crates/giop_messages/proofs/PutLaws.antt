@@ -5,6 +5,7 @@ use Rattle.std.proofs.lemmas.List.Concat.{flat_map-cons}
 use Rattle.std.proofs.lemmas.List.{append-nil}
 use Rattle.orb_base.specs.declared.no_memory.NoMemory.{NoMemory}
 use Rattle.std.specs.Int.{w32}
+use Rattle.orb_base.specs.declared.limits.TheConstants.{MAX_MESSAGE}
 use Rattle.orb_base.specs.declared.order.Order.{Order}
 use Rattle.cdr_core.specs.Field.{Field, number, field_end, fields_end, string_fields, number_bytes}
 use Rattle.cdr_core.specs.Spelling.{fields_bytes}
@@ -104,7 +105,7 @@ no_body p (b ∷ body) e = absurd (omega arith)
 
 -- ---- whole messages
 
-pub length_known : (order : Order) (message : Message) (n : ℕ) → n ≡ held (length (spelled order message)) → length (spelled order message) ≤ 262144
+pub length_known : (order : Order) (message : Message) (n : ℕ) → n ≡ held (length (spelled order message)) → length (spelled order message) ≤ MAX_MESSAGE
     → n - 12 ≡ length (fields_bytes order 12 (all_fields message))
 length_known order message n e short =
     let inner : List ℕ = fields_bytes order 12 (all_fields message) in
@@ -122,7 +123,7 @@ empty_end : (order : Order) (old mid : Page) (kind size : ℕ) → old ≡ page 
 empty_end order old mid kind size e m = place_of old mid (header_fields order kind size) m ∙ ap (λ (p : Page). fields_end p.place (header_fields order kind size)) e
 
 pub message_room : (order : Order) (message : Message) (old mid : Page) (kind size : ℕ) → old ≡ page order 0 [] → mid ≡ written old (header_fields order kind size)
-    → length (spelled order message) ≤ 262144 → fields_end mid.place (all_fields message) < 2 ^ 32
+    → length (spelled order message) ≤ MAX_MESSAGE → fields_end mid.place (all_fields message) < 2 ^ 32
 message_room order message old mid kind size e m short =
     let same : fields_end mid.place (all_fields message) ≡ length (spelled order message) =
     ap (λ (n : ℕ). fields_end n (all_fields message)) (empty_end order old mid kind size e m) ∙ sym (length-spelled_message order message) in

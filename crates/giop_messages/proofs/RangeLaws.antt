@@ -4,6 +4,7 @@ use Rattle.std.specs.List.{All, flat_map}
 use Rattle.std.specs.Int.{w8, w16, w32}
 use Rattle.std.proofs.lemmas.Bool.{cases_lt}
 use Rattle.std.proofs.lemmas.List.{get_or_default}
+use Rattle.orb_base.specs.declared.limits.TheConstants.{MAX_MESSAGE}
 use Rattle.orb_base.specs.declared.no_memory.NoMemory.{NoMemory}
 use Rattle.orb_base.specs.declared.order.Order.{Order}
 use Rattle.orb_base.specs.Tagged.{Context, Tagged}
@@ -95,10 +96,10 @@ message_fits close h s room = tt
 message_fits error h s room = tt
 
 -- bytes that spell a message of the program are read as that message
-pub reads_put : (r : Result (Unit {0}) NoMemory) (order : Order) (m : Message) (bytes : List ℕ) → InRange m → HasStatus m → length (spelled order m) ≤ 262144
+pub reads_put : (r : Result (Unit {0}) NoMemory) (order : Order) (m : Message) (bytes : List ℕ) → InRange m → HasStatus m → length (spelled order m) ≤ MAX_MESSAGE
     → OnOk r (bytes ≡ spelled order m) → OnOk r (ReadsIn order m bytes)
 reads_put (Ok x) order m bytes h s short e =
-    let room : fields_end 12 (all_fields m) ≤ 262144 = omega (arith, short, length-spelled_message order m) in
+    let room : fields_end 12 (all_fields m) ≤ MAX_MESSAGE = omega (arith, short, length-spelled_message order m) in
     subst (λ (b : List ℕ). ReadsIn order m b) (sym e)
     (spelled_reads order m (message_fits m h s (omega (arith, room))) (omega (arith, room, fields_end-is order 12 (all_fields m))))
 reads_put (Err x) order m bytes h s short e = tt

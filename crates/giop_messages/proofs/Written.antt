@@ -2,6 +2,7 @@
 use Rattle.std.proofs.Common.{◌≡◌, ℕ, ◌+◌, ◌^◌, ◌<◌, ◌≤◌, Bool, true, false, cond, List, [], ◌∷◌, ◌++◌, length, take, drop, Some, None, refl, ap, sym, ◌∙◌, arith, length-append}
 use Rattle.std.specs.Int.{w32, byte_len}
 use Rattle.std.proofs.lemmas.List.{take_at}
+use Rattle.orb_base.specs.declared.limits.TheConstants.{MAX_MESSAGE}
 use Rattle.orb_base.specs.declared.order.Order.{Order}
 use Rattle.orb_base.specs.declared.order.Order.TheVariants.{Big, Little}
 use Rattle.cdr_core.specs.Field.{Field, number, number_bytes}
@@ -86,7 +87,7 @@ record IsLone (order : Order) (message : Message) (bytes : List ℕ) : Type 0 wh
   pub kind : Pieces.kind_of bytes ≡ kind_of message
   pub size : length bytes ≡ piece_len bytes
 
-lone_is : (order : Order) (message : Message) → length (spelled order message) ≤ 262144 → IsLone order message (spelled order message)
+lone_is : (order : Order) (message : Message) → length (spelled order message) ≤ MAX_MESSAGE → IsLone order message (spelled order message)
 lone_is order message short =
     let inner : List ℕ = fields_bytes order 12 (all_fields message) in
     let len : length (spelled order message) ≡ 12 + length inner = length_is order (kind_of message) inner in
@@ -167,7 +168,7 @@ whole_is at order message i k = record { at = at; order = i.its_order k; kind = 
 abbrev only : List Frames.Message → Said
 only messages = record { messages = messages; rest = None; bad = None }
 
-written_ahead : (limit at : ℕ) (messages : List (Order × Message)) → limit ≤ 262144 → AreWritten limit messages
+written_ahead : (limit at : ℕ) (messages : List (Order × Message)) → limit ≤ MAX_MESSAGE → AreWritten limit messages
     → ahead limit [] at (written_bytes messages) ≡ only (wholes_from at messages)
 written_ahead limit at [] few w = empty_ahead limit at
 written_ahead limit at (m ∷ later) few w =
