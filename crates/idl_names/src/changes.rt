@@ -2,7 +2,7 @@
 ghost use Rattle.std.specs.Prelude.{◌≡◌};
 ghost use Rattle.grammar.specs.Gives.{Acts};
 ghost use Rattle.idl_tokens.specs.Placed.{seen};
-ghost use Rattle.idl_scopes.specs.Views.{sort_of};
+ghost use Rattle.idl_scopes.specs.Declarations.{sort_of};
 ghost use Rattle.idl_names.specs.Changes as Spec;
 ghost use Rattle.idl_names.specs.Memory.{HadMemory};
 ghost use Rattle.idl_names.specs.Views.{built_of, sized_of, thing_of};
