@@ -3,6 +3,7 @@ use Rattle.std.specs.Prelude.{map}
 use Rattle.std.specs.Option.{option_map}
 use Rattle.cdr_values.specs.Kinds.{kind_of, members_view, cases_view}
 use Rattle.idl_constants.specs.Views.{value_of}
+use Rattle.idl_scopes.specs.Inherited.{list_of}
 use Rattle.idl_scopes.specs.Views.{table_of}
 use Rattle.idl_names.specs.Sizes as z
 use Rattle.idl_names.specs.State as t
@@ -42,7 +43,7 @@ valued_of x = record { value = value_of x.value; at = x.at; literal = x.literal 
 
 -- the parts of a declaration
 abbrev pub parts_of : Parts → t.Parts
-parts_of p = record { bases = p.bases.items; given = p.given.keys; members = members_view p.members.items; enumerators = p.enumerators.items; discriminator = kind_of p.discriminator; cases = cases_view p.cases.items; taken = p.taken.keys; labels = p.labels.items; is_default = p.is_default; readonly = p.readonly; oneway = p.oneway; way = p.way; result = option_map kind_of p.result; params = map param_of p.params.items; raises = p.raises.items; leaves = p.leaves; levels = p.levels }
+parts_of p = record { bases = p.bases.items; given = list_of p.given; members = members_view p.members.items; enumerators = p.enumerators.items; discriminator = kind_of p.discriminator; cases = cases_view p.cases.items; taken = p.taken.keys; labels = p.labels.items; is_default = p.is_default; readonly = p.readonly; oneway = p.oneway; way = p.way; result = option_map kind_of p.result; params = map param_of p.params.items; raises = p.raises.items; leaves = p.leaves; levels = p.levels }
 
 -- all that is known
 abbrev pub built_of : Names → t.Built

@@ -14,13 +14,3 @@ pub(crate) fn add_places(found: &mut IndexSet<u32>, places: &[u32]) -> Result<()
     }
     Ok(())
 }
-
-/// The same of scopes.
-pub(crate) fn add_scopes(found: &mut IndexSet<usize>, scopes: &[usize]) -> Result<(), NoMemory>
-    ensures { OnOk result (found.new.keys ≡ and_each found.old.keys scopes.now) }
-{
-    for scope in scopes {
-        found.insert(*scope)?;
-    }
-    Ok(())
-}

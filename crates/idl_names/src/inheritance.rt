@@ -13,7 +13,7 @@ use crate::sizes::plus;
 use crate::state::{Names, Parts, Search, Thing};
 use grammar::ReadError;
 use idl_grammar::IdlCause;
-use idl_scopes::Sort;
+use idl_scopes::{Inherited, Sort};
 use indexmap::IndexSet;
 use orb_base::NoMemory;
 use std::alloc::Global;
@@ -76,8 +76,9 @@ impl Names {
     fn base_clashes(&self) -> Result<bool, NoMemory>
         ensures { IfOk result (λ b. b ≡ Spec.base_clashes (built_of self.now)) }
     {
+        let earlier = self.parts.given.to_vec(self.alloc)?;
         let later = self.scopes.scopes_of(self.meant())?;
-        self.scopes.bases_clash(self.parts.given.as_slice(), &later)
+        self.scopes.bases_clash(&earlier, &later)
     }
 
     /// The name is one more base.
@@ -85,9 +86,12 @@ impl Names {
         ensures { Acts result (built_of self.new) (Spec.with_base (built_of self.old)) }
     {
         let base = self.meant();
-        let scopes = with_memory(self.scopes.scopes_of(base))?;
         self.search = Search::Fresh;
-        with_memory(self.parts.add_base(base, &scopes))
+        with_memory(self.scopes.inherit(base, &mut self.parts.given))?;
+        match self.parts.bases.push(base) {
+            Ok(()) => Ok(()),
+            Err(_) => Err(ReadError::NoMemory),
+        }
     }
 
     /// The name is to be a base.
@@ -119,19 +123,12 @@ impl Names {
         self.count(leaves, self.newest_place())
     }
 
-    /// The scopes that the bases give.
-    fn given(&self) -> Result<Vec<usize>, NoMemory>
-        ensures { IfOk result (λ v. v.items ≡ (built_of self.now).parts.given) }
-    {
-        Ok(Vec::from_slice(self.alloc, self.parts.given.as_slice())?)
-    }
-
     /// The interface is known with its bases, and its body opens.
     pub(crate) fn open_interface(&mut self) -> Done
         ensures { Acts result (built_of self.new) (Spec.open_interface (built_of self.old)) }
     {
         let operations = with_memory(self.inherited())?;
-        let scopes = with_memory(self.given())?;
+        let scopes = mem::replace(&mut self.parts.given, Inherited::new(self.alloc));
         let bases = mem::replace(&mut self.parts.bases, Vec::new(self.alloc));
         let thing = Thing::Interface(bases, operations);
         self.finish(self.newest(), Sort::Interface(scopes), thing);

@@ -4,10 +4,8 @@ ghost use Rattle.std.specs.Bool.{OnTrue};
 ghost use Rattle.std.specs.List.{list_any};
 ghost use Rattle.cdr_values.specs.Kinds.{cases_view};
 ghost use Rattle.idl_names.specs.Bodies as Spec;
-ghost use Rattle.idl_names.specs.Interfaces.{and_base};
 ghost use Rattle.idl_names.specs.Views.{parts_of, sized_of};
 
-use crate::each::add_scopes;
 use crate::sizes::{SizedType, plus};
 use crate::state::Parts;
 use cdr_values::{Case, Member};
@@ -30,15 +28,6 @@ fn is_default_in(cases: &[Case]) -> bool
 }
 
 impl Parts {
-    /// One more base, which gives these scopes.
-    pub(crate) fn add_base(&mut self, base: u32, scopes: &[usize]) -> Result<(), NoMemory>
-        ensures { OnOk result (parts_of self.new ≡ and_base base scopes.now (parts_of self.old)) }
-    {
-        add_scopes(&mut self.given, scopes)?;
-        self.bases.push(base)?;
-        Ok(())
-    }
-
     /// A part adds its leaves, and lifts the levels.
     pub(crate) fn add_part(&mut self, kind: &SizedType)
         ensures { parts_of self.new ≡ Spec.with_part (sized_of kind.now) (parts_of self.old) }

@@ -7,7 +7,7 @@ ghost use Rattle.idl_names.specs.Views.{built_of, parts_of, thing_of};
 use crate::sizes::SizedType;
 use cdr_values::{Case, IdlType, Member};
 use idl_constants::ConstValue;
-use idl_scopes::{Place, Scopes};
+use idl_scopes::{Inherited, Place, Scopes};
 use idl_types::{Operation, Param, Way};
 use indexmap::IndexSet;
 use orb_base::{List, Text};
@@ -51,7 +51,7 @@ pub(crate) struct Valued {
 pub(crate) struct Parts {
     pub bases: Vec<u32>,
     /// The scopes that they give.
-    pub given: IndexSet<usize>,
+    pub given: Inherited,
     pub members: Vec<Member>,
     pub enumerators: Vec<Text>,
     pub discriminator: IdlType,
@@ -96,7 +96,7 @@ impl Parts {
     {
         Parts {
             bases: Vec::new(alloc),
-            given: IndexSet::new(alloc),
+            given: Inherited::new(alloc),
             members: Vec::new(alloc),
             enumerators: Vec::new(alloc),
             discriminator: IdlType::Octet,

@@ -7,7 +7,10 @@ pub mod FirstBase
 pub mod Grouping
 pub mod AddedKeys
 pub mod FinishedPlaces
+pub mod Marking
 pub mod NamedKeys
 pub mod NoHolders
 pub mod NotTaken
+pub mod PartLookups
 pub mod PlacedRows
+pub mod SharedParts

@@ -1,6 +1,7 @@
 -- What a declaration of the program stands for, and its key.
 use Rattle.std.specs.Prelude.{ℕ, List}
 use Rattle.idl_scopes.specs.Table as t
+use Rattle.idl_scopes.specs.Inherited.{list_of}
 use Rattle.idl_scopes.specs.declared.sort.Sort.{Sort}
 use Rattle.idl_scopes.specs.declared.sort.Sort.TheVariants as v
 use Rattle.idl_scopes.specs.declared.known.Known.{Known}
@@ -10,7 +11,7 @@ use Rattle.idl_scopes.specs.declared.declared.Declared.{Declared}
 abbrev pub sort_of : Sort → t.Sort
 sort_of v.Unfinished = t.unfinished
 sort_of v.Module = t.module_
-sort_of (v.Interface scopes) = t.interface scopes.items
+sort_of (v.Interface scopes) = t.interface (list_of scopes)
 sort_of v.Operation = t.operation
 sort_of v.Other = t.other
 

@@ -6,5 +6,8 @@ pub mod Declaring
 pub mod Bases
 pub mod Groups
 pub mod Ids
+pub mod Each
+pub mod Inherited
+pub mod Marks
 pub mod Declarations
 pub mod Views

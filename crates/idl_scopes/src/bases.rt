@@ -1,13 +1,15 @@
 //! The bases of interfaces.
-ghost use Rattle.std.specs.Prelude.{◌≡◌, IfOk};
+ghost use Rattle.std.specs.Prelude.{◌≡◌, ◌++◌, ◌∷◌, IfOk, OnOk};
 ghost use Rattle.std.specs.List.{list_any};
 ghost use Rattle.idl_scopes.specs.Bases.{holds, differs, bases_clash};
 ghost use Rattle.idl_scopes.specs.Finding.{among, inherited, sort_at, scopes_of};
+ghost use Rattle.idl_scopes.specs.Each.{and_each};
 ghost use Rattle.idl_scopes.specs.Groups.{clashes_at, clashes_in};
+ghost use Rattle.idl_scopes.specs.Inherited.{list_of};
 ghost use Rattle.idl_scopes.specs.Declarations.{sort_of};
 ghost use Rattle.idl_scopes.specs.Views.{table_of};
 
-use crate::{Scopes, Sort};
+use crate::{Inherited, Scopes, Sort};
 use orb_base::NoMemory;
 use std::alloc::Global;
 
@@ -28,31 +30,39 @@ fn differs(a: Option<usize>, b: Option<usize>) -> bool
     }
 }
 
-/// Copies of places.
-fn copied(alloc: Global, places: &[usize]) -> Result<Vec<usize>, NoMemory>
-    ensures { IfOk result (λ v. v.items ≡ places.now) }
-{
-    Ok(Vec::from_slice(alloc, places)?)
-}
-
-/// The scopes that such a declaration inherits.
-fn scopes_in(alloc: Global, sort: &Sort) -> Result<Vec<usize>, NoMemory>
-    ensures { IfOk result (λ v. v.items ≡ inherited (sort_of sort.now)) }
+/// Puts the scopes that such a declaration inherits behind others.
+fn put_inherited(sort: &Sort, scopes: &mut Vec<usize>) -> Result<(), NoMemory>
+    ensures { OnOk result (scopes.new.items ≡ scopes.old.items ++ inherited (sort_of sort.now)) }
 {
     match sort {
-        Sort::Interface(scopes) => copied(alloc, scopes),
-        _ => Ok(Vec::new(alloc)),
+        Sort::Interface(inherited) => inherited.put_behind(scopes),
+        _ => Ok(()),
+    }
+}
+
+/// The scope of a base and those that it inherits, as far as they aren't among these.
+fn inherit_from(
+    alloc: Global,
+    scope: usize,
+    sort: &Sort,
+    given: &mut Inherited,
+) -> Result<(), NoMemory>
+    ensures { OnOk result (list_of given.new ≡ and_each (list_of given.old) (scope ∷ inherited (sort_of sort.now))) }
+{
+    match sort {
+        Sort::Interface(inherited) => given.inherit(alloc, scope, inherited),
+        _ => given.inherit(alloc, scope, &Inherited::new(alloc)),
     }
 }
 
 impl Scopes {
-    /// The scopes that the declaration at a place inherits.
-    fn inherited_at(&self, at: usize) -> Result<Vec<usize>, NoMemory>
-        ensures { IfOk result (λ v. v.items ≡ inherited (sort_at (table_of self.now) at)) }
+    /// Puts the scopes that the declaration at a place inherits behind others.
+    fn put_inherited_at(&self, at: usize, scopes: &mut Vec<usize>) -> Result<(), NoMemory>
+        ensures { OnOk result (scopes.new.items ≡ scopes.old.items ++ inherited (sort_at (table_of self.now) at)) }
     {
         match self.rows.declared.get(at) {
-            Some(declared) => scopes_in(self.alloc, &declared.sort),
-            None => Ok(Vec::new(self.alloc)),
+            Some(declared) => put_inherited(&declared.sort, scopes),
+            None => Ok(()),
         }
     }
 
@@ -62,9 +72,20 @@ impl Scopes {
     {
         let mut scopes = Vec::new(self.alloc);
         scopes.push(base as usize + 1)?;
-        let inherited = self.inherited_at(base as usize)?;
-        scopes.extend_from_slice(&inherited)?;
+        self.put_inherited_at(base as usize, &mut scopes)?;
         Ok(scopes)
+    }
+
+    /// Gives the scopes of a base to an interface: those that aren't among its scopes stand behind them. A few steps for each
+    /// scope of both; a base's long list is shared and not copied, where none of its scopes stands there before.
+    pub fn inherit(&self, base: u32, given: &mut Inherited) -> Result<(), NoMemory>
+        ensures { OnOk result (list_of given.new ≡ and_each (list_of given.old) (scopes_of (table_of self.now) base)) }
+    {
+        let scope = base as usize + 1;
+        match self.rows.declared.get(base as usize) {
+            Some(declared) => inherit_from(self.alloc, scope, &declared.sort, given),
+            None => given.inherit(self.alloc, scope, &Inherited::new(self.alloc)),
+        }
     }
 
     /// Whether a name means one thing in the earlier scopes and another in the later ones.

@@ -3,12 +3,13 @@ ghost use Rattle.std.specs.Prelude.{◌≡◌, ◌-◌, IfOk, false, true};
 ghost use Rattle.idl_scopes.specs.Bases.{holds};
 ghost use Rattle.idl_scopes.specs.Finding.{place_in, own, inherited, above, among, inside, outwards, looked_up, inside_of, module_in, sort_at, scopes_of, is_operation, is_module};
 ghost use Rattle.idl_scopes.specs.Groups.{AreHolders};
+ghost use Rattle.idl_scopes.specs.Inherited.{in_parts, list_of};
 ghost use Rattle.idl_scopes.specs.Declarations.{sort_of};
 ghost use Rattle.idl_scopes.specs.Views.{table_of};
 
 use crate::bases::holds;
-use crate::{Scopes, Sort};
-use orb_base::NoMemory;
+use crate::{Inherited, Scopes, Sort};
+use orb_base::{Arc, NoMemory};
 
 /// So many scopes that may have a name are compared before they are looked up.
 const MOST_COMPARED: usize = 64;
@@ -69,6 +70,42 @@ impl Scopes {
         self.own(name, scope)
     }
 
+    /// The first of several scopes that has the name gives it, where the name's scopes are known.
+    fn among_held(
+        &self,
+        name: &[u8],
+        holders: &[usize],
+        scopes: &[usize],
+    ) -> Result<Option<usize>, NoMemory>
+        requires { AreHolders (table_of self.now) name.now holders.now }
+        ensures { IfOk result (λ o. o ≡ among (table_of self.now) name.now scopes.now) }
+    {
+        for scope in scopes {
+            if let Some(at) = self.own_of(name, holders, *scope)? {
+                return Ok(Some(at));
+            }
+        }
+        Ok(None)
+    }
+
+    /// The same of scopes in parts.
+    fn among_parts(
+        &self,
+        name: &[u8],
+        holders: &[usize],
+        parts: &[Arc<Vec<usize>>],
+    ) -> Result<Option<usize>, NoMemory>
+        requires { AreHolders (table_of self.now) name.now holders.now }
+        ensures { IfOk result (λ o. o ≡ among (table_of self.now) name.now (in_parts parts.now)) }
+    {
+        for part in parts {
+            if let Some(at) = self.among_held(name, holders, part.get())? {
+                return Ok(Some(at));
+            }
+        }
+        Ok(None)
+    }
+
     /// The first of several scopes that has the name gives it. One look-up where no scope of the text has the name; a few
     /// comparisons for each of the several where few have it, and a look-up for each of these; and where more than 64 have
     /// it, a look-up for each of the several.
@@ -79,12 +116,25 @@ impl Scopes {
         if holders.is_empty() {
             return Ok(None);
         }
-        for scope in scopes {
-            if let Some(at) = self.own_of(name, holders, *scope)? {
-                return Ok(Some(at));
-            }
+        self.among_held(name, holders, scopes)
+    }
+
+    /// The same of the scopes that an interface inherits.
+    fn among_listed(&self, name: &[u8], scopes: &Inherited) -> Result<Option<usize>, NoMemory>
+        ensures { IfOk result (λ o. o ≡ among (table_of self.now) name.now (list_of scopes.now)) }
+    {
+        let holders = self.holders(name)?;
+        if holders.is_empty() {
+            return Ok(None);
         }
-        Ok(None)
+        if let Some(at) = self.among_held(name, holders, &scopes.front)? {
+            return Ok(Some(at));
+        }
+        if let Some(at) = self.among_parts(name, holders, &scopes.parts)? {
+            return Ok(Some(at));
+        }
+        let last = self.among_held(name, holders, &scopes.back)?;
+        Ok(last)
     }
 
     /// The name among those that such a declaration inherits.
@@ -92,7 +142,7 @@ impl Scopes {
         ensures { IfOk result (λ o. o ≡ among (table_of self.now) name.now (inherited (sort_of sort.now))) }
     {
         match sort {
-            Sort::Interface(scopes) => self.among(name, scopes),
+            Sort::Interface(scopes) => self.among_listed(name, scopes),
             _ => Ok(None),
         }
     }

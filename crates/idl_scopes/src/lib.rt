@@ -14,8 +14,10 @@ mod finding;
 mod groups;
 mod ids;
 mod index;
+mod inherited;
 mod keywords;
 mod known;
+mod marks;
 mod place;
 mod rows;
 mod scopes;
@@ -24,6 +26,7 @@ mod taking;
 
 pub use declared::Declared;
 pub use fault::DeclareFault;
+pub use inherited::Inherited;
 pub use place::Place;
 pub use scopes::Scopes;
 pub use sort::Sort;

@@ -3,6 +3,8 @@ ghost use Rattle.std.specs.Prelude.{◌≡◌};
 ghost use Rattle.idl_scopes.specs.Finding.{is_finished, is_module, is_operation};
 ghost use Rattle.idl_scopes.specs.Declarations.{sort_of};
 
+use crate::Inherited;
+
 /// What was declared, as far as looking up needs it.
 #[derive(Debug, Drop)]
 pub enum Sort {
@@ -11,7 +13,7 @@ pub enum Sort {
     /// A module, which may be opened again.
     Module,
     /// An interface, with all scopes whose names it inherits, in the order of looking up.
-    Interface(Vec<usize>),
+    Interface(Inherited),
     /// An operation or an attribute.
     Operation,
     /// Anything else.

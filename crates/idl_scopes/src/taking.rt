@@ -4,14 +4,15 @@ ghost use Rattle.std.specs.List.{list_any};
 ghost use Rattle.std.specs.Str.{str_eq_ignore_ascii_case};
 ghost use Rattle.idl_scopes.specs.Finding.{is_at, inherited, above, sort_at};
 ghost use Rattle.idl_scopes.specs.Groups.{AreHolders};
+ghost use Rattle.idl_scopes.specs.Inherited.{in_parts, list_of};
 ghost use Rattle.idl_scopes.specs.Taking.{is_in, is_named, is_named_in, is_owner, is_operation_in, is_taken_part, is_taken};
 ghost use Rattle.idl_scopes.specs.Declarations.{declared_of, sort_of};
 ghost use Rattle.idl_scopes.specs.Views.{table_of};
 
 use crate::finding::lacks;
 use crate::keywords::is_keyword;
-use crate::{Declared, Scopes, Sort};
-use orb_base::NoMemory;
+use crate::{Declared, Inherited, Scopes, Sort};
+use orb_base::{Arc, NoMemory};
 
 /// Whether a declaration has this name, case aside.
 fn is_named(declared: &Declared, name: &[u8]) -> bool
@@ -67,14 +68,16 @@ impl Scopes {
         self.is_operation_in(name, scope)
     }
 
-    /// Whether one of these scopes has.
-    fn is_operation_among(&self, name: &[u8], scopes: &[usize]) -> Result<bool, NoMemory>
+    /// Whether one of these scopes has, where the name's scopes are known.
+    fn is_operation_held(
+        &self,
+        name: &[u8],
+        holders: &[usize],
+        scopes: &[usize],
+    ) -> Result<bool, NoMemory>
+        requires { AreHolders (table_of self.now) name.now holders.now }
         ensures { IfOk result (λ b. b ≡ list_any (is_operation_in (table_of self.now) name.now) scopes.now) }
     {
-        let holders = self.holders(name)?;
-        if holders.is_empty() {
-            return Ok(false);
-        }
         for scope in scopes {
             if self.is_operation_of(name, holders, *scope)? {
                 return Ok(true);
@@ -83,12 +86,48 @@ impl Scopes {
         Ok(false)
     }
 
+    /// The same of scopes in parts.
+    fn is_operation_in_parts(
+        &self,
+        name: &[u8],
+        holders: &[usize],
+        parts: &[Arc<Vec<usize>>],
+    ) -> Result<bool, NoMemory>
+        requires { AreHolders (table_of self.now) name.now holders.now }
+        ensures { IfOk result (λ b. b ≡ list_any (is_operation_in (table_of self.now) name.now) (in_parts parts.now)) }
+    {
+        for part in parts {
+            if self.is_operation_held(name, holders, part.get())? {
+                return Ok(true);
+            }
+        }
+        Ok(false)
+    }
+
+    /// Whether one of the scopes that an interface inherits has.
+    fn is_operation_listed(&self, name: &[u8], scopes: &Inherited) -> Result<bool, NoMemory>
+        ensures { IfOk result (λ b. b ≡ list_any (is_operation_in (table_of self.now) name.now) (list_of scopes.now)) }
+    {
+        let holders = self.holders(name)?;
+        if holders.is_empty() {
+            return Ok(false);
+        }
+        if self.is_operation_held(name, holders, &scopes.front)? {
+            return Ok(true);
+        }
+        if self.is_operation_in_parts(name, holders, &scopes.parts)? {
+            return Ok(true);
+        }
+        let last = self.is_operation_held(name, holders, &scopes.back)?;
+        Ok(last)
+    }
+
     /// Whether such a declaration inherits one.
     fn inherits_operation(&self, name: &[u8], sort: &Sort) -> Result<bool, NoMemory>
         ensures { IfOk result (λ b. b ≡ list_any (is_operation_in (table_of self.now) name.now) (inherited (sort_of sort.now))) }
     {
         match sort {
-            Sort::Interface(scopes) => self.is_operation_among(name, scopes),
+            Sort::Interface(scopes) => self.is_operation_listed(name, scopes),
             _ => Ok(false),
         }
     }
