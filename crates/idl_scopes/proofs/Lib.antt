@@ -4,6 +4,7 @@ pub mod AmongScopes
 pub mod AnyOf
 pub mod ClashingScopes
 pub mod FirstBase
+pub mod GatheredScopes
 pub mod Grouping
 pub mod AddedKeys
 pub mod FinishedPlaces

@@ -1,11 +1,12 @@
 -- A name that no scope has is in none of several.
 use Rattle.std.proofs.Common.{◌≡◌, ◌||◌, ℕ, true, false, List, [], ◌∷◌, length, Option, Some, None, refl, ap, ◌∙◌}
 use Rattle.std.specs.List.{list_any}
+use Rattle.std.proofs.lemmas.Bool.{false_from_ne_true}
 use Rattle.idl_scopes.specs.Table.{Table}
 use Rattle.idl_scopes.specs.Bases.{holds}
 use Rattle.idl_scopes.specs.Finding.{place_in, if_spelled, or_else, among}
-use Rattle.idl_scopes.specs.Groups.{AreHolders}
-use Rattle.idl_scopes.specs.Taking.{is_operation_there, is_operation_in}
+use Rattle.idl_scopes.specs.Groups.{AreHolders, AreOwners}
+use Rattle.idl_scopes.specs.Taking.{is_operation_in}
 
 module _ (t : Table) (name : List ℕ) where
   none_of : (holders : List ℕ) → length holders ≡ 0 → (scope : ℕ) → holds holders scope ≡ true → ⊥
@@ -23,6 +24,9 @@ module _ (t : Table) (name : List ℕ) where
   among_none holders [] all e = refl
   among_none holders (s ∷ ss) all e = ap (λ o. or_else (if_spelled t name o) (among t name ss)) (nowhere holders all e s) ∙ among_none holders ss all e
 
-  pub no_operation : (holders scopes : List ℕ) → AreHolders t name holders → length holders ≡ 0 → list_any (is_operation_in t name) scopes ≡ false
-  no_operation holders [] all e = refl
-  no_operation holders (s ∷ ss) all e = ap (λ o. is_operation_there t o || list_any (is_operation_in t name) ss) (nowhere holders all e s) ∙ no_operation holders ss all e
+  no_owner : (owners : List ℕ) → AreOwners t name owners → length owners ≡ 0 → (scope : ℕ) → is_operation_in t name scope ≡ false
+  no_owner owners all e scope = false_from_ne_true (is_operation_in t name scope) (λ h. none_of owners e scope (all scope h))
+
+  pub no_operation : (owners scopes : List ℕ) → AreOwners t name owners → length owners ≡ 0 → list_any (is_operation_in t name) scopes ≡ false
+  no_operation owners [] all e = refl
+  no_operation owners (s ∷ ss) all e = ap (λ b. b || list_any (is_operation_in t name) ss) (no_owner owners all e s) ∙ no_operation owners ss all e

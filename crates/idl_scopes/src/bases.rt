@@ -76,8 +76,9 @@ impl Scopes {
         Ok(scopes)
     }
 
-    /// Gives the scopes of a base to an interface: those that aren't among its scopes stand behind them. A few steps for each
-    /// scope of both; a base's long list is shared and not copied, where none of its scopes stands there before.
+    /// Gives the scopes of a base to an interface: those that aren't among its scopes stand behind them. After NoMemory nothing
+    /// is known of them. A few steps for each scope of both; a base's long list is shared and not copied, where none of its
+    /// scopes stands there before.
     pub fn inherit(&self, base: u32, given: &mut Inherited) -> Result<(), NoMemory>
         ensures { OnOk result (list_of given.new ≡ and_each (list_of given.old) (scopes_of (table_of self.now) base)) }
     {

@@ -1,25 +1,14 @@
 //! Looking up names.
-ghost use Rattle.std.specs.Prelude.{◌≡◌, ◌-◌, IfOk, false, true};
-ghost use Rattle.idl_scopes.specs.Bases.{holds};
+ghost use Rattle.std.specs.Prelude.{◌≡◌, ◌-◌, IfOk, true};
 ghost use Rattle.idl_scopes.specs.Finding.{place_in, own, inherited, above, among, inside, outwards, looked_up, inside_of, module_in, sort_at, scopes_of, is_operation, is_module};
 ghost use Rattle.idl_scopes.specs.Groups.{AreHolders};
 ghost use Rattle.idl_scopes.specs.Inherited.{in_parts, list_of};
 ghost use Rattle.idl_scopes.specs.Declarations.{sort_of};
 ghost use Rattle.idl_scopes.specs.Views.{table_of};
 
-use crate::bases::holds;
+use crate::holders::Holders;
 use crate::{Inherited, Scopes, Sort};
 use orb_base::{Arc, NoMemory};
-
-/// So many scopes that may have a name are compared before they are looked up.
-const MOST_COMPARED: usize = 64;
-
-/// Whether a scope isn't among these, as far as that costs little.
-pub(crate) fn lacks(holders: &[usize], scope: usize) -> bool
-    ensures { result ≡ true → holds holders.now scope ≡ false }
-{
-    holders.len() <= MOST_COMPARED && !holds(holders, scope)
-}
 
 impl Scopes {
     /// The place of the declaration of a scope that has this name, case aside.
@@ -46,25 +35,17 @@ impl Scopes {
         }
     }
 
-    /// Scopes, among which are all that have a name, case aside. Costs a hash.
-    pub(crate) fn holders(&self, name: &[u8]) -> Result<&[usize], NoMemory>
-        ensures { IfOk result (λ scopes. AreHolders (table_of self.now) name.now scopes.now) }
-    {
-        let low = name.to_ascii_lowercase(self.alloc)?;
-        Ok(self.index.holders(&low))
-    }
-
     /// The same as `own`, where the name's scopes are known.
     fn own_of(
         &self,
         name: &[u8],
-        holders: &[usize],
+        holders: &Holders,
         scope: usize,
     ) -> Result<Option<usize>, NoMemory>
-        requires { AreHolders (table_of self.now) name.now holders.now }
+        requires { holders.now.few ≡ true → AreHolders (table_of self.now) name.now holders.now.scopes.items }
         ensures { IfOk result (λ o. o ≡ own (table_of self.now) name.now scope) }
     {
-        if lacks(holders, scope) {
+        if holders.lacks(scope) {
             return Ok(None);
         }
         self.own(name, scope)
@@ -74,10 +55,10 @@ impl Scopes {
     fn among_held(
         &self,
         name: &[u8],
-        holders: &[usize],
+        holders: &Holders,
         scopes: &[usize],
     ) -> Result<Option<usize>, NoMemory>
-        requires { AreHolders (table_of self.now) name.now holders.now }
+        requires { holders.now.few ≡ true → AreHolders (table_of self.now) name.now holders.now.scopes.items }
         ensures { IfOk result (λ o. o ≡ among (table_of self.now) name.now scopes.now) }
     {
         for scope in scopes {
@@ -92,10 +73,10 @@ impl Scopes {
     fn among_parts(
         &self,
         name: &[u8],
-        holders: &[usize],
+        holders: &Holders,
         parts: &[Arc<Vec<usize>>],
     ) -> Result<Option<usize>, NoMemory>
-        requires { AreHolders (table_of self.now) name.now holders.now }
+        requires { holders.now.few ≡ true → AreHolders (table_of self.now) name.now holders.now.scopes.items }
         ensures { IfOk result (λ o. o ≡ among (table_of self.now) name.now (in_parts parts.now)) }
     {
         for part in parts {
@@ -113,10 +94,11 @@ impl Scopes {
         ensures { IfOk result (λ o. o ≡ among (table_of self.now) name.now scopes.now) }
     {
         let holders = self.holders(name)?;
-        if holders.is_empty() {
+        if holders.is_none() {
             return Ok(None);
         }
-        self.among_held(name, holders, scopes)
+        let found = self.among_held(name, &holders, scopes)?;
+        Ok(found)
     }
 
     /// The same of the scopes that an interface inherits.
@@ -124,16 +106,16 @@ impl Scopes {
         ensures { IfOk result (λ o. o ≡ among (table_of self.now) name.now (list_of scopes.now)) }
     {
         let holders = self.holders(name)?;
-        if holders.is_empty() {
+        if holders.is_none() {
             return Ok(None);
         }
-        if let Some(at) = self.among_held(name, holders, &scopes.front)? {
+        if let Some(at) = self.among_held(name, &holders, &scopes.front)? {
             return Ok(Some(at));
         }
-        if let Some(at) = self.among_parts(name, holders, &scopes.parts)? {
+        if let Some(at) = self.among_parts(name, &holders, &scopes.parts)? {
             return Ok(Some(at));
         }
-        let last = self.among_held(name, holders, &scopes.back)?;
+        let last = self.among_held(name, &holders, &scopes.back)?;
         Ok(last)
     }
 

@@ -1,5 +1,6 @@
 //! The index of all declarations, by their scope and their name.
-ghost use Rattle.std.specs.Prelude.{◌≡◌, ◌++◌, ◌∷◌, [], ℕ, OnOk, Some, false, true, map, position};
+ghost use Rattle.std.specs.Prelude.{◌≡◌, ◌++◌, ◌∷◌, [], ℕ, OnOk, Some, false, true, map, position, slice_get};
+ghost use Rattle.std.specs.Option.{option_map};
 ghost use Rattle.std.specs.Bool.{IsTrue};
 ghost use Rattle.std.specs.List.{list_any};
 ghost use Rattle.idl_scopes.specs.Bases.{holds};
@@ -17,9 +18,9 @@ use std::alloc::Global;
 #[derive(Drop)]
 pub(crate) struct Index {
     pub known: IndexSet<Known>,
-    /// The scopes that have a name, by the name in lower case.
+    /// The places of the keys of a name, by the name in lower case.
     pub by_name: Groups<Vec<u8>>,
-    ghost named: { IsTrue (named_in by_name known.keys) },
+    ghost named: { IsTrue (named_in by_name 0 known.keys) },
 }
 
 impl Index {
@@ -47,9 +48,19 @@ impl Index {
         self.known.contains(key)
     }
 
-    /// Scopes, among which are all that have a name, which is given in lower case. Costs a hash.
-    pub(crate) fn holders(&self, low: &Vec<u8>) -> &[usize]
-        ensures { (scope i : ℕ) → position (is_at scope low.now.items) (map known_of self.now.known.keys) ≡ Some i → holds result.now scope ≡ true }
+    /// The scope of the key at a place.
+    pub(crate) fn scope_at(&self, at: usize) -> Option<usize>
+        ensures { result ≡ option_map (λ k. k.0) (slice_get (map known_of self.now.known.keys) at) }
+    {
+        match self.known.get_index(at) {
+            Some(key) => Some(key.scope),
+            None => None,
+        }
+    }
+
+    /// Places, among which are those of all keys of a name, which is given in lower case. Costs a hash.
+    pub(crate) fn places_of(&self, low: &Vec<u8>) -> &[usize]
+        ensures { (scope i : ℕ) → position (is_at scope low.now.items) (map known_of self.now.known.keys) ≡ Some i → holds result.now i ≡ true }
     {
         self.by_name.of(low)
     }
@@ -60,7 +71,7 @@ impl Index {
         ensures { OnOk result (map known_of self.new.known.keys ≡ map known_of self.old.known.keys ++ known_of key ∷ []) }
     {
         let low = Vec::from_slice(alloc, &key.name)?;
-        self.by_name.add(alloc, low, key.scope)?;
+        self.by_name.add(alloc, low, self.known.len())?;
         self.known.insert(key)?;
         Ok(())
     }

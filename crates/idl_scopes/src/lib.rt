@@ -12,6 +12,7 @@ mod declaring;
 mod fault;
 mod finding;
 mod groups;
+mod holders;
 mod ids;
 mod index;
 mod inherited;

@@ -1,15 +1,15 @@
 //! Which names are taken.
-ghost use Rattle.std.specs.Prelude.{◌≡◌, ◌-◌, IfOk, slice_get};
+ghost use Rattle.std.specs.Prelude.{◌≡◌, ◌-◌, IfOk, slice_get, true};
 ghost use Rattle.std.specs.List.{list_any};
 ghost use Rattle.std.specs.Str.{str_eq_ignore_ascii_case};
 ghost use Rattle.idl_scopes.specs.Finding.{is_at, inherited, above, sort_at};
-ghost use Rattle.idl_scopes.specs.Groups.{AreHolders};
+ghost use Rattle.idl_scopes.specs.Groups.{AreOwners};
 ghost use Rattle.idl_scopes.specs.Inherited.{in_parts, list_of};
 ghost use Rattle.idl_scopes.specs.Taking.{is_in, is_named, is_named_in, is_owner, is_operation_in, is_taken_part, is_taken};
 ghost use Rattle.idl_scopes.specs.Declarations.{declared_of, sort_of};
 ghost use Rattle.idl_scopes.specs.Views.{table_of};
 
-use crate::finding::lacks;
+use crate::holders::Holders;
 use crate::keywords::is_keyword;
 use crate::{Declared, Inherited, Scopes, Sort};
 use orb_base::{Arc, NoMemory};
@@ -52,34 +52,29 @@ impl Scopes {
         }
     }
 
-    /// Whether it has, where the name's scopes are known.
-    fn is_operation_of(
-        &self,
-        name: &[u8],
-        holders: &[usize],
-        scope: usize,
-    ) -> Result<bool, NoMemory>
-        requires { AreHolders (table_of self.now) name.now holders.now }
+    /// Whether it has, where the scopes that have one are known.
+    fn is_operation_of(&self, name: &[u8], owners: &Holders, scope: usize) -> Result<bool, NoMemory>
+        requires { owners.now.few ≡ true → AreOwners (table_of self.now) name.now owners.now.scopes.items }
         ensures { IfOk result (λ b. b ≡ is_operation_in (table_of self.now) name.now scope) }
     {
-        if lacks(holders, scope) {
+        if owners.lacks(scope) {
             return Ok(false);
         }
         self.is_operation_in(name, scope)
     }
 
-    /// Whether one of these scopes has, where the name's scopes are known.
+    /// Whether one of these scopes has, where the scopes that have one are known.
     fn is_operation_held(
         &self,
         name: &[u8],
-        holders: &[usize],
+        owners: &Holders,
         scopes: &[usize],
     ) -> Result<bool, NoMemory>
-        requires { AreHolders (table_of self.now) name.now holders.now }
+        requires { owners.now.few ≡ true → AreOwners (table_of self.now) name.now owners.now.scopes.items }
         ensures { IfOk result (λ b. b ≡ list_any (is_operation_in (table_of self.now) name.now) scopes.now) }
     {
         for scope in scopes {
-            if self.is_operation_of(name, holders, *scope)? {
+            if self.is_operation_of(name, owners, *scope)? {
                 return Ok(true);
             }
         }
@@ -90,14 +85,14 @@ impl Scopes {
     fn is_operation_in_parts(
         &self,
         name: &[u8],
-        holders: &[usize],
+        owners: &Holders,
         parts: &[Arc<Vec<usize>>],
     ) -> Result<bool, NoMemory>
-        requires { AreHolders (table_of self.now) name.now holders.now }
+        requires { owners.now.few ≡ true → AreOwners (table_of self.now) name.now owners.now.scopes.items }
         ensures { IfOk result (λ b. b ≡ list_any (is_operation_in (table_of self.now) name.now) (in_parts parts.now)) }
     {
         for part in parts {
-            if self.is_operation_held(name, holders, part.get())? {
+            if self.is_operation_held(name, owners, part.get())? {
                 return Ok(true);
             }
         }
@@ -108,17 +103,17 @@ impl Scopes {
     fn is_operation_listed(&self, name: &[u8], scopes: &Inherited) -> Result<bool, NoMemory>
         ensures { IfOk result (λ b. b ≡ list_any (is_operation_in (table_of self.now) name.now) (list_of scopes.now)) }
     {
-        let holders = self.holders(name)?;
-        if holders.is_empty() {
+        let owners = self.owners(name)?;
+        if owners.is_none() {
             return Ok(false);
         }
-        if self.is_operation_held(name, holders, &scopes.front)? {
+        if self.is_operation_held(name, &owners, &scopes.front)? {
             return Ok(true);
         }
-        if self.is_operation_in_parts(name, holders, &scopes.parts)? {
+        if self.is_operation_in_parts(name, &owners, &scopes.parts)? {
             return Ok(true);
         }
-        let last = self.is_operation_held(name, holders, &scopes.back)?;
+        let last = self.is_operation_held(name, &owners, &scopes.back)?;
         Ok(last)
     }
 
