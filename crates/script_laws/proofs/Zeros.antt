@@ -9,7 +9,7 @@ use Rattle.cdr_values.specs.Trees.{size1, size2, size4, size8, Scalar, boolean, 
 use Rattle.cdr_values.specs.Spelling.{fields_of, fields_each, fields_members, fields_chosen, both, number_field, ranged, tag_field, one_field, is_above}
 use Rattle.cdr_values.specs.Choice.{choose, kind_at}
 use Rattle.cdr_values.specs.Lawful.{is_lawful, are_lawful, cases_are_lawful, is_tag, has_member, member_names, all_labels, has_one_default, differ}
-use Rattle.cdr_values.proofs.Taking.{len_of}
+use Rattle.cdr_values.proofs.HasFields.{len_of}
 use Rattle.dynamic_servants.specs.Zeros.{zero_number, zero_of, zeros_of, zero_case}
 use Rattle.script_laws.specs.Held.{has_labels_scalar, has_labels, have_labels, cases_have_labels}
 
