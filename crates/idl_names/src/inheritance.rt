@@ -76,9 +76,7 @@ impl Names {
     fn base_clashes(&self) -> Result<bool, NoMemory>
         ensures { IfOk result (λ b. b ≡ Spec.base_clashes (built_of self.now)) }
     {
-        let earlier = self.parts.given.to_vec(self.alloc)?;
-        let later = self.scopes.scopes_of(self.meant())?;
-        self.scopes.bases_clash(&earlier, &later)
+        self.scopes.base_clashes(self.meant(), &self.parts.given)
     }
 
     /// The name is one more base.

@@ -1,5 +1,5 @@
 -- The scopes of declarations at some places.
-use Rattle.std.proofs.Common.{◌≡◌, ◌≤◌, ◌+◌, ◌<◌, ℕ, Bool, true, false, not, ◌&&◌, List, [], ◌∷◌, ◌++◌, length, drop, Option, Some, None, inl, inr, refl, sym, ap, subst, ◌∙◌, append_assoc, eqb-true, eq-eqb}
+use Rattle.std.proofs.Common.{◌≡◌, ◌≤◌, ◌+◌, ◌<◌, ℕ, Bool, true, false, not, ◌&&◌, List, [], ◌∷◌, ◌++◌, length, drop, Option, Some, None, inl, inr, refl, sym, ap, subst, ◌∙◌, eqb-true, eq-eqb}
 use Rattle.std.specs.Prelude.{slice_get, ◌==◌, if◌then◌else◌}
 use Rattle.std.specs.List.{slice_index_or}
 use Rattle.std.specs.Str.{bytes_eq}
@@ -11,9 +11,7 @@ use Rattle.idl_scopes.specs.Finding.{lowered, is_at, place_in, sort_at, is_opera
 use Rattle.idl_scopes.specs.Groups.{with_scope, scopes_at, AreHolders, AreOwners}
 use Rattle.idl_scopes.specs.Taking.{is_operation_there}
 use Rattle.idl_scopes.proofs.NamedKeys.{placed}
-
-joins : (a b c : List ℕ) → (a ++ b) ++ c ≡ a ++ (b ++ c)
-joins a b c = simp append_assoc
+use Rattle.idl_scopes.proofs.SharedParts.{joins}
 
 module _ (t : Table) (operations : Bool) where
   both : (o : Option (ℕ × List ℕ)) (xs : List ℕ) → with_scope o xs ≡ with_scope o [] ++ xs

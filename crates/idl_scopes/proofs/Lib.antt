@@ -12,6 +12,7 @@ pub mod Marking
 pub mod NamedKeys
 pub mod NoHolders
 pub mod NotTaken
+pub mod OnceEach
 pub mod PartLookups
 pub mod PlacedRows
 pub mod SharedParts

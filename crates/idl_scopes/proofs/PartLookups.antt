@@ -7,7 +7,7 @@ use Rattle.std.proofs.lemmas.List.{at_drop_more, drop_all}
 use Rattle.std.proofs.lemmas.List.Folds.{list_any-append}
 use Rattle.idl_scopes.specs.Table.{Table}
 use Rattle.idl_scopes.specs.Finding.{among, or_else}
-use Rattle.idl_scopes.specs.Inherited.{in_parts}
+use Rattle.idl_scopes.specs.Pieces.{in_parts}
 use Rattle.idl_scopes.proofs.AmongScopes.{among_both}
 
 module _ (t : Table) (name : List ℕ) (parts : List (Vec ℕ Global)) (n : ℕ) (d : Vec ℕ Global) (items : List ℕ) (total : Option ℕ) where

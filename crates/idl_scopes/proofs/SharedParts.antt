@@ -4,9 +4,9 @@ use Rattle.std.specs.Prelude.{Vec}
 use Rattle.std.specs.declared.alloc.Global.{Global}
 use Rattle.std.specs.List.{slice_index_or}
 use Rattle.std.proofs.lemmas.List.{append-nil, at_drop_more, drop_all}
-use Rattle.idl_scopes.specs.Inherited.{in_parts}
+use Rattle.idl_scopes.specs.Pieces.{in_parts}
 
-joins : (a b c : List ℕ) → (a ++ b) ++ c ≡ a ++ (b ++ c)
+pub joins : (a b c : List ℕ) → (a ++ b) ++ c ≡ a ++ (b ++ c)
 joins a b c = simp append_assoc
 
 pub parts_behind : (xs ys : List (Vec ℕ Global)) → in_parts (xs ++ ys) ≡ in_parts xs ++ in_parts ys

@@ -1,4 +1,4 @@
--- Numbers that are kept by keys, in the program: the scopes that have a name, and the declarations of a scope.
+-- Numbers that are kept by keys, in the program: the places of the keys that have a name, and of the declarations of a scope.
 use Rattle.std.specs.Prelude.{◌≡◌, ℕ, ◌+◌, ◌==◌, ◌&&◌, Bool, true, false, List, [], ◌∷◌, Vec, Option, Some, None, slice_get, nat_eq, not, if◌then◌else◌}
 use Rattle.std.specs.declared.alloc.Global.{Global}
 use Rattle.std.specs.Str.{bytes_eq}

@@ -7,6 +7,7 @@ pub mod Bases
 pub mod Groups
 pub mod Ids
 pub mod Each
+pub mod Pieces
 pub mod Inherited
 pub mod Marks
 pub mod Declarations

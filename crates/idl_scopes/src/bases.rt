@@ -1,5 +1,5 @@
 //! The bases of interfaces.
-ghost use Rattle.std.specs.Prelude.{◌≡◌, ◌++◌, ◌∷◌, IfOk, OnOk};
+ghost use Rattle.std.specs.Prelude.{◌≡◌, ◌++◌, ◌∷◌, IfOk, IfErr, OnOk};
 ghost use Rattle.std.specs.List.{list_any};
 ghost use Rattle.idl_scopes.specs.Bases.{holds, differs, bases_clash};
 ghost use Rattle.idl_scopes.specs.Finding.{among, inherited, sort_at, scopes_of};
@@ -35,7 +35,7 @@ fn put_inherited(sort: &Sort, scopes: &mut Vec<usize>) -> Result<(), NoMemory>
     ensures { OnOk result (scopes.new.items ≡ scopes.old.items ++ inherited (sort_of sort.now)) }
 {
     match sort {
-        Sort::Interface(inherited) => inherited.put_behind(scopes),
+        Sort::Interface(inherited) => inherited.pieces.put_behind(scopes),
         _ => Ok(()),
     }
 }
@@ -47,7 +47,8 @@ fn inherit_from(
     sort: &Sort,
     given: &mut Inherited,
 ) -> Result<(), NoMemory>
-    ensures { OnOk result (list_of given.new ≡ and_each (list_of given.old) (scope ∷ inherited (sort_of sort.now))) }
+    ensures put { OnOk result (list_of given.new ≡ and_each (list_of given.old) (scope ∷ inherited (sort_of sort.now))) }
+    ensures kept { IfErr result (λ e. list_of given.new ≡ list_of given.old) }
 {
     match sort {
         Sort::Interface(inherited) => given.inherit(alloc, scope, inherited),
@@ -67,7 +68,7 @@ impl Scopes {
     }
 
     /// All scopes whose names a base gives: its own, and those that it inherits.
-    pub fn scopes_of(&self, base: u32) -> Result<Vec<usize>, NoMemory>
+    pub(crate) fn scopes_of(&self, base: u32) -> Result<Vec<usize>, NoMemory>
         ensures { IfOk result (λ v. v.items ≡ scopes_of (table_of self.now) base) }
     {
         let mut scopes = Vec::new(self.alloc);
@@ -76,11 +77,12 @@ impl Scopes {
         Ok(scopes)
     }
 
-    /// Gives the scopes of a base to an interface: those that aren't among its scopes stand behind them. After NoMemory nothing
-    /// is known of them. A few steps for each scope of both; a base's long list is shared and not copied, where none of its
-    /// scopes stands there before.
+    /// Gives the scopes of a base to an interface: those that aren't among its scopes stand behind them. After NoMemory it
+    /// has those that it had. For a first base a step for each 128 of its scopes, and else a few steps for each scope of
+    /// both; a base's long list is shared and not copied, where none of its scopes stands there before.
     pub fn inherit(&self, base: u32, given: &mut Inherited) -> Result<(), NoMemory>
-        ensures { OnOk result (list_of given.new ≡ and_each (list_of given.old) (scopes_of (table_of self.now) base)) }
+        ensures put { OnOk result (list_of given.new ≡ and_each (list_of given.old) (scopes_of (table_of self.now) base)) }
+        ensures kept { IfErr result (λ e. list_of given.new ≡ list_of given.old) }
     {
         let scope = base as usize + 1;
         match self.rows.declared.get(base as usize) {
@@ -153,9 +155,8 @@ impl Scopes {
     }
 
     /// Whether a further base, which gives the later scopes, gives another thing of a name than the bases before it, which
-    /// give the earlier ones. For a first base nothing is looked up, and else each name of the later scopes in both; for a
-    /// name that few scopes of the text have this is a few comparisons for each scope, and one or two look-ups.
-    pub fn bases_clash(&self, earlier: &[usize], later: &[usize]) -> Result<bool, NoMemory>
+    /// give the earlier ones.
+    pub(crate) fn bases_clash(&self, earlier: &[usize], later: &[usize]) -> Result<bool, NoMemory>
         ensures { IfOk result (λ b. b ≡ bases_clash (table_of self.now) earlier.now later.now) }
     {
         if earlier.is_empty() {
@@ -167,5 +168,19 @@ impl Scopes {
             }
         }
         Ok(false)
+    }
+
+    /// Whether a further base gives another thing of a name than the bases before it, which gave these scopes. For a first
+    /// base nothing is looked up, and else each name of its scopes in both; for a name that few scopes of the text have this
+    /// is a few comparisons for each scope, and one or two look-ups.
+    pub fn base_clashes(&self, base: u32, given: &Inherited) -> Result<bool, NoMemory>
+        ensures { IfOk result (λ b. b ≡ bases_clash (table_of self.now) (list_of given.now) (scopes_of (table_of self.now) base)) }
+    {
+        if given.pieces.is_none() {
+            return Ok(false);
+        }
+        let earlier = given.to_vec(self.alloc)?;
+        let later = self.scopes_of(base)?;
+        self.bases_clash(&earlier, &later)
     }
 }

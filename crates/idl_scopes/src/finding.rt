@@ -1,13 +1,14 @@
 //! Looking up names.
 ghost use Rattle.std.specs.Prelude.{◌≡◌, ◌-◌, IfOk, true};
-ghost use Rattle.idl_scopes.specs.Finding.{place_in, own, inherited, above, among, inside, outwards, looked_up, inside_of, module_in, sort_at, scopes_of, is_operation, is_module};
+ghost use Rattle.idl_scopes.specs.Finding.{place_in, own, inherited, above, among, inside, outwards, looked_up, inside_of, module_in, sort_at, is_operation, is_module};
 ghost use Rattle.idl_scopes.specs.Groups.{AreHolders};
-ghost use Rattle.idl_scopes.specs.Inherited.{in_parts, list_of};
+ghost use Rattle.idl_scopes.specs.Pieces.{in_parts, whole_of};
 ghost use Rattle.idl_scopes.specs.Declarations.{sort_of};
 ghost use Rattle.idl_scopes.specs.Views.{table_of};
 
 use crate::holders::Holders;
-use crate::{Inherited, Scopes, Sort};
+use crate::pieces::Pieces;
+use crate::{Scopes, Sort};
 use orb_base::{Arc, NoMemory};
 
 impl Scopes {
@@ -102,8 +103,8 @@ impl Scopes {
     }
 
     /// The same of the scopes that an interface inherits.
-    fn among_listed(&self, name: &[u8], scopes: &Inherited) -> Result<Option<usize>, NoMemory>
-        ensures { IfOk result (λ o. o ≡ among (table_of self.now) name.now (list_of scopes.now)) }
+    fn among_listed(&self, name: &[u8], scopes: &Pieces) -> Result<Option<usize>, NoMemory>
+        ensures { IfOk result (λ o. o ≡ among (table_of self.now) name.now (whole_of scopes.now)) }
     {
         let holders = self.holders(name)?;
         if holders.is_none() {
@@ -124,7 +125,7 @@ impl Scopes {
         ensures { IfOk result (λ o. o ≡ among (table_of self.now) name.now (inherited (sort_of sort.now))) }
     {
         match sort {
-            Sort::Interface(scopes) => self.among_listed(name, scopes),
+            Sort::Interface(scopes) => self.among_listed(name, &scopes.pieces),
             _ => Ok(None),
         }
     }

@@ -1,17 +1,17 @@
 //! Which names are taken.
 ghost use Rattle.std.specs.Prelude.{◌≡◌, ◌-◌, IfOk, slice_get, true};
 ghost use Rattle.std.specs.List.{list_any};
-ghost use Rattle.std.specs.Str.{str_eq_ignore_ascii_case};
-ghost use Rattle.idl_scopes.specs.Finding.{is_at, inherited, above, sort_at};
+ghost use Rattle.idl_scopes.specs.Finding.{inherited, above, sort_at};
 ghost use Rattle.idl_scopes.specs.Groups.{AreOwners};
-ghost use Rattle.idl_scopes.specs.Inherited.{in_parts, list_of};
+ghost use Rattle.idl_scopes.specs.Pieces.{in_parts, whole_of};
 ghost use Rattle.idl_scopes.specs.Taking.{is_in, is_named, is_named_in, is_owner, is_operation_in, is_taken_part, is_taken};
 ghost use Rattle.idl_scopes.specs.Declarations.{declared_of, sort_of};
 ghost use Rattle.idl_scopes.specs.Views.{table_of};
 
 use crate::holders::Holders;
 use crate::keywords::is_keyword;
-use crate::{Declared, Inherited, Scopes, Sort};
+use crate::pieces::Pieces;
+use crate::{Declared, Scopes, Sort};
 use orb_base::{Arc, NoMemory};
 
 /// Whether a declaration has this name, case aside.
@@ -100,8 +100,8 @@ impl Scopes {
     }
 
     /// Whether one of the scopes that an interface inherits has.
-    fn is_operation_listed(&self, name: &[u8], scopes: &Inherited) -> Result<bool, NoMemory>
-        ensures { IfOk result (λ b. b ≡ list_any (is_operation_in (table_of self.now) name.now) (list_of scopes.now)) }
+    fn is_operation_listed(&self, name: &[u8], scopes: &Pieces) -> Result<bool, NoMemory>
+        ensures { IfOk result (λ b. b ≡ list_any (is_operation_in (table_of self.now) name.now) (whole_of scopes.now)) }
     {
         let owners = self.owners(name)?;
         if owners.is_none() {
@@ -122,7 +122,7 @@ impl Scopes {
         ensures { IfOk result (λ b. b ≡ list_any (is_operation_in (table_of self.now) name.now) (inherited (sort_of sort.now))) }
     {
         match sort {
-            Sort::Interface(scopes) => self.is_operation_listed(name, scopes),
+            Sort::Interface(scopes) => self.is_operation_listed(name, &scopes.pieces),
             _ => Ok(false),
         }
     }

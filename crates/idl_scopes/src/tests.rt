@@ -200,10 +200,24 @@ fn gives_scopes(alloc: Global, scopes: &Scopes) -> bool {
         && gives(alloc, scopes, &[5, 2, 6, 9], &[6, 3, 7, 10])
 }
 
-fn clashes_by_bases(scopes: &Scopes) -> bool {
+/// Whether a further base clashes with these bases.
+fn is_further(alloc: Global, scopes: &Scopes, bases: &[u32], base: u32, want: bool) -> bool {
+    let Ok(given) = given_by(alloc, scopes, bases) else {
+        return false;
+    };
+    match scopes.base_clashes(base, &given) {
+        Ok(clashes) => clashes == want,
+        Err(_) => false,
+    }
+}
+
+fn clashes_by_bases(alloc: Global, scopes: &Scopes) -> bool {
     is_clash(scopes, &[], &[3], false)
         && is_clash(scopes, &[3], &[6, 3], false)
         && is_clash(scopes, &[6, 3], &[7], true)
+        && is_further(alloc, scopes, &[], 6, false)
+        && is_further(alloc, scopes, &[2], 5, false)
+        && is_further(alloc, scopes, &[5], 6, true)
 }
 
 #[test]
@@ -213,7 +227,7 @@ fn two_bases_that_give_different_things_of_one_name_clash(rt: HostRuntime) {
     assert!(rt; puts_interface(rt.alloc(), &mut scopes, "C", 2, &[]));
     assert!(rt; puts(&mut scopes, "T", 7, Sort::Other));
     assert!(rt; gives_scopes(rt.alloc(), &scopes));
-    assert!(rt; clashes_by_bases(&scopes));
+    assert!(rt; clashes_by_bases(rt.alloc(), &scopes));
 }
 
 fn puts_one_name_in_many(scopes: &mut Scopes) -> bool {
@@ -223,6 +237,16 @@ fn puts_one_name_in_many(scopes: &mut Scopes) -> bool {
         }
     }
     true
+}
+
+/// The scopes of a base that stands in front of those that it inherits, and of one that inherits itself.
+fn gives_what_stands_behind(alloc: Global, scopes: &mut Scopes) -> bool {
+    if !gives(alloc, scopes, &[70, 119, 70], &[71, 500, 120, 130])
+        || !puts_interface(alloc, scopes, "S", 0, &[71])
+    {
+        return false;
+    }
+    gives(alloc, scopes, &[71], &[72])
 }
 
 fn finds_among_many(scopes: &Scopes) -> bool {
@@ -239,6 +263,7 @@ fn a_name_that_many_scopes_have_is_found_in_the_first_of_the_bases(rt: HostRunti
     assert!(rt; puts_one_name_in_many(&mut scopes));
     assert!(rt; puts_interface(rt.alloc(), &mut scopes, "B", 0, &[499, 119, 129]));
     assert!(rt; finds_among_many(&scopes));
+    assert!(rt; gives_what_stands_behind(rt.alloc(), &mut scopes));
 }
 
 /// Interfaces, each of which inherits a scope of its own and then the interface before it.

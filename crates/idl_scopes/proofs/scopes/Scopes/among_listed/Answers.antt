@@ -1,6 +1,6 @@
 use Rattle.std.proofs.Common.{◌∙◌, sym, ap}
 use Rattle.idl_scopes.specs.Finding.{among}
-use Rattle.idl_scopes.specs.Inherited.{in_parts, list_of}
+use Rattle.idl_scopes.specs.Pieces.{in_parts, whole_of}
 use Rattle.idl_scopes.specs.Views.{table_of}
 use Rattle.idl_scopes.proofs.NoHolders.{among_none}
 use Rattle.idl_scopes.proofs.PartLookups.{in_front, in_a_part, in_back}
@@ -8,7 +8,7 @@ use Rattle.idl_scopes.proofs.scopes.Scopes.among_listed.Goals as goal
 
 pub returns-then-is_none : goal.returns-then-is_none
 returns-then-is_none c =
-    sym (among_none (table_of c.args.self.now) c.args.name.now c.in_ok-holders.holders.scopes.items (list_of c.args.scopes.now) (c.in_ok-holders.ensures (c.is_none.ensures.few c.if-is_none.true)) (c.is_none.ensures.none c.if-is_none.true))
+    sym (among_none (table_of c.args.self.now) c.args.name.now c.in_ok-holders.holders.scopes.items (whole_of c.args.scopes.now) (c.in_ok-holders.ensures (c.is_none.ensures.few c.if-is_none.true)) (c.is_none.ensures.none c.if-is_none.true))
 
 pub returns-in-Some : goal.returns-in-Some
 returns-in-Some c =

@@ -1,6 +1,6 @@
 use Rattle.std.proofs.Common.{◌≡◌, drop}
 use Rattle.idl_scopes.specs.Finding.{among}
-use Rattle.idl_scopes.specs.Inherited.{in_parts}
+use Rattle.idl_scopes.specs.Pieces.{in_parts}
 use Rattle.idl_scopes.specs.Views.{table_of}
 use Rattle.idl_scopes.proofs.scopes.Scopes.among_parts.Given as goal
 

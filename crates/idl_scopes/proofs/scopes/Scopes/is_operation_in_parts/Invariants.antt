@@ -1,6 +1,6 @@
 use Rattle.std.proofs.Common.{◌≡◌, drop}
 use Rattle.std.specs.List.{list_any}
-use Rattle.idl_scopes.specs.Inherited.{in_parts}
+use Rattle.idl_scopes.specs.Pieces.{in_parts}
 use Rattle.idl_scopes.specs.Taking.{is_operation_in}
 use Rattle.idl_scopes.specs.Views.{table_of}
 use Rattle.idl_scopes.proofs.scopes.Scopes.is_operation_in_parts.Given as goal

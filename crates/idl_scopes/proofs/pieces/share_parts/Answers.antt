@@ -1,7 +1,7 @@
 use Rattle.std.proofs.Common.{ap, rules, []}
-use Rattle.idl_scopes.specs.Inherited.{in_parts}
+use Rattle.idl_scopes.specs.Pieces.{in_parts}
 use Rattle.idl_scopes.proofs.SharedParts.{part_put, parts_next}
-use Rattle.idl_scopes.proofs.inherited.share_parts.Goals as goal
+use Rattle.idl_scopes.proofs.pieces.share_parts.Goals as goal
 
 pub loop-part-preserved : goal.loop-part-preserved
 loop-part-preserved c =

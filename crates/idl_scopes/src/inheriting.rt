@@ -1,0 +1,111 @@
+//! Gathering the scopes that an interface inherits.
+ghost use Rattle.std.specs.Prelude.{◌≡◌, ◌++◌, ◌∷◌, ◌<◌, [], IfOk, IfErr, OnOk, true};
+ghost use Rattle.idl_scopes.specs.Each.{and_each};
+ghost use Rattle.idl_scopes.specs.Pieces.{whole_of};
+ghost use Rattle.idl_scopes.specs.Inherited.{list_of};
+
+use crate::Inherited;
+use crate::marks::{News, news_of};
+use crate::pieces::Pieces;
+use orb_base::NoMemory;
+use std::alloc::Global;
+
+impl Inherited {
+    /// No scopes. Takes no memory.
+    pub fn new(alloc: Global) -> Inherited
+        ensures { list_of result ≡ [] }
+    {
+        Inherited {
+            pieces: Pieces::new(alloc),
+            most: 0,
+        }
+    }
+
+    /// All of them in one list.
+    pub fn to_vec(&self, alloc: Global) -> Result<Vec<usize>, NoMemory>
+        ensures { IfOk result (λ scopes. scopes.items ≡ list_of self.now) }
+    {
+        let mut scopes = Vec::new(alloc);
+        self.pieces.put_behind(&mut scopes)?;
+        Ok(scopes)
+    }
+
+    /// Those of a scope and of another list that aren't among these. A few steps for each scope of both lists.
+    fn news(&self, alloc: Global, scope: usize, other: &Inherited) -> Result<News, NoMemory>
+        ensures items { IfOk result (λ n. and_each (list_of self.now) (scope ∷ list_of other.now) ≡ list_of self.now ++ n.items.items) }
+        ensures all { IfOk result (λ n. n.all ≡ true → n.items.items ≡ scope ∷ list_of other.now) }
+    {
+        let before = self.to_vec(alloc)?;
+        let mut several = Vec::new(alloc);
+        several.push(scope)?;
+        other.pieces.put_behind(&mut several)?;
+        news_of(alloc, &before, &several)
+    }
+
+    /// The first base: its scope and those that it inherits, of which each is below its own.
+    fn begin(&mut self, alloc: Global, scope: usize, other: &Inherited) -> Result<(), NoMemory>
+        requires below { other.now.most < scope }
+        ensures put { OnOk result (list_of self.new ≡ and_each [] (scope ∷ list_of other.now)) }
+        ensures kept { IfErr result (λ e. list_of self.new ≡ list_of self.old) }
+    {
+        let mut pieces = Pieces::new(alloc);
+        pieces.join(alloc, scope, &other.pieces)?;
+        *self = Inherited {
+            pieces,
+            most: scope,
+        };
+        Ok(())
+    }
+
+    /// These scopes, and behind them those news. Where they are all, the other list is shared.
+    fn with_news(
+        &self,
+        alloc: Global,
+        news: &News,
+        scope: usize,
+        other: &Inherited,
+    ) -> Result<Pieces, NoMemory>
+        requires { news.now.all ≡ true → news.now.items.items ≡ scope ∷ list_of other.now }
+        ensures { IfOk result (λ p. whole_of p ≡ list_of self.now ++ news.now.items.items) }
+    {
+        let mut pieces = self.pieces.share(alloc)?;
+        if news.all {
+            pieces.join(alloc, scope, &other.pieces)?;
+        } else {
+            pieces.add(alloc, &news.items)?;
+        }
+        Ok(pieces)
+    }
+
+    /// One more base.
+    fn go_on(&mut self, alloc: Global, scope: usize, other: &Inherited) -> Result<(), NoMemory>
+        ensures put { OnOk result (list_of self.new ≡ and_each (list_of self.old) (scope ∷ list_of other.now)) }
+        ensures kept { IfErr result (λ e. list_of self.new ≡ list_of self.old) }
+    {
+        let news = self.news(alloc, scope, other)?;
+        let pieces = self.with_news(alloc, &news, scope, other)?;
+        *self = Inherited {
+            pieces,
+            most: self.most.max(other.most).max(scope),
+        };
+        Ok(())
+    }
+
+    /// The scope of a base and those that it inherits, as far as they aren't among these. For a first base whose list has
+    /// lower scopes alone a step for each 128 of them, and else a few steps for each scope of both lists, and memory for
+    /// some of them.
+    pub(crate) fn inherit(
+        &mut self,
+        alloc: Global,
+        scope: usize,
+        other: &Inherited,
+    ) -> Result<(), NoMemory>
+        ensures put { OnOk result (list_of self.new ≡ and_each (list_of self.old) (scope ∷ list_of other.now)) }
+        ensures kept { IfErr result (λ e. list_of self.new ≡ list_of self.old) }
+    {
+        if other.most < scope && self.pieces.is_none() {
+            return self.begin(alloc, scope, other);
+        }
+        self.go_on(alloc, scope, other)
+    }
+}
