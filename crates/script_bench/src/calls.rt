@@ -21,8 +21,6 @@ let ak = aj + 1; let al = ak + 1; let am = al + 1; let an = am + 1; let ao = an 
 let ar = aq + 1; let as = ar + 1; let at = as + 1; let au = at + 1; let av = au + 1; let aw = av + 1; let ax = aw + 1;
 return ax; } }";
 
-const CALLS: u32 = 10_000;
-
 /// The servants of the script.
 fn servants(alloc: Global) -> Option<Servants> {
     let repository = read_idl(alloc, IDL).ok()?;
@@ -58,7 +56,7 @@ fn is_right(outcome: &Outcome) -> bool {
 }
 
 /// How long so many calls take; `None` where one isn't answered by the sum, or memory is wanting.
-pub fn time_calls<R: Clock>(rt: &R, alloc: Global) -> io::Result<Option<Duration>> {
+pub fn time_calls<R: Clock>(rt: &R, alloc: Global, calls: u32) -> io::Result<Option<Duration>> {
     let (Some(servants), Some(job)) = (servants(alloc), job(alloc)) else {
         return Ok(None);
     };
@@ -66,7 +64,7 @@ pub fn time_calls<R: Clock>(rt: &R, alloc: Global) -> io::Result<Option<Duration
         return Ok(None);
     };
     let start = Instant::now(rt)?;
-    for _ in 0..CALLS {
+    for _ in 0..calls {
         if !is_right(&servants.invoke(&interface, &job)) {
             return Ok(None);
         }

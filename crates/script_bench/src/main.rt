@@ -1,4 +1,4 @@
-//! Times the servants of a script. To be run by hand, with the word `run`.
+//! Times the servants of a script. To be run by hand, with the number of calls.
 #![tactic(auto)]
 
 mod calls;
@@ -6,20 +6,20 @@ mod calls;
 use std::rt::Env;
 use std::{env, io};
 
-/// Whether the program was called with the word `run`.
-fn is_asked<R: Env + AllocGlobal>(rt: &R) -> io::Result<bool> {
-    for word in env::args(rt)?.skip(1) {
-        return Ok(word.as_str() == "run");
+/// How many calls the first word asks for; without a number none.
+fn asked_calls<R: Env + AllocGlobal>(rt: &R) -> io::Result<Option<u32>> {
+    match env::args(rt)?.nth(1) {
+        Some(word) => Ok(word.as_str().parse().ok()),
+        None => Ok(None),
     }
-    Ok(false)
 }
 
 fn main(rt: HostRuntime) -> io::Result<()> {
-    if !is_asked(&rt)? {
+    let Some(calls) = asked_calls(&rt)? else {
         return Ok(());
-    }
-    match calls::time_calls(&rt, rt.alloc())? {
-        Some(time) => println!(rt; "10,000 calls of a method of 50 statements: {time:?}"),
+    };
+    match calls::time_calls(&rt, rt.alloc(), calls)? {
+        Some(time) => println!(rt; "{calls} calls of a method of 50 statements: {time:?}"),
         None => println!(rt; "the servants could not be had"),
     }
 }
