@@ -19,6 +19,6 @@ and_each xs (y ∷ ys) = and_each (and_new xs y) ys
 abbrev pub IsOnce : List ℕ → Type 0
 IsOnce xs = and_each [] xs ≡ xs
 
--- none is above this number
-abbrev pub IsWithin : ℕ → List ℕ → Type 0
-IsWithin most xs = (n : ℕ) → has xs n ≡ true → n ≤ most
+-- none is below the one or above the other
+abbrev pub IsWithin : ℕ → ℕ → List ℕ → Type 0
+IsWithin least most xs = (n : ℕ) → has xs n ≡ true → (least ≤ n) × (n ≤ most)

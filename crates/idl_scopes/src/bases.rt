@@ -5,10 +5,12 @@ ghost use Rattle.idl_scopes.specs.Bases.{holds, differs, bases_clash};
 ghost use Rattle.idl_scopes.specs.Finding.{among, inherited, sort_at, scopes_of};
 ghost use Rattle.idl_scopes.specs.Each.{and_each};
 ghost use Rattle.idl_scopes.specs.Groups.{clashes_at, clashes_in};
+ghost use Rattle.idl_scopes.specs.Pieces.{whole_of};
 ghost use Rattle.idl_scopes.specs.Inherited.{list_of};
 ghost use Rattle.idl_scopes.specs.Declarations.{sort_of};
 ghost use Rattle.idl_scopes.specs.Views.{table_of};
 
+use crate::pieces::Pieces;
 use crate::{Inherited, Scopes, Sort};
 use orb_base::NoMemory;
 use std::alloc::Global;
@@ -78,8 +80,9 @@ impl Scopes {
     }
 
     /// Gives the scopes of a base to an interface: those that aren't among its scopes stand behind them. After NoMemory it
-    /// has those that it had. For a first base a step for each 128 of its scopes, and else a few steps for each scope of
-    /// both; a base's long list is shared and not copied, where none of its scopes stands there before.
+    /// has those that it had. A step for each 128 scopes where those of the base are all above the scopes there, as for a
+    /// first base, and else a few steps for each scope of both; a base's long list is shared and not copied, where none of
+    /// its scopes stands there before.
     pub fn inherit(&self, base: u32, given: &mut Inherited) -> Result<(), NoMemory>
         ensures put { OnOk result (list_of given.new ≡ and_each (list_of given.old) (scopes_of (table_of self.now) base)) }
         ensures kept { IfErr result (λ e. list_of given.new ≡ list_of given.old) }
@@ -92,10 +95,10 @@ impl Scopes {
     }
 
     /// Whether a name means one thing in the earlier scopes and another in the later ones.
-    fn means_both(&self, name: &[u8], earlier: &[usize], later: &[usize]) -> Result<bool, NoMemory>
-        ensures { IfOk result (λ b. b ≡ differs (among (table_of self.now) name.now earlier.now) (among (table_of self.now) name.now later.now)) }
+    fn means_both(&self, name: &[u8], earlier: &Pieces, later: &[usize]) -> Result<bool, NoMemory>
+        ensures { IfOk result (λ b. b ≡ differs (among (table_of self.now) name.now (whole_of earlier.now)) (among (table_of self.now) name.now later.now)) }
     {
-        let before = self.among(name, earlier)?;
+        let before = self.among_listed(name, earlier)?;
         let behind = self.among(name, later)?;
         Ok(differs(before, behind))
     }
@@ -105,10 +108,10 @@ impl Scopes {
         &self,
         at: usize,
         scope: usize,
-        earlier: &[usize],
+        earlier: &Pieces,
         later: &[usize],
     ) -> Result<bool, NoMemory>
-        ensures { IfOk result (λ b. b ≡ clashes_at (table_of self.now) earlier.now later.now scope at) }
+        ensures { IfOk result (λ b. b ≡ clashes_at (table_of self.now) (whole_of earlier.now) later.now scope at) }
     {
         match self.rows.declared.get(at) {
             Some(declared) => {
@@ -127,10 +130,10 @@ impl Scopes {
         &self,
         places: &[usize],
         scope: usize,
-        earlier: &[usize],
+        earlier: &Pieces,
         later: &[usize],
     ) -> Result<bool, NoMemory>
-        ensures { IfOk result (λ b. b ≡ list_any (clashes_at (table_of self.now) earlier.now later.now scope) places.now) }
+        ensures { IfOk result (λ b. b ≡ list_any (clashes_at (table_of self.now) (whole_of earlier.now) later.now scope) places.now) }
     {
         for at in places {
             if self.clashes_at(*at, scope, earlier, later)? {
@@ -144,10 +147,10 @@ impl Scopes {
     fn any_clashes_in(
         &self,
         scope: usize,
-        earlier: &[usize],
+        earlier: &Pieces,
         later: &[usize],
     ) -> Result<bool, NoMemory>
-        ensures { IfOk result (λ b. b ≡ list_any (clashes_in (table_of self.now) earlier.now later.now scope) (table_of self.now).declared) }
+        ensures { IfOk result (λ b. b ≡ list_any (clashes_in (table_of self.now) (whole_of earlier.now) later.now scope) (table_of self.now).declared) }
     {
         let places = self.rows.places_in(scope);
         let any = self.any_clashes_at(places, scope, earlier, later)?;
@@ -156,12 +159,9 @@ impl Scopes {
 
     /// Whether a further base, which gives the later scopes, gives another thing of a name than the bases before it, which
     /// give the earlier ones.
-    pub(crate) fn bases_clash(&self, earlier: &[usize], later: &[usize]) -> Result<bool, NoMemory>
-        ensures { IfOk result (λ b. b ≡ bases_clash (table_of self.now) earlier.now later.now) }
+    fn bases_clash(&self, earlier: &Pieces, later: &[usize]) -> Result<bool, NoMemory>
+        ensures { IfOk result (λ b. b ≡ bases_clash (table_of self.now) (whole_of earlier.now) later.now) }
     {
-        if earlier.is_empty() {
-            return Ok(false);
-        }
         for scope in later {
             if self.any_clashes_in(*scope, earlier, later)? {
                 return Ok(true);
@@ -179,8 +179,7 @@ impl Scopes {
         if given.pieces.is_none() {
             return Ok(false);
         }
-        let earlier = given.to_vec(self.alloc)?;
         let later = self.scopes_of(base)?;
-        self.bases_clash(&earlier, &later)
+        self.bases_clash(&given.pieces, &later)
     }
 }

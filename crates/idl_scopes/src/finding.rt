@@ -103,7 +103,11 @@ impl Scopes {
     }
 
     /// The same of the scopes that an interface inherits.
-    fn among_listed(&self, name: &[u8], scopes: &Pieces) -> Result<Option<usize>, NoMemory>
+    pub(crate) fn among_listed(
+        &self,
+        name: &[u8],
+        scopes: &Pieces,
+    ) -> Result<Option<usize>, NoMemory>
         ensures { IfOk result (λ o. o ≡ among (table_of self.now) name.now (whole_of scopes.now)) }
     {
         let holders = self.holders(name)?;

@@ -9,8 +9,10 @@ use crate::pieces::Pieces;
 #[derive(Debug, Drop)]
 pub struct Inherited {
     pub(crate) pieces: Pieces,
+    /// No scope is below this one.
+    pub(crate) least: usize,
     /// No scope is above this one.
     pub(crate) most: usize,
     ghost once: { IsOnce (whole_of pieces) },
-    ghost within: { IsWithin most (whole_of pieces) },
+    ghost within: { IsWithin least most (whole_of pieces) },
 }

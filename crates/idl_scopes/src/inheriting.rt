@@ -17,6 +17,7 @@ impl Inherited {
     {
         Inherited {
             pieces: Pieces::new(alloc),
+            least: usize::MAX,
             most: 0,
         }
     }
@@ -42,19 +43,22 @@ impl Inherited {
         news_of(alloc, &before, &several)
     }
 
-    /// The first base: its scope and those that it inherits, of which each is below its own.
-    fn begin(&mut self, alloc: Global, scope: usize, other: &Inherited) -> Result<(), NoMemory>
-        requires below { other.now.most < scope }
-        ensures put { OnOk result (list_of self.new ≡ and_each [] (scope ∷ list_of other.now)) }
-        ensures kept { IfErr result (λ e. list_of self.new ≡ list_of self.old) }
+    /// Whether all scopes of another list are below that scope, and above all of these, and so is that scope.
+    fn is_below(&self, scope: usize, other: &Inherited) -> bool
+        ensures own { result ≡ true → self.now.most < scope }
+        ensures other { result ≡ true → self.now.most < other.now.least }
+        ensures scope { result ≡ true → other.now.most < scope }
     {
-        let mut pieces = Pieces::new(alloc);
+        self.most < scope && self.most < other.least && other.most < scope
+    }
+
+    /// These scopes, and behind them all others, which aren't among these.
+    fn with_all(&self, alloc: Global, scope: usize, other: &Inherited) -> Result<Pieces, NoMemory>
+        ensures { IfOk result (λ p. whole_of p ≡ list_of self.now ++ scope ∷ list_of other.now) }
+    {
+        let mut pieces = self.pieces.share(alloc)?;
         pieces.join(alloc, scope, &other.pieces)?;
-        *self = Inherited {
-            pieces,
-            most: scope,
-        };
-        Ok(())
+        Ok(pieces)
     }
 
     /// These scopes, and behind them those news. Where they are all, the other list is shared.
@@ -68,32 +72,31 @@ impl Inherited {
         requires { news.now.all ≡ true → news.now.items.items ≡ scope ∷ list_of other.now }
         ensures { IfOk result (λ p. whole_of p ≡ list_of self.now ++ news.now.items.items) }
     {
-        let mut pieces = self.pieces.share(alloc)?;
         if news.all {
-            pieces.join(alloc, scope, &other.pieces)?;
-        } else {
-            pieces.add(alloc, &news.items)?;
+            let whole = self.with_all(alloc, scope, other)?;
+            return Ok(whole);
         }
+        let mut pieces = self.pieces.share(alloc)?;
+        pieces.add(alloc, &news.items)?;
         Ok(pieces)
     }
 
-    /// One more base.
-    fn go_on(&mut self, alloc: Global, scope: usize, other: &Inherited) -> Result<(), NoMemory>
-        ensures put { OnOk result (list_of self.new ≡ and_each (list_of self.old) (scope ∷ list_of other.now)) }
-        ensures kept { IfErr result (λ e. list_of self.new ≡ list_of self.old) }
+    /// These scopes, and behind them those of a base that aren't among these.
+    fn gathered(&self, alloc: Global, scope: usize, other: &Inherited) -> Result<Pieces, NoMemory>
+        ensures { IfOk result (λ p. whole_of p ≡ and_each (list_of self.now) (scope ∷ list_of other.now)) }
     {
+        if self.is_below(scope, other) {
+            let whole = self.with_all(alloc, scope, other)?;
+            return Ok(whole);
+        }
         let news = self.news(alloc, scope, other)?;
         let pieces = self.with_news(alloc, &news, scope, other)?;
-        *self = Inherited {
-            pieces,
-            most: self.most.max(other.most).max(scope),
-        };
-        Ok(())
+        Ok(pieces)
     }
 
-    /// The scope of a base and those that it inherits, as far as they aren't among these. For a first base whose list has
-    /// lower scopes alone a step for each 128 of them, and else a few steps for each scope of both lists, and memory for
-    /// some of them.
+    /// The scope of a base and those that it inherits, as far as they aren't among these. Where these are below all of those,
+    /// and the base's own scope is above them, a step for each 128 scopes of both lists; and else a few steps for each scope
+    /// of both, and memory for some of them.
     pub(crate) fn inherit(
         &mut self,
         alloc: Global,
@@ -103,9 +106,12 @@ impl Inherited {
         ensures put { OnOk result (list_of self.new ≡ and_each (list_of self.old) (scope ∷ list_of other.now)) }
         ensures kept { IfErr result (λ e. list_of self.new ≡ list_of self.old) }
     {
-        if other.most < scope && self.pieces.is_none() {
-            return self.begin(alloc, scope, other);
-        }
-        self.go_on(alloc, scope, other)
+        let pieces = self.gathered(alloc, scope, other)?;
+        *self = Inherited {
+            pieces,
+            least: self.least.min(other.least).min(scope),
+            most: self.most.max(other.most).max(scope),
+        };
+        Ok(())
     }
 }

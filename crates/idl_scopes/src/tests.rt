@@ -178,14 +178,6 @@ fn a_taken_name_clashes_case_aside(rt: HostRuntime) {
     assert!(rt; takes_parameters(&mut scopes));
 }
 
-/// Whether a further base clashes with those before it.
-fn is_clash(scopes: &Scopes, earlier: &[usize], later: &[usize], want: bool) -> bool {
-    match scopes.bases_clash(earlier, later) {
-        Ok(clashes) => clashes == want,
-        Err(_) => false,
-    }
-}
-
 /// Whether a base gives these scopes.
 fn is_base_of(scopes: &Scopes, base: u32, want: &[usize]) -> bool {
     match scopes.scopes_of(base) {
@@ -212,10 +204,7 @@ fn is_further(alloc: Global, scopes: &Scopes, bases: &[u32], base: u32, want: bo
 }
 
 fn clashes_by_bases(alloc: Global, scopes: &Scopes) -> bool {
-    is_clash(scopes, &[], &[3], false)
-        && is_clash(scopes, &[3], &[6, 3], false)
-        && is_clash(scopes, &[6, 3], &[7], true)
-        && is_further(alloc, scopes, &[], 6, false)
+    is_further(alloc, scopes, &[], 6, false)
         && is_further(alloc, scopes, &[2], 5, false)
         && is_further(alloc, scopes, &[5], 6, true)
 }
@@ -250,11 +239,14 @@ fn gives_what_stands_behind(alloc: Global, scopes: &mut Scopes) -> bool {
 }
 
 fn finds_among_many(scopes: &Scopes) -> bool {
-    is_found(scopes.find(b"x", 71), Some(20))
-        && is_found(scopes.find_inside(b"x", 70), Some(20))
-        && is_clash(scopes, &[500, 120], &[130], true)
-        && is_clash(scopes, &[500], &[130], false)
-        && is_clash(scopes, &[130], &[500, 130], false)
+    is_found(scopes.find(b"x", 71), Some(20)) && is_found(scopes.find_inside(b"x", 70), Some(20))
+}
+
+fn clashes_among_many(alloc: Global, scopes: &Scopes) -> bool {
+    is_further(alloc, scopes, &[499, 119], 129, true)
+        && is_further(alloc, scopes, &[499], 129, false)
+        && is_further(alloc, scopes, &[119], 70, false)
+        && is_further(alloc, scopes, &[129], 70, true)
 }
 
 #[test]
@@ -263,6 +255,7 @@ fn a_name_that_many_scopes_have_is_found_in_the_first_of_the_bases(rt: HostRunti
     assert!(rt; puts_one_name_in_many(&mut scopes));
     assert!(rt; puts_interface(rt.alloc(), &mut scopes, "B", 0, &[499, 119, 129]));
     assert!(rt; finds_among_many(&scopes));
+    assert!(rt; clashes_among_many(rt.alloc(), &scopes));
     assert!(rt; gives_what_stands_behind(rt.alloc(), &mut scopes));
 }
 
