@@ -19,7 +19,7 @@ use std::marker::Model;
 use toml::Table;
 
 /// An adapter, as its table says it.
-#[derive(Debug, Drop)]
+#[derive(Drop)]
 pub struct AdapterTable {
     pub name: Text,
     pub model: PriorityModel,

@@ -26,7 +26,7 @@ use std::marker::Model;
 use toml::{Table, Value};
 
 /// A configuration, as its tables say it: the relations between them aren't judged yet, and no default is put in.
-#[derive(Debug, Drop)]
+#[derive(Drop)]
 pub struct Document {
     pub idl: Option<Text>,
     pub scripts: Option<Text>,

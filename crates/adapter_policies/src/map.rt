@@ -20,7 +20,7 @@ use std::marker::Model;
 use toml::Table;
 
 /// The map, as its table says it. A linear one has no rows, and the ends of a table map are 0.
-#[derive(Debug, Drop)]
+#[derive(Drop)]
 pub struct MapTable {
     pub linear: bool,
     pub corba_low: Priority,

@@ -13,7 +13,7 @@ use std::alloc::Global;
 use toml::Table;
 
 /// An object, as its table says it.
-#[derive(Debug, Drop)]
+#[derive(Drop)]
 pub struct ObjectTable {
     pub key: Text,
     /// The name of its adapter.

@@ -23,7 +23,7 @@ use std::marker::Model;
 use toml::Table;
 
 /// The pool, as its table says it. With lanes, its own threads and priority are 0; without buffering, its limits are.
-#[derive(Debug, Drop)]
+#[derive(Drop)]
 pub struct PoolTable {
     pub borrowing: bool,
     pub buffering: bool,

@@ -5,7 +5,7 @@ use orb_base::Text;
 use pipe_runs::{Batch, Shown};
 
 /// The options of `pipe`.
-#[derive(Debug, Drop)]
+#[derive(Drop)]
 pub struct PipeWords {
     /// The name of a configuration, where there is one.
     pub config: Option<Text>,
@@ -16,7 +16,7 @@ pub struct PipeWords {
 }
 
 /// The options of `serve`.
-#[derive(Debug, Drop)]
+#[derive(Drop)]
 pub struct ServeWords {
     /// The name of the configuration.
     pub config: Text,
@@ -25,7 +25,7 @@ pub struct ServeWords {
 }
 
 /// What the words of a command line mean.
-#[derive(Debug, Drop)]
+#[derive(Drop)]
 pub enum Meaning {
     /// The command `pipe`.
     Pipe(PipeWords),

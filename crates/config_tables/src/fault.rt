@@ -5,7 +5,7 @@ use thiserror::Error;
 
 /// What is wrong with a configuration: own profile. The causes are judged in this order, those up to OutOfRange table by
 /// table and key by key.
-#[derive(Clone, Copy, Debug, PartialEq, Eq, Hash, Error)]
+#[derive(Clone, Copy, Debug, PartialEq, Eq, Error)]
 pub enum ConfigCause {
     /// The bytes are no TOML text. It has the empty path.
     #[error("NotToml")]

@@ -18,7 +18,7 @@ use std::alloc::Global;
 use std::marker::Model;
 
 /// What one more piece of a connection's bytes means.
-#[derive(Debug, Drop)]
+#[derive(Drop)]
 pub struct HeardPiece {
     /// The calls of the messages that it completed, in order.
     pub calls: List<LaneCall>,

@@ -9,7 +9,7 @@ pub const MAX_DUMPED: usize = 67_108_864;
 pub const READ_LEN: usize = 4096;
 
 /// How a dump came out.
-#[derive(Clone, Copy, Debug, PartialEq, Eq, Hash)]
+#[derive(Clone, Copy, Debug, PartialEq, Eq)]
 pub enum DumpEnd {
     /// The input was read to its end, and each message has its line.
     Done,

@@ -12,7 +12,7 @@ use orb_base::NoMemory;
 use std::alloc::Global;
 
 /// The lines of the messages before the first one without a reading, and why that one has none.
-#[derive(Debug, Drop)]
+#[derive(Drop)]
 pub struct DumpLines {
     pub text: String,
     pub refusal: Option<Refusal>,

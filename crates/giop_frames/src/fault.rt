@@ -4,7 +4,7 @@ use thiserror::Error;
 
 /// What is wrong with a piece: own profile. The first four are told by a header alone and are tested in this order,
 /// BadPiece, TooLong and TooManyPartials by a whole piece, in this order.
-#[derive(Clone, Copy, Debug, PartialEq, Eq, Hash, Error)]
+#[derive(Clone, Copy, Debug, PartialEq, Eq, Error)]
 pub enum FrameCause {
     /// The header doesn't begin with "GIOP".
     #[error("BadMagic")]
@@ -29,7 +29,7 @@ pub enum FrameCause {
 }
 
 /// What is wrong with a stream, and where: the first fault.
-#[derive(Clone, Copy, Debug, PartialEq, Eq, Hash, Error)]
+#[derive(Clone, Copy, Debug, PartialEq, Eq, Error)]
 #[error("{offset}: {cause}")]
 pub struct FrameFault {
     pub cause: FrameCause,
@@ -38,7 +38,7 @@ pub struct FrameFault {
 }
 
 /// Why a feed was not taken.
-#[derive(Clone, Copy, Debug, PartialEq, Eq, Hash, Error)]
+#[derive(Clone, Copy, Debug, PartialEq, Eq, Error)]
 pub enum FeedFault {
     /// The stream has a fault.
     #[error("{0}")]

@@ -3,7 +3,7 @@ ghost use Rattle.std.specs.Prelude.{◌≡◌};
 ghost use Rattle.giop_frames.specs.Kinds as Spec;
 
 /// A kind of message: CORBA 3.0.3, section 15.4.1.
-#[derive(Clone, Copy, Debug, PartialEq, Eq, Hash)]
+#[derive(Clone, Copy, Debug, PartialEq, Eq)]
 pub enum Kind {
     /// A request, of number 0.
     Request,

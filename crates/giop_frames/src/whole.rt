@@ -4,7 +4,7 @@ use orb_base::{Octets, Order};
 use std::marker::Model;
 
 /// A message of one piece, or one that was joined from fragments.
-#[derive(Debug, Drop)]
+#[derive(Drop)]
 pub struct Whole {
     /// The offset of the first byte of the piece that completed it, from the first byte of the stream.
     pub at: u64,

@@ -1,7 +1,7 @@
 //! Answers where an object is.
 
 /// An answer where an object is: CORBA 3.0.3, section 15.4.6.
-#[derive(Clone, Copy, Debug, PartialEq, Eq, Hash)]
+#[derive(Clone, Copy, Debug, PartialEq, Eq)]
 pub struct Located {
     /// The number of the question.
     pub id: u32,

@@ -12,7 +12,7 @@ use thiserror::Error;
 /// What is wrong with a message: the first fault from left to right. A place counts bytes from the message's first
 /// byte. That a form above 2 and a status above 5 are refused is CORBA 3.0.3, sections 15.4.2.1 and 15.4.3; the causes
 /// and their order are own profile.
-#[derive(Clone, Copy, Debug, PartialEq, Eq, Hash, Error)]
+#[derive(Clone, Copy, Debug, PartialEq, Eq, Error)]
 pub enum MessageFault {
     /// A number, a text or a count has no reading.
     #[error("{0}")]

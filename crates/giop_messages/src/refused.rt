@@ -6,7 +6,7 @@ use thiserror::Error;
 
 /// Why the bytes of a connection, or a message among them, are refused: own profile. It is shown by the name of its
 /// cause alone, as `BadMagic`, `Short` or `Cut`.
-#[derive(Clone, Copy, Debug, PartialEq, Eq, Hash, Error)]
+#[derive(Clone, Copy, Debug, PartialEq, Eq, Error)]
 pub enum Fault {
     /// A piece of the stream breaks a rule of framing.
     #[error("{0}")]

@@ -15,7 +15,7 @@ use std::alloc::Global;
 use std::marker::Model;
 
 /// What messages of a connection mean.
-#[derive(Debug, Drop)]
+#[derive(Drop)]
 pub struct Heard {
     /// Their calls, in order.
     pub calls: List<LaneCall>,

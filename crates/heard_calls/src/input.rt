@@ -17,7 +17,7 @@ use std::alloc::Global;
 use std::marker::Model;
 
 /// What a whole input means.
-#[derive(Debug, Drop)]
+#[derive(Drop)]
 pub struct Input {
     /// The calls of its messages, in order.
     pub calls: List<LaneCall>,
@@ -26,7 +26,7 @@ pub struct Input {
 }
 
 /// What the stream of an input says.
-#[derive(Debug, Drop)]
+#[derive(Drop)]
 struct Framed {
     messages: List<Whole>,
     rest: Option<u64>,

@@ -3,7 +3,7 @@
 use thiserror::Error;
 
 /// Why a value doesn't fit a type.
-#[derive(Clone, Copy, Debug, PartialEq, Eq, Hash, Error)]
+#[derive(Clone, Copy, Debug, PartialEq, Eq, Error)]
 pub enum Misfit {
     /// The type has values of another kind.
     #[error("WrongKind")]

@@ -3,7 +3,7 @@
 use thiserror::Error;
 
 /// What is wrong at a token: own profile. Where several are wrong at one token, the first of these counts.
-#[derive(Clone, Copy, Debug, PartialEq, Eq, Hash, Error)]
+#[derive(Clone, Copy, Debug, PartialEq, Eq, Error)]
 pub enum IdlCause {
     /// A byte begins no token, or a comment, text or character isn't closed.
     #[error("BadToken")]
@@ -38,7 +38,7 @@ pub enum IdlCause {
 }
 
 /// What is wrong with a text, and where: the first token at fault.
-#[derive(Clone, Copy, Debug, PartialEq, Eq, Hash, Error)]
+#[derive(Clone, Copy, Debug, PartialEq, Eq, Error)]
 #[error("{line}:{column}: {cause}")]
 pub struct IdlFault {
     pub cause: IdlCause,

@@ -3,7 +3,7 @@
 use crate::IdlCause;
 
 /// The types that are spelled by one word, or by two or three.
-#[derive(Clone, Copy, Debug, PartialEq, Eq, Hash)]
+#[derive(Clone, Copy, Debug, PartialEq, Eq)]
 pub enum Basic {
     Boolean,
     Octet,
@@ -17,7 +17,7 @@ pub enum Basic {
 }
 
 /// The rules that stand in brackets.
-#[derive(Clone, Copy, Debug, PartialEq, Eq, Hash)]
+#[derive(Clone, Copy, Debug, PartialEq, Eq)]
 pub enum Inner {
     ModuleBody,
     InterfaceBody,
@@ -34,7 +34,7 @@ pub enum Inner {
 }
 
 /// What is done.
-#[derive(Clone, Copy, Debug, PartialEq, Eq, Hash)]
+#[derive(Clone, Copy, Debug, PartialEq, Eq)]
 pub enum IdlLabel {
     /// Nothing.
     Skip,

@@ -3,7 +3,7 @@
 use crate::{Place, Sort};
 
 /// A declaration.
-#[derive(Debug, Drop)]
+#[derive(Drop)]
 pub struct Declared {
     /// The scope in which it stands.
     pub scope: usize,

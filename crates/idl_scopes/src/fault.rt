@@ -4,7 +4,7 @@ use orb_base::NoMemory;
 use thiserror::Error;
 
 /// Why a name isn't declared.
-#[derive(Clone, Copy, Debug, PartialEq, Eq, Hash, Error)]
+#[derive(Clone, Copy, Debug, PartialEq, Eq, Error)]
 pub enum DeclareFault {
     /// The name is taken.
     #[error("Clash")]

@@ -6,7 +6,7 @@ use crate::pieces::Pieces;
 
 /// Scopes in the order of looking up, each once. A list that begins or ends with another one shares its parts, so that
 /// many interfaces which inherit from one another take little memory.
-#[derive(Debug, Drop)]
+#[derive(Drop)]
 pub struct Inherited {
     pub(crate) pieces: Pieces,
     /// No scope is below this one.

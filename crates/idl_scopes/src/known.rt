@@ -1,7 +1,7 @@
 //! Keys of the index.
 
 /// A scope, and a name in it in lower case.
-#[derive(Debug, Drop, PartialEq, Eq, Hash)]
+#[derive(Drop, PartialEq, Eq, Hash)]
 pub(crate) struct Known {
     pub scope: usize,
     pub name: Vec<u8>,

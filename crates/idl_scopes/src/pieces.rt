@@ -11,7 +11,7 @@ const MOST_OWN: usize = 128;
 
 /// A list that begins or ends with another one shares its parts, so that many interfaces which inherit from one another
 /// take little memory.
-#[derive(Debug, Drop)]
+#[derive(Drop)]
 pub(crate) struct Pieces {
     pub front: Vec<usize>,
     pub parts: Vec<Arc<Vec<usize>>>,

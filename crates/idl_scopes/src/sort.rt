@@ -6,7 +6,7 @@ ghost use Rattle.idl_scopes.specs.Declarations.{sort_of};
 use crate::Inherited;
 
 /// What was declared, as far as looking up needs it.
-#[derive(Debug, Drop)]
+#[derive(Drop)]
 pub enum Sort {
     /// Its end hasn't been read: the name is taken, and it isn't found.
     Unfinished,

@@ -1,7 +1,7 @@
 //! Kinds of tokens.
 
 /// What a token is. The words and marks of both languages have kinds of their own.
-#[derive(Clone, Copy, Debug, PartialEq, Eq, Hash)]
+#[derive(Clone, Copy, Debug, PartialEq, Eq)]
 pub enum Kind {
     /// A letter, and then letters, digits and `_`.
     Name,

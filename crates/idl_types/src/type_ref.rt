@@ -12,7 +12,7 @@ use crate::param::Param;
 use cdr_values::{IdlType, Member};
 
 /// A part of a declared thing that has a type.
-#[derive(Clone, Copy, Debug, PartialEq, Eq, Hash)]
+#[derive(Clone, Copy, Debug, PartialEq, Eq)]
 pub enum Part {
     /// The type that is named, or the type of a constant.
     Whole,
@@ -26,7 +26,7 @@ pub enum Part {
 
 /// A reference to a type, in place of a copy: which declared thing, by its place in order of declaration, which part
 /// of it, and how many steps into the elements of sequences and arrays.
-#[derive(Clone, Copy, Debug, PartialEq, Eq, Hash)]
+#[derive(Clone, Copy, Debug, PartialEq, Eq)]
 pub struct TypeRef {
     pub place: u32,
     pub part: Part,

@@ -26,7 +26,7 @@ const SLOTS: u32 = MAX_SLOTS as u32;
 
 /// The lane machine: the threads of a pool, the requests that wait for them, what is owed to the connections of its
 /// slots, and the counts of its run (Real-time CORBA 1.2, Threadpools).
-#[derive(Debug, Drop)]
+#[derive(Drop)]
 pub struct Lanes {
     machine: Machine,
 }

@@ -28,7 +28,7 @@ mod reading;
 const MAX_ITEMS: usize = MAX_OWED + 2;
 
 /// The threads of a pool, the requests that wait, and what is owed to the connections of its slots.
-#[derive(Debug, Drop)]
+#[derive(Drop)]
 pub struct Machine {
     pub(super) pool: PoolSpec,
     slots: u8,

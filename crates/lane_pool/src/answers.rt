@@ -39,7 +39,7 @@ pub enum Cancelling {
 }
 
 /// A worker's task.
-#[derive(Debug, Drop)]
+#[derive(Drop)]
 pub enum Taken {
     /// The request to carry out.
     Job(Arc<Job>),
@@ -48,7 +48,7 @@ pub enum Taken {
 }
 
 /// What is owed to a connection next.
-#[derive(Debug, Drop)]
+#[derive(Drop)]
 pub enum Collected {
     /// A message.
     Item(Item),

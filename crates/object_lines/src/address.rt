@@ -14,7 +14,7 @@ const MAX_HOST: usize = 255;
 const MAX_DIGITS: usize = 10;
 
 /// Where objects are reached.
-#[derive(Debug, Drop)]
+#[derive(Drop)]
 pub struct Address {
     /// A host's name or address, of 1 to 255 bytes, none of them a colon.
     pub host: Text,

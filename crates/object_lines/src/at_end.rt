@@ -7,7 +7,7 @@ use setup_servants::ServingFault;
 pub const MAX_CONFIG: usize = 1_048_576;
 
 /// How the lines of objects came out.
-#[derive(Debug, Drop)]
+#[derive(Drop)]
 pub enum AtEnd {
     /// The line of each object was written.
     Done,

@@ -10,7 +10,7 @@ use thiserror::Error;
 /// What is wrong with a reference: own profile. A stringified reference is tested for NoPrefix, OddHex, BadHex and Cdr
 /// in this order, the first IIOP profile of a reference for NoIiop, Cdr and BadVersion, and an object URL for NoPrefix,
 /// BadVersion, BadHost, BadPort and BadEscape.
-#[derive(Clone, Copy, Debug, PartialEq, Eq, Hash, Error)]
+#[derive(Clone, Copy, Debug, PartialEq, Eq, Error)]
 pub enum RefCause {
     /// The text begins neither as a stringified reference nor as an object URL does.
     #[error("NoPrefix")]
@@ -42,7 +42,7 @@ pub enum RefCause {
 }
 
 /// What is wrong with a reference, and where: the first fault from left to right.
-#[derive(Clone, Copy, Debug, PartialEq, Eq, Hash, Error)]
+#[derive(Clone, Copy, Debug, PartialEq, Eq, Error)]
 #[error("{place}: {cause}")]
 pub struct RefFault {
     pub cause: RefCause,
@@ -53,7 +53,7 @@ pub struct RefFault {
 }
 
 /// Why a reference was not read.
-#[derive(Clone, Copy, Debug, PartialEq, Eq, Hash, Error)]
+#[derive(Clone, Copy, Debug, PartialEq, Eq, Error)]
 pub enum RefError {
     /// It has no reading.
     #[error("{0}")]

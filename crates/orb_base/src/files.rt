@@ -6,7 +6,7 @@ use crate::list::Octets;
 use crate::text::Text;
 
 /// What reading a file came to.
-#[derive(Clone, Copy, Debug, PartialEq, Eq, Hash)]
+#[derive(Clone, Copy, Debug, PartialEq, Eq)]
 pub enum Filed {
     /// The whole content was read.
     Whole,

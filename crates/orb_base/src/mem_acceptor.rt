@@ -11,7 +11,7 @@ use crate::mem_source::MemSource;
 use std::collections::LinkedList;
 
 /// Links in memory, whose accepts fail as it is told.
-#[derive(Debug, Drop)]
+#[derive(Drop)]
 pub struct MemAcceptor {
     steady: SteadyAcceptor,
     failing: List<u64>,
@@ -57,7 +57,7 @@ impl Acceptor for MemAcceptor {
 }
 
 /// Links in memory that never fail to come: the count of faults is the constant 0.
-#[derive(Debug, Drop)]
+#[derive(Drop)]
 pub struct SteadyAcceptor {
     links: LinkedList<MemLink>,
     most: u32,

@@ -10,7 +10,7 @@ use crate::text::Text;
 use std::marker::Model;
 
 /// A file in memory.
-#[derive(Debug, Drop)]
+#[derive(Drop)]
 pub struct MemFile {
     pub name: Text,
     pub bytes: Octets,
@@ -39,7 +39,7 @@ impl MemFile {
 }
 
 /// Files in memory, whose reads fail as it is told.
-#[derive(Debug, Drop)]
+#[derive(Drop)]
 pub struct MemFiles {
     steady: SteadyFiles,
     failing: List<u64>,
@@ -78,7 +78,7 @@ impl Files for MemFiles {
 }
 
 /// Files in memory that can always be read: the count of faults is the constant 0.
-#[derive(Debug, Drop)]
+#[derive(Drop)]
 pub struct SteadyFiles {
     files: List<MemFile>,
 }

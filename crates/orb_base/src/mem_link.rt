@@ -8,7 +8,7 @@ use crate::sink::Sink;
 use crate::source::Source;
 
 /// A link in memory, of which nothing was asked.
-#[derive(Debug, Drop)]
+#[derive(Drop)]
 pub struct MemLink {
     pub source: MemSource,
     pub sink: MemSink,

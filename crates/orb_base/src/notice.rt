@@ -5,7 +5,7 @@ use crate::order::Order;
 use crate::system::Sys;
 
 /// What a notice tells the client.
-#[derive(Clone, Copy, Debug, PartialEq, Eq, Hash)]
+#[derive(Clone, Copy, Debug, PartialEq, Eq)]
 pub enum What {
     /// A band is bound: a Reply with NO_EXCEPTION and no body.
     Bound,
@@ -18,7 +18,7 @@ pub enum What {
 }
 
 /// An answer that the reading side of a connection gives itself, without an invocation.
-#[derive(Clone, Copy, Debug, PartialEq, Eq, Hash)]
+#[derive(Clone, Copy, Debug, PartialEq, Eq)]
 pub struct Notice {
     /// The connection that the request came by.
     pub conn: ConnId,

@@ -8,7 +8,7 @@ use script_checks::CheckFault;
 use script_grammar::ScriptFault;
 
 /// What a file that the words or a configuration name is for.
-#[derive(Clone, Copy, Debug, PartialEq, Eq, Hash)]
+#[derive(Clone, Copy, Debug, PartialEq, Eq)]
 pub enum Role {
     /// It is the configuration.
     Config,

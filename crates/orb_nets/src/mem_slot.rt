@@ -4,7 +4,7 @@ use orb_base::{List, MemLink};
 use std::collections::LinkedList;
 
 /// The links that come at one slot of a net in memory, in order, and the numbers, from 0, of the accepts that fail.
-#[derive(Debug, Drop)]
+#[derive(Drop)]
 pub struct MemSlot {
     pub links: LinkedList<MemLink>,
     pub failing: List<u64>,

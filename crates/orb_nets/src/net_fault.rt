@@ -3,7 +3,7 @@
 use thiserror::Error;
 
 /// Why a net answered no acceptors or no link.
-#[derive(Clone, Copy, Debug, PartialEq, Eq, Hash, Error)]
+#[derive(Clone, Copy, Debug, PartialEq, Eq, Error)]
 pub enum NetFault {
     /// The net failed.
     #[error("network fault")]

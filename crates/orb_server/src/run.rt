@@ -19,7 +19,7 @@ pub enum SlotEnd {
 }
 
 /// What one connection leaves.
-#[derive(Debug, Drop)]
+#[derive(Drop)]
 pub struct ConnLog<I, O> {
     pub id: ConnId,
     pub source: I,

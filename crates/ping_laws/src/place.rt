@@ -3,7 +3,7 @@
 use orb_base::Priority;
 
 /// Where a request runs that sends no priority.
-#[derive(Clone, Copy, Debug, PartialEq, Eq, Hash)]
+#[derive(Clone, Copy, Debug, PartialEq, Eq)]
 pub struct Place {
     /// The number of its object.
     pub target: u16,

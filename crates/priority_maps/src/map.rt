@@ -15,13 +15,13 @@ use std::marker::Model;
 
 /// A map between CORBA priorities, 0 to 32767, and native ones, which are 32-bit numbers with a sign (Real-time CORBA
 /// 1.2, Priority mappings).
-#[derive(Debug, Drop)]
+#[derive(Drop)]
 pub struct Map {
     shape: Shape,
 }
 
 /// The two kinds of map.
-#[derive(Debug, Drop)]
+#[derive(Drop)]
 pub enum Shape {
     Linear(Linear),
     Table(Table),

@@ -18,7 +18,7 @@ use std::collections::BTreeMap;
 use std::marker::Model;
 
 /// A map by rows of rising bands.
-#[derive(Debug, Drop)]
+#[derive(Drop)]
 pub struct Table {
     rows: List<MapRow>,
     /// The low end of the first row of each native priority.

@@ -6,7 +6,7 @@ use object_refs::RefFault;
 pub const MAX_REFERENCE: usize = 65_536;
 
 /// How `orb refs` came out.
-#[derive(Clone, Copy, Debug, PartialEq, Eq, Hash)]
+#[derive(Clone, Copy, Debug, PartialEq, Eq)]
 pub enum RefsEnd {
     /// The lines of the reference were written.
     Done,

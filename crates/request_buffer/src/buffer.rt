@@ -10,7 +10,7 @@ use std::alloc::Global;
 use std::marker::Model;
 
 /// The requests that wait, in order of arrival. No call but `new` takes memory.
-#[derive(Debug, Drop)]
+#[derive(Drop)]
 pub struct Buffer {
     jobs: List<Arc<Job>>,
     /// The keys of the requests in the same order. Passes go over these, which lie in one piece.

@@ -7,7 +7,7 @@ use thiserror::Error;
 
 /// What is wrong with a script. The first fault in the order of the text is told; that an operation has no method comes
 /// behind all other faults of its servant.
-#[derive(Clone, Copy, Debug, PartialEq, Eq, Hash, Error)]
+#[derive(Clone, Copy, Debug, PartialEq, Eq, Error)]
 pub enum CheckCause {
     /// A servant's name is that of no interface: at its first part that isn't declared, else at its last part.
     #[error("UnknownInterface")]

@@ -7,7 +7,7 @@ use idl_tokens::Token;
 use thiserror::Error;
 
 /// The first token at fault. Its cause is always that another one is expected there: own profile.
-#[derive(Clone, Copy, Debug, PartialEq, Eq, Hash, Error)]
+#[derive(Clone, Copy, Debug, PartialEq, Eq, Error)]
 #[error("{line}:{column}: Expected")]
 pub struct ScriptFault {
     /// The line of the token's first byte, from 1.

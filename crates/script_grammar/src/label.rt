@@ -3,7 +3,7 @@
 use crate::{Binary, Unary};
 
 /// The rules that stand in brackets.
-#[derive(Clone, Copy, Debug, PartialEq, Eq, Hash)]
+#[derive(Clone, Copy, Debug, PartialEq, Eq)]
 pub enum Inner {
     ServantBody,
     Names,
@@ -16,7 +16,7 @@ pub enum Inner {
 }
 
 /// What is done.
-#[derive(Clone, Copy, Debug, PartialEq, Eq, Hash)]
+#[derive(Clone, Copy, Debug, PartialEq, Eq)]
 pub enum ScriptLabel {
     /// Nothing.
     Skip,

@@ -1,7 +1,7 @@
 //! Operators of scripts.
 
 /// What stands around one expression.
-#[derive(Clone, Copy, Debug, PartialEq, Eq, Hash)]
+#[derive(Clone, Copy, Debug, PartialEq, Eq)]
 pub enum Unary {
     /// `-` in front of it.
     Negate,
@@ -14,7 +14,7 @@ pub enum Unary {
 }
 
 /// What stands between two expressions.
-#[derive(Clone, Copy, Debug, PartialEq, Eq, Hash)]
+#[derive(Clone, Copy, Debug, PartialEq, Eq)]
 pub enum Binary {
     Or,
     And,

@@ -6,7 +6,7 @@ use orb_base::NoMemory;
 use thiserror::Error;
 
 /// A limit that an operation meets. Each is a minor of the system exception IMP_LIMIT, completed MAYBE.
-#[derive(Clone, Copy, Debug, PartialEq, Eq, Hash, Error)]
+#[derive(Clone, Copy, Debug, PartialEq, Eq, Error)]
 pub enum Limit {
     /// Minor 1: a value of more than 65,536 leaves was built.
     #[error("too large")]
@@ -23,7 +23,7 @@ pub enum Limit {
 }
 
 /// Why there is no value.
-#[derive(Clone, Copy, Debug, PartialEq, Eq, Hash, Error)]
+#[derive(Clone, Copy, Debug, PartialEq, Eq, Error)]
 pub enum Stop {
     /// A limit was met.
     #[error("{0}")]

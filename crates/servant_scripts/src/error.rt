@@ -7,7 +7,7 @@ use script_grammar::ScriptFault;
 use thiserror::Error;
 
 /// Why no script was read.
-#[derive(Clone, Copy, Debug, PartialEq, Eq, Hash, Error)]
+#[derive(Clone, Copy, Debug, PartialEq, Eq, Error)]
 pub enum ScriptError {
     /// The text isn't of the grammar: its first token at fault.
     #[error("{0}")]

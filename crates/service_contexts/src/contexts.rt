@@ -14,7 +14,7 @@ pub const PRIORITY_CONTEXT: u32 = 10;
 pub const RANGE_CONTEXT: u32 = 11;
 
 /// What the contexts of a message tell of priorities; None where there is no context of the id.
-#[derive(Clone, Copy, Debug, PartialEq, Eq, Hash)]
+#[derive(Clone, Copy, Debug, PartialEq, Eq)]
 pub struct Contexts {
     /// What the first context RTCorbaPriority carries.
     pub priority: Option<Priority>,
@@ -23,7 +23,7 @@ pub struct Contexts {
 }
 
 /// A context that counts has no reading.
-#[derive(Clone, Copy, Debug, PartialEq, Eq, Hash, Error)]
+#[derive(Clone, Copy, Debug, PartialEq, Eq, Error)]
 #[error("context {id}")]
 pub struct ContextFault {
     /// The id of the context.

@@ -6,7 +6,7 @@ use script_checks::CheckFault;
 use servant_scripts::ScriptFault;
 
 /// A text that a setup may name a file for.
-#[derive(Clone, Copy, Debug, PartialEq, Eq, Hash)]
+#[derive(Clone, Copy, Debug, PartialEq, Eq)]
 pub enum TextRole {
     /// The text of interfaces.
     Idl,

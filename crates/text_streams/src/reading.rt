@@ -5,7 +5,7 @@ use orb_base::{Got, List, Octets, Source};
 use std::alloc::Global;
 
 /// What reading a whole input came to.
-#[derive(Debug, Drop)]
+#[derive(Drop)]
 pub enum ReadAll {
     /// The bytes, up to the end.
     Whole(Octets),

@@ -1,7 +1,7 @@
 //! The thread for a request.
 
 /// The thread that is given a request.
-#[derive(Clone, Copy, Debug, PartialEq, Eq, Hash)]
+#[derive(Clone, Copy, Debug, PartialEq, Eq)]
 pub struct Choice {
     /// Its number, from 0.
     pub thread: u8,

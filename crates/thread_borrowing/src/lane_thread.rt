@@ -11,7 +11,7 @@ use orb_base::{Arc, ConnId, Job};
 use std::marker::Model;
 
 /// A thread of a lane.
-#[derive(Debug, Drop)]
+#[derive(Drop)]
 pub struct LaneThread {
     /// Its lane, from 0.
     lane: u8,

@@ -1,7 +1,7 @@
 //! Whether a thread has a task.
 
 /// Whether a thread has a task.
-#[derive(Clone, Copy, Debug, PartialEq, Eq, Hash)]
+#[derive(Clone, Copy, Debug, PartialEq, Eq)]
 pub enum Task {
     /// It has none.
     Free,

@@ -16,7 +16,7 @@ use std::marker::Model;
 
 /// The threads of a pool, by their numbers from 0: lanes in rising order, and in a lane the static threads before the
 /// dynamic ones. No call but `new` takes memory.
-#[derive(Debug, Drop)]
+#[derive(Drop)]
 pub struct Threads {
     threads: Vec<LaneThread>,
 }
