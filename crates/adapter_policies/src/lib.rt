@@ -40,14 +40,3 @@ pub use laws::{
 pub use object_spec::ObjectSpec;
 pub use reading::read_setup;
 pub use setup::Setup;
-
-#[cfg(test)]
-mod order_tests;
-#[cfg(test)]
-mod range_tests;
-#[cfg(test)]
-mod reference_tests;
-#[cfg(test)]
-mod tests;
-#[cfg(test)]
-mod text_tests;

@@ -6,6 +6,3 @@ mod bind_server;
 
 pub use bind_answer::BindAnswer;
 pub use bind_server::BindServer;
-
-#[cfg(test)]
-mod tests;

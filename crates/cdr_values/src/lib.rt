@@ -26,6 +26,3 @@ pub use kind::{Case, IdlType, Member};
 pub use lawful::{are_lawful, is_lawful};
 pub use laws::{reads_back, reads_exactly, reads_one_way};
 pub use value::IdlValue;
-
-#[cfg(test)]
-mod tests;

@@ -6,6 +6,3 @@ mod words;
 
 pub use meaning::{Meaning, PipeWords, ServeWords};
 pub use words::read_words;
-
-#[cfg(test)]
-mod tests;

@@ -26,6 +26,3 @@ pub use members::{excluded, known_keys, member, stands};
 pub use numbers::{due_native, due_number, free_number, free_truth, native_where, number_where};
 pub use paths::{entry_path, key_path, refuse_at, refuse_key};
 pub use texts::{due_text, due_word, free_text, text_along};
-
-#[cfg(test)]
-mod tests;

@@ -19,6 +19,3 @@ pub use laws::{further_bytes_are_heard_behind, heard_so_far_is_one, whole_stream
 pub use read_end::{MAX_TAKEN, READ_LEN, ReadEnd};
 pub use stream::run_stream;
 pub use stream_end::StreamEnd;
-
-#[cfg(test)]
-mod tests;

@@ -19,6 +19,3 @@ pub use reading::read_side;
 pub use working::work;
 pub use write_end::{LastCollect, WriteEnd};
 pub use writing::write_side;
-
-#[cfg(test)]
-mod tests;

@@ -25,8 +25,3 @@ pub use laws::{
     refuses_unread_parameters,
 };
 pub use servants::Servants;
-
-#[cfg(test)]
-mod samples;
-#[cfg(test)]
-mod tests;

@@ -12,6 +12,3 @@ pub use dump::dump_run;
 pub use dump_end::{DumpEnd, MAX_DUMPED, READ_LEN};
 pub use laws::{dumps_go_on, written_is_shown};
 pub use refusal::Refusal;
-
-#[cfg(test)]
-mod tests;

@@ -20,10 +20,3 @@ pub use framer::Framer;
 pub use kind::Kind;
 pub use stream::read_stream;
 pub use whole::Whole;
-
-#[cfg(test)]
-mod load_tests;
-#[cfg(test)]
-mod split_tests;
-#[cfg(test)]
-mod tests;

@@ -35,14 +35,3 @@ pub use reply::Reply;
 pub use request::Request;
 pub use target::Target;
 pub use write::{header_start, write_message, write_reply};
-
-#[cfg(test)]
-mod exception_tests;
-#[cfg(test)]
-mod read_tests;
-#[cfg(test)]
-mod refuse_tests;
-#[cfg(test)]
-mod vectors;
-#[cfg(test)]
-mod write_tests;

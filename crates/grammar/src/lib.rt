@@ -15,6 +15,3 @@ mod rule;
 pub use builder::{Builder, ReadError};
 pub use reader::{MAX_RULE, read_rule, read_whole};
 pub use rule::{MAX_OPEN, Rule};
-
-#[cfg(test)]
-mod tests;

@@ -16,6 +16,3 @@ pub use hearing::{Heard, hear};
 pub use input::{Input, hear_input};
 pub use meaning::meaning_of;
 pub use means::Means;
-
-#[cfg(test)]
-mod tests;

@@ -6,6 +6,3 @@ mod line;
 mod reply_text;
 
 pub use line::{history_text, put_line};
-
-#[cfg(test)]
-mod tests;

@@ -13,6 +13,3 @@ pub use kinds::{may_be_constant, may_switch};
 pub use literal::{character_of, integer_of};
 pub use misfit::Misfit;
 pub use value::ConstValue;
-
-#[cfg(test)]
-mod tests;

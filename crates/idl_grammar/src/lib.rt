@@ -16,6 +16,3 @@ pub use label::{Basic, IdlLabel, Inner};
 pub use laws::rules_are_plain;
 pub use rules::{IdlRule, file_rule, inside};
 pub use stopping::stop_at;
-
-#[cfg(test)]
-mod tests;

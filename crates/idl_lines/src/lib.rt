@@ -11,6 +11,3 @@ mod texts;
 pub use idl_end::IdlEnd;
 pub use listing::write_listing;
 pub use run::idl_run;
-
-#[cfg(test)]
-mod tests;

@@ -26,8 +26,3 @@ pub use sizes::{
     sequence_of, times,
 };
 pub use state::{Names, Thing};
-
-#[cfg(test)]
-mod tests;
-#[cfg(test)]
-mod text_tests;

@@ -17,10 +17,3 @@ pub use laws::{
     texts_give_small_types, texts_inherit_first, texts_leave_room,
 };
 pub use reader::read_idl;
-
-#[cfg(test)]
-mod accepted_tests;
-#[cfg(test)]
-mod fault_tests;
-#[cfg(test)]
-mod tests;

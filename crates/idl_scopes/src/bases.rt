@@ -70,7 +70,7 @@ impl Scopes {
     }
 
     /// All scopes whose names a base gives: its own, and those that it inherits.
-    pub(crate) fn scopes_of(&self, base: u32) -> Result<Vec<usize>, NoMemory>
+    pub fn scopes_of(&self, base: u32) -> Result<Vec<usize>, NoMemory>
         ensures { IfOk result (λ v. v.items ≡ scopes_of (table_of self.now) base) }
     {
         let mut scopes = Vec::new(self.alloc);

@@ -33,6 +33,3 @@ pub use inherited::Inherited;
 pub use place::Place;
 pub use scopes::Scopes;
 pub use sort::Sort;
-
-#[cfg(test)]
-mod tests;

@@ -23,6 +23,3 @@ pub use kind::Kind;
 pub use quotes::unquoted;
 pub use token::{MAX_TEXT, Token};
 pub use tokens::{Tokens, same_kind};
-
-#[cfg(test)]
-mod tests;

@@ -36,16 +36,3 @@ pub use param::Param;
 pub use repository::Repository;
 pub use type_ref::{Part, TypeRef};
 pub use way::Way;
-
-#[cfg(test)]
-mod kinship_tests;
-#[cfg(test)]
-mod lookup_tests;
-#[cfg(test)]
-mod ping_tests;
-#[cfg(test)]
-mod reference_tests;
-#[cfg(test)]
-mod refuse_tests;
-#[cfg(test)]
-mod samples;

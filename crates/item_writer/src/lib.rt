@@ -9,6 +9,3 @@ mod items;
 
 pub use heads::HEAD_LEN;
 pub use items::{write_close, write_error, write_item, write_said};
-
-#[cfg(test)]
-mod tests;

@@ -24,6 +24,3 @@ pub use log::{Log, Noted};
 pub use opening::open;
 pub use runs::run_calls;
 pub use turns::{apply_call, invoke, run_to_rest};
-
-#[cfg(test)]
-mod tests;

@@ -29,6 +29,3 @@ pub use laws::{is_at_rest, limits_are_kept};
 pub use opening::{Opened, open};
 pub use passes::{ReaderPass, RootPass, SlotPass, WorkerPass, WriterPass};
 pub use pool::LanePool;
-
-#[cfg(test)]
-mod tests;

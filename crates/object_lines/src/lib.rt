@@ -12,6 +12,3 @@ pub use address::{Address, read_address};
 pub use at_end::{AtEnd, MAX_CONFIG};
 pub use run::at_run;
 pub use setups::setup_of;
-
-#[cfg(test)]
-mod tests;

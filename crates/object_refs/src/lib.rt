@@ -27,10 +27,3 @@ pub use ior::Ior;
 pub use ior_read::parse_ior;
 pub use ior_write::ior_text;
 pub use port::port_number;
-
-#[cfg(test)]
-mod reference_tests;
-#[cfg(test)]
-mod tests;
-#[cfg(test)]
-mod vectors;

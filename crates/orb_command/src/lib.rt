@@ -14,22 +14,3 @@ mod serve_note;
 pub use answered::{Answered, Reported};
 pub use command::orb_main;
 pub use note::{Note, Role};
-
-#[cfg(test)]
-mod at_tests;
-#[cfg(test)]
-mod config_tests;
-#[cfg(test)]
-mod hostile_tests;
-#[cfg(test)]
-mod lane_tests;
-#[cfg(test)]
-mod rows;
-#[cfg(test)]
-mod script_tests;
-#[cfg(test)]
-mod serve_tests;
-#[cfg(test)]
-mod tests;
-#[cfg(test)]
-mod tool_tests;

@@ -15,6 +15,3 @@ pub use mem_net::{MemNet, SteadyNet};
 pub use mem_slot::MemSlot;
 pub use net::Net;
 pub use net_fault::NetFault;
-
-#[cfg(test)]
-mod tests;

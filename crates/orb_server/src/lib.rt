@@ -28,6 +28,3 @@ mod staff;
 
 pub use run::{ConnLog, Run, SlotEnd};
 pub use serve::serve_run;
-
-#[cfg(test)]
-mod tests;

@@ -12,6 +12,3 @@ pub use batch::Batch;
 pub use pipe::pipe_run;
 pub use piped::Piped;
 pub use shown::Shown;
-
-#[cfg(test)]
-mod tests;

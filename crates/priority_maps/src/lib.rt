@@ -13,6 +13,3 @@ mod table;
 pub use laws::{linear_keeps_ends, linear_keeps_order, there_and_back};
 pub use map::Map;
 pub use row::MapRow;
-
-#[cfg(test)]
-mod tests;

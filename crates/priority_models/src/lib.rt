@@ -13,6 +13,3 @@ pub use laws::requests_are_placed_one_way;
 pub use misplaced::Misplaced;
 pub use model::mandated;
 pub use placing::placed;
-
-#[cfg(test)]
-mod tests;

@@ -9,6 +9,3 @@ mod refs_end;
 pub use laws::prints_one_way;
 pub use refs::refs_run;
 pub use refs_end::{MAX_REFERENCE, RefsEnd};
-
-#[cfg(test)]
-mod tests;

@@ -10,6 +10,3 @@ mod laws;
 
 pub use buffer::Buffer;
 pub use laws::next_is_most_urgent;
-
-#[cfg(test)]
-mod tests;

@@ -19,6 +19,3 @@ pub use laws::requests_are_judged_one_way;
 pub use refusal::Refusal;
 pub use served::{Served, served_at};
 pub use verdict::{Place, Verdict};
-
-#[cfg(test)]
-mod tests;

@@ -24,6 +24,3 @@ mod typing;
 pub use checked::{CheckedMethod, CheckedScript, CheckedServant};
 pub use fault::{CheckCause, CheckError, CheckFault};
 pub use servants::check;
-
-#[cfg(test)]
-mod tests;

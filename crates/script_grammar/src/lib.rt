@@ -16,6 +16,3 @@ pub use label::{Inner, ScriptLabel};
 pub use laws::rules_are_plain;
 pub use operator::{Binary, Unary};
 pub use rules::{ScriptRule, file_rule, inside};
-
-#[cfg(test)]
-mod tests;

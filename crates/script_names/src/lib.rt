@@ -21,6 +21,3 @@ mod putting;
 pub use error::FindError;
 pub use meaning::Meaning;
 pub use names::Names;
-
-#[cfg(test)]
-mod tests;

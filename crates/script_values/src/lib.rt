@@ -20,6 +20,3 @@ pub use limit::{Limit, Stop};
 pub use running::{Flow, run};
 pub use seen::Seen;
 pub use tree::{Element, Expr, Form, Link, Stmt};
-
-#[cfg(test)]
-mod tests;

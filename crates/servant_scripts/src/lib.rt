@@ -27,6 +27,3 @@ pub use name::Name;
 pub use phrase::{At, Field, Form, Link, Part, Phrase, ScopedName};
 pub use reading::read_script;
 pub use script_grammar::{Binary, ScriptFault, Unary};
-
-#[cfg(test)]
-mod tests;

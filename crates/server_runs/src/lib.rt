@@ -10,6 +10,3 @@ pub use laws::runs_without_fault_are_complete;
 pub use open_gate::OpenGate;
 pub use run_at::{ServeEnd, Served, serve_at};
 pub use summary::{Summary, summary_of};
-
-#[cfg(test)]
-mod tests;

@@ -23,6 +23,3 @@ pub use policies::{
     BANDS_POLICY, MODEL_POLICY, POLICIES_TAG, policies_component, read_policies_component,
 };
 pub use publishing::{published_bands, published_model};
-
-#[cfg(test)]
-mod tests;

@@ -13,6 +13,3 @@ mod texts;
 pub use fault::{ServingFault, TextRole};
 pub use laws::{built_in_setup_has_servants, built_in_setup_is_served};
 pub use servants::servants_of;
-
-#[cfg(test)]
-mod tests;

@@ -8,6 +8,3 @@ mod writing;
 pub use escapes::shown;
 pub use reading::{ReadAll, read_all};
 pub use writing::{WriteAll, write_all};
-
-#[cfg(test)]
-mod tests;

@@ -21,6 +21,3 @@ pub use laws::{choice_goes_down, choice_stands_first};
 pub use lending::may_run;
 pub use task::Task;
 pub use threads::Threads;
-
-#[cfg(test)]
-mod tests;

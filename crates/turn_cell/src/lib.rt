@@ -26,6 +26,3 @@ pub use object::Object;
 pub use register::{Register, RegisterCall, RegisterReply};
 pub use seat::Seat;
 pub use turn_cell::{TurnCell, Worn};
-
-#[cfg(test)]
-mod tests;

@@ -1,0 +1,3 @@
+//! Tests of `cdr_core`.
+mod tests;
+mod vectors;

@@ -1,0 +1,4 @@
+//! Tests of `giop_frames`.
+mod load_tests;
+mod split_tests;
+mod tests;

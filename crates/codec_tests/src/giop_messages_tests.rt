@@ -1,0 +1,6 @@
+//! Tests of `giop_messages`.
+mod exception_tests;
+mod read_tests;
+mod refuse_tests;
+mod vectors;
+mod write_tests;

@@ -1,0 +1,4 @@
+//! Tests of `object_refs`.
+mod reference_tests;
+mod tests;
+mod vectors;

@@ -1,0 +1,10 @@
+//! Tests of `orb_command`.
+mod at_tests;
+mod config_tests;
+mod hostile_tests;
+mod lane_tests;
+mod rows;
+mod script_tests;
+mod serve_tests;
+mod tests;
+mod tool_tests;

@@ -1,0 +1,235 @@
+//! `orb dump`, `orb refs` and `orb idl --file` over memory: each status with its note, and what is written then.
+
+use super::rows::{EMPTY, Row, check, check_all};
+use std::test::Fail;
+
+/// The request of id 1 for `current` of `ping`.
+const PING: &[u8] =
+    b"GIOP\x01\x02\0\0\0\0\0\x24\0\0\0\x01\x03\0\0\0\0\0\0\0\0\0\0\x04ping\0\0\0\x08current\0\0\0\0\0";
+
+/// The same, and behind it a reply of a status that there isn't.
+const BAD_STATUS: &[u8] =
+    b"GIOP\x01\x02\0\0\0\0\0\x24\0\0\0\x01\x03\0\0\0\0\0\0\0\0\0\0\x04ping\0\0\0\x08current\0\0\0\0\0GIOP\x01\x02\0\x01\0\0\0\x0c\0\0\0\x01\0\0\0\x06\0\0\0\0";
+
+/// The request of id 1 in three pieces, with that of id 2 between them.
+const INTERLEAVED: &[u8] =
+    b"GIOP\x01\x02\x02\0\0\0\0\x0c\0\0\0\x01\x03\0\0\0\0\0\0\0GIOP\x01\x02\0\0\0\0\0\x24\0\0\0\x02\x03\0\0\0\0\0\0\0\0\0\0\x04ping\0\0\0\x08current\0\0\0\0\0GIOP\x01\x02\x02\x07\0\0\0\x14\0\0\0\x01\0\0\0\x04ping\0\0\0\x08currGIOP\x01\x02\0\x07\0\0\0\x0c\0\0\0\x01ent\0\0\0\0\0";
+
+/// The answer that an object is here.
+const HERE: &[u8] = b"GIOP\x01\x02\0\x04\0\0\0\x08\0\0\0\x05\0\0\0\x01";
+
+/// A reference to `ping` at 127.0.0.1, port 2809, whose objects run at the client's priority, or else at 100.
+const REFERENCE: &[u8] =
+    b"IOR:000000000000001149444c3a4f72622f50696e673a312e3000000000000000010000000000000042000102000000000a3132372e302e302e31000af90000000470696e6700000001000000020000001a0000000000000001000000280000000a00000000000000000064";
+
+/// The same with one digit less.
+const ODD_REFERENCE: &[u8] =
+    b"IOR:000000000000001149444c3a4f72622f50696e673a312e3000000000000000010000000000000042000102000000000a3132372e302e302e31000af90000000470696e6700000001000000020000001a0000000000000001000000280000000a0000000000000000006";
+
+const LINES: &[u8] =
+    b"type IDL:Orb/Ping:1.0\nhost 127.0.0.1\nport 2809\nkey ping\nmodel CLIENT_PROPAGATED 100\n";
+
+/// A listing of messages, read and written in pieces.
+const DUMP: Row<'static> = Row {
+    words: &["dump"],
+    reads: &[40, 24],
+    writes: &[9, 5],
+    ..EMPTY
+};
+
+/// The parts of a reference, read and written in pieces.
+const REFS: Row<'static> = Row {
+    words: &["refs"],
+    reads: &[40, 24],
+    writes: &[9, 5],
+    ..EMPTY
+};
+
+const TOLD: &[Row<'static>] = &[
+    Row {
+        story: "a request",
+        input: PING,
+        output: b"0 Request big 48 id 1 flags 3 key ping op current contexts 0 body 0\n",
+        ..DUMP
+    },
+    Row {
+        story: "pieces with a request between them",
+        input: INTERLEAVED,
+        output: b"24 Request big 48 id 2 flags 3 key ping op current contexts 0 body 0\n104 Request big 48 id 1 flags 3 key ping op current contexts 0 body 0\n",
+        ..DUMP
+    },
+    Row {
+        story: "a LocateReply",
+        input: HERE,
+        output: b"0 LocateReply big 20 id 5 status 1\n",
+        ..DUMP
+    },
+    Row {
+        story: "a header that is cut",
+        input: b"GIOP\x01\x02\0\0\0\0\0",
+        status: 8,
+        note: "Input(0, Cut)",
+        ..DUMP
+    },
+    Row {
+        story: "a reply of no status behind a request",
+        input: BAD_STATUS,
+        status: 8,
+        note: "Input(48, BadStatus)",
+        output: b"0 Request big 48 id 1 flags 3 key ping op current contexts 0 body 0\n",
+        ..DUMP
+    },
+    Row {
+        story: "messages whose second read fails",
+        input: PING,
+        failed_reads: &[1],
+        status: 3,
+        note: "ReadFault",
+        ..DUMP
+    },
+    Row {
+        story: "messages whose second write fails",
+        input: PING,
+        failed_writes: &[1],
+        status: 4,
+        note: "WriteFault",
+        output: b"0 Request",
+        ..DUMP
+    },
+    Row {
+        story: "a reference in hexadecimal digits",
+        input: REFERENCE,
+        output: LINES,
+        ..REFS
+    },
+    Row {
+        story: "a reference as a URL",
+        input: b"corbaloc::1.2@h/a%2Fb\n",
+        output: b"host h\nport 2809\nkey a/b\n",
+        ..REFS
+    },
+    Row {
+        story: "a URL of a version that is not spoken",
+        input: b"corbaloc:iiop:1.1@h/a",
+        status: 8,
+        note: "Reference(RefFault { cause: BadVersion, place: 14 })",
+        ..REFS
+    },
+    Row {
+        story: "a digit less",
+        input: ODD_REFERENCE,
+        status: 8,
+        note: "Reference(RefFault { cause: OddHex, place: 215 })",
+        ..REFS
+    },
+    Row {
+        story: "a reference whose third read fails",
+        input: REFERENCE,
+        failed_reads: &[2],
+        status: 3,
+        note: "ReadFault",
+        ..REFS
+    },
+    Row {
+        story: "a reference whose third write fails",
+        input: REFERENCE,
+        failed_writes: &[2],
+        status: 4,
+        note: "WriteFault",
+        output: b"type IDL:Orb/P",
+        ..REFS
+    },
+];
+
+const TWICE: &[u8] = b"module M { interface V { long twice(in long x); }; };";
+
+const ATTRIBUTES: &[u8] = b"interface S { attribute long a; readonly attribute short b; };";
+
+/// A listing of the IDL of the file `c`, written in pieces.
+const IDL: Row<'static> = Row {
+    words: &["idl", "--file", "c"],
+    writes: &[6, 5],
+    ..EMPTY
+};
+
+const LISTED: &[Row<'static>] = &[
+    Row {
+        story: "an operation",
+        files: &[("c", TWICE)],
+        output: b"interface IDL:M/V:1.0\nop twice in 1 out 0 raises 0\n",
+        ..IDL
+    },
+    Row {
+        story: "attributes",
+        files: &[("c", ATTRIBUTES)],
+        output: b"interface IDL:S:1.0\nop _get_a in 0 out 0 raises 0\nop _set_a in 1 out 0 raises 0\nop _get_b in 0 out 0 raises 0\n",
+        ..IDL
+    },
+    Row {
+        story: "an empty file",
+        files: &[("c", b"")],
+        ..IDL
+    },
+    Row {
+        story: "a name that clashes",
+        files: &[("c", b"module Orb { const long x = 1; };")],
+        status: 2,
+        note: "Idl(IdlFault { cause: Clash, line: 1, column: 8 })",
+        ..IDL
+    },
+    Row {
+        story: "a file that can't be read",
+        files: &[("c", TWICE)],
+        failed_files: &[0],
+        status: 3,
+        note: "ReadFault",
+        ..IDL
+    },
+    Row {
+        story: "a listing whose second write fails",
+        files: &[("c", TWICE)],
+        failed_writes: &[1],
+        status: 4,
+        note: "WriteFault",
+        output: b"interf",
+        ..IDL
+    },
+    Row {
+        story: "a file that isn't there",
+        words: &["idl", "--file", "m.idl"],
+        files: &[("c", TWICE)],
+        status: 10,
+        note: "Absent(Idl)",
+        ..IDL
+    },
+    Row {
+        story: "a name with a dash, which no file has",
+        words: &["idl", "--file", "-c"],
+        files: &[("c", TWICE)],
+        status: 14,
+        note: "NotBuilt",
+        ..IDL
+    },
+];
+
+#[test]
+fn each_tool_writes_its_lines_and_has_its_status(rt: HostRuntime) -> Result<(), Fail> {
+    let alloc = rt.alloc();
+    check_all(&rt, alloc, TOLD)?;
+    check_all(&rt, alloc, LISTED)?;
+    // The URL has 16 bytes before its key.
+    let mut url = Vec::from_slice(alloc, b"corbaloc::1.2@h/")?;
+    for _ in 0..65_521 {
+        url.push(b'a')?;
+    }
+    let input = url.as_slice();
+    let longer = Row {
+        story: "a reference that is longer than one may be",
+        input,
+        status: 8,
+        note: "Input(65536, Cut)",
+        ..REFS
+    };
+    check(&rt, alloc, &longer)?;
+    Ok(())
+}

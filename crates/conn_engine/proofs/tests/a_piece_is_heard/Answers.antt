@@ -1,4 +1,0 @@
-use Rattle.conn_engine.proofs.tests.a_piece_is_heard.Goals as goal
-
-pub at_end-requires : goal.at_end-requires
-at_end-requires g c = c.in_ok-heard.ensures.goes_on c.in-None.is

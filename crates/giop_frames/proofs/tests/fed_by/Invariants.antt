@@ -1,8 +1,0 @@
-use Rattle.std.proofs.Common.{◌+◌, ◌^◌, ◌<◌, length}
-use Rattle.giop_frames.proofs.tests.fed_by.Given as goal
-
-abbrev pub invariant-loop-left : goal.invariant-loop-left
-invariant-loop-left l = length l.framer.fed + length l.left < 2 ^ 64
-
-abbrev pub decreases-loop-left : goal.decreases-loop-left
-decreases-loop-left l = length l.left

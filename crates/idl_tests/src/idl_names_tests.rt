@@ -1,0 +1,3 @@
+//! Tests of `idl_names`.
+mod tests;
+mod text_tests;

@@ -1,6 +1,0 @@
-use Rattle.lane_pool.specs.Returned.{IsAlone}
-use Rattle.lane_pool.specs.Turns.{CanTake}
-use Rattle.lane_pool.proofs.tests.storm.work.Given as goal
-
-abbrev pub invariant-loop : goal.invariant-loop
-invariant-loop g l = CanTake l.pool.cell l.worker × IsAlone l.pool.cell l.fn.worker.seat.number l.worker

@@ -1,0 +1,13 @@
+//! Tests of `turn_cell`, `thread_borrowing`, `request_buffer`, `history_lines`, `lane_pool`.
+#![tactic(auto)]
+
+#[cfg(test)]
+mod history_lines_tests;
+#[cfg(test)]
+mod lane_pool_tests;
+#[cfg(test)]
+mod request_buffer_tests;
+#[cfg(test)]
+mod thread_borrowing_tests;
+#[cfg(test)]
+mod turn_cell_tests;

@@ -1,0 +1,3 @@
+//! Tests of `dynamic_servants`.
+mod samples;
+mod tests;
