@@ -2,5 +2,6 @@
 mod exception_tests;
 mod read_tests;
 mod refuse_tests;
+mod rows;
 mod vectors;
 mod write_tests;

@@ -2,422 +2,752 @@
 use orb_base::*;
 use std::alloc::Global;
 use std::collections::LinkedList;
-use std::test::Fail;
+use std::test::*;
 
-fn octets(alloc: Global, bytes: &[u8]) -> Result<Octets, Fail> {
-    Ok(List::from_vec(Vec::from_slice(alloc, bytes)?))
+/// A list of these items, or the empty one for want of memory.
+fn list<T: Copy>(alloc: Global, items: &[T]) -> List<T> {
+    match Vec::from_slice(alloc, items) {
+        Ok(items) => List::from_vec(items),
+        Err(_) => List::new(alloc),
+    }
 }
 
-fn job(alloc: Global, id: u32) -> Result<Job, Fail> {
-    Ok(Job {
+/// A job that only its id tells from others.
+fn job(alloc: Global, id: u32) -> Option<Job> {
+    let priority = Priority::new(100)?;
+    let operation = Text::new(alloc, b"current").ok()?;
+    Some(Job {
         conn: ConnId { slot: 0, nth: 0 },
         serial: 0,
         id,
         order: Order::Big,
         due: Due::Late,
-        priority: Priority::new(100).ok_or("a priority")?,
+        priority,
         lane: 0,
         size: 48,
         target: 0,
-        operation: Text::new(alloc, b"current")?,
+        operation,
         body: List::new(alloc),
     })
 }
 
-/// A read through the bound: its answer, and the buffer.
-fn read_three<I: Source>(source: &mut I) -> (Got, [u8; 3]) {
-    let mut into = [0u8; 3];
-    let got = source.read(&mut into);
-    (got, into)
+/// Whether a new list takes three items.
+fn takes_three(list: &mut Octets) -> bool {
+    list.is_empty()
+        && list.reserve(2).is_ok()
+        && list.push(5).is_ok()
+        && list.push(6).is_ok()
+        && list.push(7).is_ok()
 }
 
-/// A write through the bound.
-fn write_abc<O: Sink>(sink: &mut O) -> Put {
-    sink.write(b"abc")
+/// Whether the list of these three gives and changes its items.
+fn changes(list: &mut Octets) -> bool {
+    list.len() == 3
+        && list.get(1).copied() == Some(6)
+        && list.get(3).copied() == None
+        && list.replace(0, 9) == 5
+        && list.remove(1) == 6
+        && list.append(&[1, 2]).is_ok()
+        && list.as_slice() == [9, 7, 1, 2].as_slice()
+}
+
+fn list_holds(alloc: Global) -> bool {
+    let mut list = List::new(alloc);
+    let held = takes_three(&mut list) && changes(&mut list);
+    list.into_vec().len() == 4 && held
 }
 
 #[test]
-fn lists_hold_their_items(rt: HostRuntime) -> Result<(), Fail> {
-    let mut list = List::new(rt.alloc());
-    assert!(rt; list.is_empty());
-    assert!(rt; list.reserve(2).is_ok());
-    for x in [5u8, 6, 7] {
-        assert_eq!(rt; list.push(x), Ok(()));
+fn lists_hold_their_items(rt: HostRuntime) {
+    assert!(rt; list_holds(rt.alloc()));
+}
+
+/// Shorts, and the priorities that they are.
+const PRIORITIES: &[(i16, Option<i16>)] = &[
+    (-32768, None),
+    (-1, None),
+    (0, Some(0)),
+    (32767, Some(32767)),
+];
+
+fn is_priority(row: &(i16, Option<i16>)) -> bool {
+    match Priority::new(row.0) {
+        Some(priority) => row.1 == Some(priority.get()),
+        None => row.1 == None,
     }
-    assert_eq!(rt; list.len(), 3);
-    assert_eq!(rt; list.get(1).copied(), Some(6));
-    assert_eq!(rt; list.get(3).copied(), None);
-    assert_eq!(rt; list.replace(0, 9), 5);
-    assert_eq!(rt; list.remove(1), 6);
-    assert!(rt; list.append(&[1, 2]).is_ok());
-    assert_eq!(rt; list.as_slice(), [9, 7, 1, 2].as_slice());
-    assert_eq!(rt; list.into_vec().len(), 4);
-    Ok(())
 }
 
-#[test]
-fn priorities_and_bands_have_their_ends(rt: HostRuntime) -> Result<(), Fail> {
-    for (n, there) in [(-32768i16, false), (-1, false), (0, true), (32767, true)] {
-        assert_eq!(rt;
-            Priority::new(n).map(Priority::get),
-            if there { Some(n) } else { None },
-            "at {n}"
-        );
-    }
-    let low = Priority::new(10).ok_or("low")?;
-    let high = Priority::new(20).ok_or("high")?;
-    assert!(rt; Band::new(high, low).is_none());
-    let band = Band::new(low, high).ok_or("a band")?;
-    assert_eq!(rt; (band.low(), band.high()), (low, high));
-    assert!(rt; band.holds(low) && band.holds(high));
-    assert!(rt; !band.holds(Priority::new(9).ok_or("below")?));
-    assert_eq!(rt; high.level(), 20);
-    Ok(())
-}
-
-fn band(low: i16, high: i16) -> Result<Band, Fail> {
-    let low = Priority::new(low).ok_or("low")?;
-    let high = Priority::new(high).ok_or("high")?;
-    Ok(Band::new(low, high).ok_or("a band")?)
-}
-
-#[test]
-fn bands_that_share_a_priority_are_told(rt: HostRuntime) -> Result<(), Fail> {
-    for (bands, apart) in [
-        ([(0, 9), (20, 29), (10, 19)], true),
-        ([(0, 9), (20, 29), (9, 19)], false),
-        ([(20, 29), (0, 30), (40, 49)], false),
-        ([(5, 5), (5, 5), (0, 1)], false),
-    ] {
-        let mut list = List::new(rt.alloc());
-        for (low, high) in bands {
-            assert!(rt; list.push(band(low, high)?).is_ok());
+fn are_priorities(rows: &[(i16, Option<i16>)]) -> bool {
+    for row in rows {
+        if !is_priority(row) {
+            return false;
         }
-        assert_eq!(rt; are_apart(rt.alloc(), list.as_slice())?, apart);
     }
-    assert!(rt; are_apart(rt.alloc(), &[])?);
-    Ok(())
+    true
+}
+
+/// Whether a band from 10 to 20 holds its ends and not 9.
+fn has_ends(low: Priority, high: Priority, below: Priority) -> bool {
+    match Band::new(low, high) {
+        Some(band) => {
+            band.low() == low
+                && band.high() == high
+                && band.holds(low)
+                && band.holds(high)
+                && !band.holds(below)
+        }
+        None => false,
+    }
+}
+
+fn band_has_ends() -> bool {
+    match (Priority::new(10), Priority::new(20), Priority::new(9)) {
+        (Some(low), Some(high), Some(below)) => {
+            has_ends(low, high, below) && Band::new(high, low).is_none() && high.level() == 20
+        }
+        _ => false,
+    }
 }
 
 #[test]
-fn texts_hold_no_nul(rt: HostRuntime) -> Result<(), Fail> {
-    let text = Text::new(rt.alloc(), b"ping")?;
-    assert_eq!(rt; text.as_slice(), b"ping".as_slice());
-    assert_eq!(rt; text.copy(rt.alloc())?.len(), 4);
-    assert!(rt; !text.is_empty());
-    assert!(rt;
-        text == Text::from_vec(Vec::from_slice(rt.alloc(), b"ping")?)
-            .ok()
-            .ok_or("a text")?
-    );
-    assert!(rt; text != Text::new(rt.alloc(), b"pong")?);
-    let refused = Text::from_vec(Vec::from_slice(rt.alloc(), b"p\0\0")?)
-        .err()
-        .ok_or("a NUL")?;
-    assert_eq!(rt; (refused.place, refused.bytes.len()), (1, 3));
-    assert_eq!(rt;
-        Text::new(rt.alloc(), b"pi\0g\0").err(),
-        Some(TextFault::Nul(2))
-    );
-    assert_eq!(rt;
-        (first_nul(b"pi\0g\0"), first_nul(b"ping")),
-        (Some(2), None)
-    );
-    Ok(())
+fn priorities_and_bands_have_their_ends(rt: HostRuntime) {
+    assert!(rt; are_priorities(PRIORITIES) && band_has_ends());
+}
+
+/// The ends of a band.
+type Ends = (i16, i16);
+
+fn band(ends: Ends) -> Option<Band> {
+    let (low, high) = ends;
+    Band::new(Priority::new(low)?, Priority::new(high)?)
+}
+
+/// Three bands, and whether they share no priority.
+const BANDS: &[(Ends, Ends, Ends, bool)] = &[
+    ((0, 9), (20, 29), (10, 19), true),
+    ((0, 9), (20, 29), (9, 19), false),
+    ((20, 29), (0, 30), (40, 49), false),
+    ((5, 5), (5, 5), (0, 1), false),
+];
+
+fn is_told(alloc: Global, row: &(Ends, Ends, Ends, bool)) -> bool {
+    match (band(row.0), band(row.1), band(row.2)) {
+        (Some(first), Some(second), Some(third)) => {
+            are_apart(alloc, &[first, second, third]) == Ok(row.3)
+        }
+        _ => false,
+    }
+}
+
+fn all_are_told(alloc: Global, rows: &[(Ends, Ends, Ends, bool)]) -> bool {
+    for row in rows {
+        if !is_told(alloc, row) {
+            return false;
+        }
+    }
+    true
+}
+
+fn none_are_apart(alloc: Global) -> bool {
+    are_apart(alloc, &[]) == Ok(true)
+}
+
+#[test]
+fn bands_that_share_a_priority_are_told(rt: HostRuntime) {
+    assert!(rt; all_are_told(rt.alloc(), BANDS) && none_are_apart(rt.alloc()));
+}
+
+/// Whether a text's copy has so many bytes.
+fn has_copy(alloc: Global, text: &Text, len: usize) -> bool {
+    match text.copy(alloc) {
+        Ok(copy) => copy.len() == len,
+        Err(_) => false,
+    }
+}
+
+/// Whether a text equals the one of a vector of these bytes.
+fn equals_vec(alloc: Global, text: &Text, bytes: &[u8]) -> bool {
+    let Ok(bytes) = Vec::from_slice(alloc, bytes) else {
+        return false;
+    };
+    match Text::from_vec(bytes) {
+        Ok(other) => *text == other,
+        Err(_) => false,
+    }
+}
+
+/// Whether a text is another one than that of these bytes.
+fn differs(alloc: Global, text: &Text, bytes: &[u8]) -> bool {
+    match Text::new(alloc, bytes) {
+        Ok(other) => *text != other,
+        Err(_) => false,
+    }
+}
+
+fn holds_ping(alloc: Global, text: &Text) -> bool {
+    text.as_slice() == b"ping".as_slice()
+        && !text.is_empty()
+        && has_copy(alloc, text, 4)
+        && equals_vec(alloc, text, b"ping")
+        && differs(alloc, text, b"pong")
+}
+
+fn is_ping(alloc: Global) -> bool {
+    match Text::new(alloc, b"ping") {
+        Ok(text) => holds_ping(alloc, &text),
+        Err(_) => false,
+    }
+}
+
+/// Whether a vector of these bytes is handed back for a NUL at this place, with so many bytes.
+fn is_handed_back(alloc: Global, bytes: &[u8], place: usize, len: usize) -> bool {
+    let Ok(bytes) = Vec::from_slice(alloc, bytes) else {
+        return false;
+    };
+    match Text::from_vec(bytes) {
+        Ok(_) => false,
+        Err(refused) => refused.place == place && refused.bytes.len() == len,
+    }
+}
+
+fn refuses_nul(alloc: Global) -> bool {
+    match Text::new(alloc, b"pi\0g\0") {
+        Ok(_) => false,
+        Err(fault) => fault == TextFault::Nul(2),
+    }
+}
+
+fn finds_nul() -> bool {
+    first_nul(b"pi\0g\0") == Some(2) && first_nul(b"ping") == None
+}
+
+#[test]
+fn texts_hold_no_nul(rt: HostRuntime) {
+    assert!(rt; is_ping(rt.alloc()) && finds_nul());
+    assert!(rt; refuses_nul(rt.alloc()) && is_handed_back(rt.alloc(), b"p\0\0", 1, 3));
 }
 
 /// What other threads may have and share.
-fn may_go<T: Send + Sync>(_value: &T) {}
-
-#[test]
-fn values_may_go_to_other_threads(rt: HostRuntime) -> Result<(), Fail> {
-    let alloc = rt.alloc();
-    let shared = Arc::new(alloc, job(alloc, 1)?).ok().ok_or("memory")?;
-    may_go(&shared);
-    let item = Item::Answered(Answer {
-        job: shared,
-        outcome: Outcome::Returned(SharedOctets::new(alloc, octets(alloc, &[1])?)?),
-    });
-    may_go(&item);
-    may_go(&pool(alloc, true, &[])?);
-    Ok(())
+fn may_go<T: Send + Sync>() -> bool {
+    true
 }
 
-/// The body of an answer's outcome.
-fn body_of(item: &Item) -> &[u8] {
-    match item {
-        Item::Answered(answer) => match &answer.outcome {
-            Outcome::Returned(body) => body.as_slice(),
-            Outcome::User(body) => body.as_slice(),
-            Outcome::System(_) => &[],
-        },
-        Item::Early(_) => &[],
-        Item::Transient(_) => &[],
-        Item::Noticed(_) => &[],
+#[test]
+fn values_may_go_to_other_threads(rt: HostRuntime) {
+    assert!(rt; may_go::<Arc<Job>>() && may_go::<Item>() && may_go::<PoolSpec>());
+}
+
+/// What an item tells of job 7.
+enum Tells {
+    /// That it returned 1 and 2.
+    Returned,
+    /// That it raised 1 and 2.
+    Raised,
+    Early,
+    Transient,
+    /// A notice of another job.
+    Noticed,
+}
+
+const NOTICE: Notice = Notice {
+    conn: ConnId { slot: 1, nth: 2 },
+    order: Order::Little,
+    id: 9,
+    what: What::Located(true),
+};
+
+fn shared_job(alloc: Global) -> Option<Arc<Job>> {
+    Arc::new(alloc, job(alloc, 7)?).ok()?.share().ok()
+}
+
+fn shared_body(alloc: Global) -> Option<SharedOctets> {
+    SharedOctets::new(alloc, list(alloc, &[1, 2]))
+        .ok()?
+        .share()
+        .ok()
+}
+
+fn shared_outcome(alloc: Global, raised: bool) -> Option<Outcome> {
+    let body = shared_body(alloc)?;
+    if raised {
+        Outcome::User(body).share().ok()
+    } else {
+        Outcome::Returned(body).share().ok()
     }
 }
 
-#[test]
-fn shares_are_equal(rt: HostRuntime) -> Result<(), Fail> {
-    let alloc = rt.alloc();
-    let shared = Arc::new(alloc, job(alloc, 7)?).ok().ok_or("memory")?;
-    let body = SharedOctets::new(alloc, octets(alloc, &[1, 2])?)?;
-    let returned = Answer {
-        job: shared.share()?,
-        outcome: Outcome::Returned(body.share()?).share()?,
-    };
-    let raised = Answer {
-        job: shared.share()?,
-        outcome: Outcome::User(body).share()?,
-    };
-    assert_eq!(rt; returned.share()?.job.get().id, 7);
-    assert_eq!(rt;
-        body_of(&Item::Answered(returned).share()?),
-        [1, 2].as_slice()
-    );
-    assert_eq!(rt;
-        body_of(&Item::Answered(raised).share()?),
-        [1, 2].as_slice()
-    );
-    assert_eq!(rt;
-        body_of(&Item::Early(shared.share()?).share()?),
-        [].as_slice()
-    );
-    assert_eq!(rt; body_of(&Item::Transient(shared).share()?), [].as_slice());
-    let notice = Notice {
-        conn: ConnId { slot: 1, nth: 2 },
-        order: Order::Little,
-        id: 9,
-        what: What::Located(true),
-    };
-    assert!(rt;
-        matches!(Item::Noticed(notice).share()?, Item::Noticed(shared) if shared == notice)
-    );
-    Ok(())
+fn shared_answer(alloc: Global, raised: bool) -> Option<Answer> {
+    let outcome = shared_outcome(alloc, raised)?;
+    let job = shared_job(alloc)?;
+    Answer { job, outcome }.share().ok()
 }
 
-fn pool(alloc: Global, laned: bool, lanes: &[LaneSpec]) -> Result<PoolSpec, Fail> {
-    Ok(PoolSpec {
+fn item(alloc: Global, tells: &Tells) -> Option<Item> {
+    match tells {
+        Tells::Returned => Some(Item::Answered(shared_answer(alloc, false)?)),
+        Tells::Raised => Some(Item::Answered(shared_answer(alloc, true)?)),
+        Tells::Early => Some(Item::Early(shared_job(alloc)?)),
+        Tells::Transient => Some(Item::Transient(shared_job(alloc)?)),
+        Tells::Noticed => Some(Item::Noticed(NOTICE)),
+    }
+}
+
+fn is_outcome(outcome: &Outcome, tells: &Tells) -> bool {
+    match outcome {
+        Outcome::Returned(body) => {
+            matches!(tells, Tells::Returned) && body.as_slice() == [1, 2].as_slice()
+        }
+        Outcome::User(body) => {
+            matches!(tells, Tells::Raised) && body.as_slice() == [1, 2].as_slice()
+        }
+        Outcome::System(_) => false,
+    }
+}
+
+fn is_item(item: &Item, tells: &Tells) -> bool {
+    match item {
+        Item::Answered(answer) => answer.job.get().id == 7 && is_outcome(&answer.outcome, tells),
+        Item::Early(job) => matches!(tells, Tells::Early) && job.get().id == 7,
+        Item::Transient(job) => matches!(tells, Tells::Transient) && job.get().id == 7,
+        Item::Noticed(notice) => matches!(tells, Tells::Noticed) && *notice == NOTICE,
+    }
+}
+
+fn is_shared(item: Item, tells: &Tells) -> bool {
+    match item.share() {
+        Ok(share) => is_item(&share, tells),
+        Err(_) => false,
+    }
+}
+
+fn row_is_shared(alloc: Global, tells: &Tells) -> bool {
+    match item(alloc, tells) {
+        Some(item) => is_shared(item, tells),
+        None => false,
+    }
+}
+
+fn all_are_shared(alloc: Global, rows: &[Tells]) -> bool {
+    for row in rows {
+        if !row_is_shared(alloc, row) {
+            return false;
+        }
+    }
+    true
+}
+
+const TOLD: &[Tells] = &[
+    Tells::Returned,
+    Tells::Raised,
+    Tells::Early,
+    Tells::Transient,
+    Tells::Noticed,
+];
+
+#[test]
+fn shares_are_equal(rt: HostRuntime) {
+    assert!(rt; all_are_shared(rt.alloc(), TOLD));
+}
+
+fn pool(alloc: Global, laned: bool, lanes: &[LaneSpec]) -> PoolSpec {
+    PoolSpec {
         laned,
-        lanes: List::from_vec(Vec::from_slice(alloc, lanes)?),
+        lanes: list(alloc, lanes),
         borrowing: false,
         buffering: false,
         max_requests: 0,
         max_bytes: 0,
         run_calls: 65_536,
         run_bytes: 67_108_864,
-    })
+    }
 }
 
-fn lane(level: i16, statics: u8, dynamics: u8) -> Result<LaneSpec, Fail> {
-    Ok(LaneSpec {
-        priority: Priority::new(level).ok_or("a priority")?,
+/// A lane: its priority, and how many static and dynamic threads it has.
+type Lane = (i16, u8, u8);
+
+const TEN: Lane = (10, 1, 0);
+
+const TWENTY: Lane = (20, 0, 2);
+
+const EMPTY: Lane = (30, 0, 0);
+
+const WIDE: Lane = (40, 60, 4);
+
+fn lane(lane: Lane) -> Option<LaneSpec> {
+    let (level, statics, dynamics) = lane;
+    Some(LaneSpec {
+        priority: Priority::new(level)?,
         statics,
         dynamics,
     })
 }
 
-#[test]
-fn pools_are_judged(rt: HostRuntime) -> Result<(), Fail> {
-    let alloc = rt.alloc();
-    let ten = lane(10, 1, 0)?;
-    let twenty = lane(20, 0, 2)?;
-    let empty = lane(30, 0, 0)?;
-    let wide = lane(40, 60, 4)?;
-    for (name, laned, lanes, good) in [
-        ("one lane", false, [ten].as_slice(), true),
-        ("two lanes", true, [ten, twenty].as_slice(), true),
-        (
-            "two lanes without lanes",
-            false,
-            [ten, twenty].as_slice(),
-            false,
-        ),
-        ("falling lanes", true, [twenty, ten].as_slice(), false),
-        ("one priority twice", true, [ten, ten].as_slice(), false),
-        (
-            "a lane without threads",
-            true,
-            [ten, empty].as_slice(),
-            false,
-        ),
-        ("64 threads", true, [wide].as_slice(), true),
-        ("65 threads", true, [ten, wide].as_slice(), false),
-    ] {
-        assert_eq!(rt;
-            pool(alloc, laned, lanes)?.copy(alloc)?.well_formed(),
-            good,
-            "{name}"
-        );
+/// Whether a pool has lanes, its lanes, and whether it can be opened.
+type Judged = (bool, &'static [Lane], bool);
+
+const POOLS: &[Judged] = &[
+    // one lane
+    (false, &[TEN], true),
+    // two lanes
+    (true, &[TEN, TWENTY], true),
+    // two lanes without lanes
+    (false, &[TEN, TWENTY], false),
+    // falling lanes
+    (true, &[TWENTY, TEN], false),
+    // one priority twice
+    (true, &[TEN, TEN], false),
+    // a lane without threads
+    (true, &[TEN, EMPTY], false),
+    // 64 threads
+    (true, &[WIDE], true),
+    // 65 threads
+    (true, &[TEN, WIDE], false),
+];
+
+/// Whether this is told of a pool's copy.
+fn copy_is(alloc: Global, pool: &PoolSpec, want: bool) -> bool {
+    match pool.copy(alloc) {
+        Ok(copy) => copy.well_formed() == want,
+        Err(_) => false,
     }
-    let mut lending = pool(alloc, false, &[ten])?;
-    lending.borrowing = true;
-    assert!(rt; !lending.well_formed());
-    let mut buffered = pool(alloc, true, &[ten])?;
-    buffered.buffering = true;
-    assert!(rt; !buffered.well_formed());
-    buffered.max_requests = 1;
-    buffered.max_bytes = 1;
-    assert!(rt; buffered.well_formed());
-    buffered.run_calls = 65_537;
-    assert!(rt; !buffered.well_formed());
-    Ok(())
+}
+
+fn is_judged(alloc: Global, laned: bool, lanes: &[LaneSpec], want: bool) -> bool {
+    let pool = pool(alloc, laned, lanes);
+    pool.lanes.len() == lanes.len() && copy_is(alloc, &pool, want)
+}
+
+fn row_is_judged(alloc: Global, row: &Judged) -> bool {
+    match row.1 {
+        [one] => match lane(*one) {
+            Some(one) => is_judged(alloc, row.0, &[one], row.2),
+            None => false,
+        },
+        [low, high] => match (lane(*low), lane(*high)) {
+            (Some(low), Some(high)) => is_judged(alloc, row.0, &[low, high], row.2),
+            _ => false,
+        },
+        _ => false,
+    }
+}
+
+fn all_are_judged(alloc: Global, rows: &[Judged]) -> bool {
+    for row in rows {
+        if !row_is_judged(alloc, row) {
+            return false;
+        }
+    }
+    true
+}
+
+/// Whether one lane may lend its thread.
+fn lends(pool: &mut PoolSpec) -> bool {
+    pool.borrowing = true;
+    pool.well_formed()
+}
+
+/// Whether a pool buffers within limits alone.
+fn buffers(pool: &mut PoolSpec) -> bool {
+    pool.buffering = true;
+    let without = pool.well_formed();
+    pool.max_requests = 1;
+    pool.max_bytes = 1;
+    let within = pool.well_formed();
+    pool.run_calls = 65_537;
+    !without && within && !pool.well_formed()
+}
+
+fn lending_is_refused(alloc: Global) -> bool {
+    match lane(TEN) {
+        Some(ten) => {
+            let mut pool = pool(alloc, false, &[ten]);
+            pool.lanes.len() == 1 && !lends(&mut pool)
+        }
+        None => false,
+    }
+}
+
+fn buffers_are_judged(alloc: Global) -> bool {
+    match lane(TEN) {
+        Some(ten) => {
+            let mut pool = pool(alloc, true, &[ten]);
+            pool.lanes.len() == 1 && buffers(&mut pool)
+        }
+        None => false,
+    }
 }
 
 #[test]
-fn sources_follow_their_scripts(rt: HostRuntime) -> Result<(), Fail> {
-    let alloc = rt.alloc();
-    let cuts = List::from_vec(Vec::from_slice(alloc, &[1usize, 0, 9])?);
-    let failing = List::from_vec(Vec::from_slice(alloc, &[2u64])?);
-    let mut source = MemSource::new(octets(alloc, b"abcde")?, cuts, failing);
-    for (got, front) in [
-        (Got::Bytes(1), b"a".as_slice()),
-        (Got::Bytes(1), b"b".as_slice()),
-        (Got::Failed, b"".as_slice()),
-        (Got::Bytes(3), b"cde".as_slice()),
-        (Got::End, b"".as_slice()),
-    ] {
-        let (answer, into) = read_three(&mut source);
-        assert_eq!(rt; answer, got);
-        assert!(rt; into.starts_with(front));
+fn pools_are_judged(rt: HostRuntime) {
+    assert!(rt; all_are_judged(rt.alloc(), POOLS));
+    assert!(rt; lending_is_refused(rt.alloc()) && buffers_are_judged(rt.alloc()));
+}
+
+/// What a read of at most three bytes answers, and what the bytes then begin with.
+type Read = (Got, &'static [u8]);
+
+/// A read through the bound.
+fn reads<I: Source>(source: &mut I, row: &Read) -> bool {
+    let mut into = [0u8; 3];
+    source.read(&mut into) == row.0 && into.starts_with(row.1)
+}
+
+fn reads_each<I: Source>(source: &mut I, rows: &[Read]) -> bool {
+    for row in rows {
+        if !reads(source, row) {
+            return false;
+        }
     }
-    let mut steady = SteadySource::new(octets(alloc, b"ab")?, List::new(alloc));
-    assert_eq!(rt; read_three(&mut steady).0, Got::Bytes(2));
-    assert_eq!(rt; read_three(&mut steady).0, Got::End);
-    Ok(())
+    true
+}
+
+/// Reads of abcde that are cut at 1, 0 and 9 bytes, of which that of number 2 fails.
+const CUT_READS: &[Read] = &[
+    (Got::Bytes(1), b"a"),
+    (Got::Bytes(1), b"b"),
+    (Got::Failed, b""),
+    (Got::Bytes(3), b"cde"),
+    (Got::End, b""),
+];
+
+/// Reads of ab that are not cut.
+const STEADY_READS: &[Read] = &[(Got::Bytes(2), b"ab"), (Got::End, b"")];
+
+fn cut_source_reads(alloc: Global) -> bool {
+    let cuts = list(alloc, &[1, 0, 9]);
+    let failing = list(alloc, &[2]);
+    let mut source = MemSource::new(list(alloc, b"abcde"), cuts, failing);
+    reads_each(&mut source, CUT_READS)
+}
+
+fn steady_source_reads(alloc: Global) -> bool {
+    let mut source = SteadySource::new(list(alloc, b"ab"), List::new(alloc));
+    reads_each(&mut source, STEADY_READS)
 }
 
 #[test]
-fn sinks_follow_their_scripts(rt: HostRuntime) -> Result<(), Fail> {
-    let alloc = rt.alloc();
-    let cuts = List::from_vec(Vec::from_slice(alloc, &[2usize])?);
-    let failing = List::from_vec(Vec::from_slice(alloc, &[1u64])?);
-    let mut sink = MemSink::new(alloc, cuts, failing);
-    for put in [Put::Took(2), Put::Failed, Put::Took(3)] {
-        assert_eq!(rt; write_abc(&mut sink), put);
+fn sources_follow_their_scripts(rt: HostRuntime) {
+    assert!(rt; cut_source_reads(rt.alloc()) && steady_source_reads(rt.alloc()));
+}
+
+/// What a write of abc through the bound answers.
+fn writes_each<O: Sink>(sink: &mut O, rows: &[Put]) -> bool {
+    for put in rows {
+        if sink.write(b"abc") != *put {
+            return false;
+        }
     }
     sink.close();
-    assert_eq!(rt; sink.held(), b"ababc".as_slice());
-    let mut counting = CountingSink::new();
-    assert_eq!(rt; write_abc(&mut counting), Put::Took(3));
-    assert_eq!(rt; write_abc(&mut counting), Put::Took(3));
-    counting.close();
-    assert_eq!(rt; counting.bytes(), 6);
-    Ok(())
+    true
 }
 
-fn files(alloc: Global) -> Result<List<MemFile>, Fail> {
-    let mut files = List::new(alloc);
-    for (name, bytes) in [(b"a.idl", b"abc"), (b"b.idl", b"xyz"), (b"a.idl", b"two")] {
-        let file = MemFile {
-            name: Text::new(alloc, name)?,
-            bytes: octets(alloc, bytes)?,
-        };
-        assert_ok(files.push(file).is_ok())?;
-    }
-    Ok(files)
+/// Writes of which the first is cut at 2 bytes, and that of number 1 fails.
+const CUT_WRITES: &[Put] = &[Put::Took(2), Put::Failed, Put::Took(3)];
+
+fn cut_sink_writes(alloc: Global) -> bool {
+    let cuts = list(alloc, &[2]);
+    let mut sink = MemSink::new(alloc, cuts, list(alloc, &[1]));
+    writes_each(&mut sink, CUT_WRITES) && sink.held() == b"ababc".as_slice()
 }
 
-fn assert_ok(done: bool) -> Result<(), Fail> {
-    if done { Ok(()) } else { Err("memory")? }
-}
-
-/// A read through the bound: the answer, and the list.
-fn read_file<F: Files>(
-    alloc: Global,
-    files: &mut F,
-    name: &[u8],
-    limit: usize,
-) -> Result<(Filed, Octets), Fail> {
-    let mut into = octets(alloc, b"old")?;
-    let filed = files.read(&Text::new(alloc, name)?, limit, &mut into);
-    Ok((filed, into))
+fn counting_sink_writes() -> bool {
+    let mut sink = CountingSink::new();
+    writes_each(&mut sink, &[Put::Took(3), Put::Took(3)]) && sink.bytes() == 6
 }
 
 #[test]
-fn files_are_read_whole(rt: HostRuntime) -> Result<(), Fail> {
-    let alloc = rt.alloc();
-    let failing = List::from_vec(Vec::from_slice(alloc, &[1u64])?);
-    let mut failed = MemFiles::new(files(alloc)?, failing);
-    let mut steady = SteadyFiles::new(files(alloc)?);
-    for (name, limit, failure, wanted, content) in [
-        (b"a.idl", 3, false, Filed::Whole, b"abc".as_slice()),
-        (b"b.idl", 3, true, Filed::Whole, b"xyz".as_slice()),
-        (b"c.idl", 3, false, Filed::Absent, b"".as_slice()),
-        (b"a.idl", 2, false, Filed::TooLong, b"".as_slice()),
-    ] {
-        let (answer, into) = read_file(alloc, &mut steady, name, limit)?;
-        assert_eq!(rt; answer, wanted);
-        assert_eq!(rt; into.as_slice(), content);
-        let (answer, into) = read_file(alloc, &mut failed, name, limit)?;
-        assert_eq!(rt; answer, if failure { Filed::Failed } else { wanted });
-        assert_eq!(rt;
-            into.as_slice(),
-            if failure { b"".as_slice() } else { content }
-        );
-    }
-    Ok(())
+fn sinks_follow_their_scripts(rt: HostRuntime) {
+    assert!(rt; cut_sink_writes(rt.alloc()) && counting_sink_writes());
 }
 
-fn link(alloc: Global, bytes: &[u8]) -> Result<MemLink, Fail> {
-    Ok(MemLink::new(
-        MemSource::new(octets(alloc, bytes)?, List::new(alloc), List::new(alloc)),
+/// The names of files, and their contents.
+const FILES: &[(&[u8], &[u8])] = &[(b"a.idl", b"abc"), (b"b.idl", b"xyz"), (b"a.idl", b"two")];
+
+fn puts_file(alloc: Global, files: &mut List<MemFile>, row: &(&[u8], &[u8])) -> bool {
+    let bytes = list(alloc, row.1);
+    match Text::new(alloc, row.0) {
+        Ok(name) => files.push(MemFile { name, bytes }).is_ok(),
+        Err(_) => false,
+    }
+}
+
+fn puts_files(alloc: Global, files: &mut List<MemFile>) -> bool {
+    for row in FILES {
+        if !puts_file(alloc, files, row) {
+            return false;
+        }
+    }
+    true
+}
+
+fn files(alloc: Global) -> Option<List<MemFile>> {
+    let mut files = List::new(alloc);
+    if !puts_files(alloc, &mut files) {
+        return None;
+    }
+    Some(files)
+}
+
+/// A read of a file: its name, the limit, the answer and what the list then holds.
+type FileRead = (&'static [u8], usize, Filed, &'static [u8]);
+
+/// Reads that do not fail.
+const WHOLE: &[FileRead] = &[
+    (b"a.idl", 3, Filed::Whole, b"abc"),
+    (b"b.idl", 3, Filed::Whole, b"xyz"),
+    (b"c.idl", 3, Filed::Absent, b""),
+    (b"a.idl", 2, Filed::TooLong, b""),
+];
+
+/// The same reads, of which that of number 1 fails.
+const FAILED: &[FileRead] = &[
+    (b"a.idl", 3, Filed::Whole, b"abc"),
+    (b"b.idl", 3, Filed::Failed, b""),
+    (b"c.idl", 3, Filed::Absent, b""),
+    (b"a.idl", 2, Filed::TooLong, b""),
+];
+
+fn holds(list: &Octets, bytes: &[u8]) -> bool {
+    list.as_slice() == bytes
+}
+
+/// Whether a read through the bound answers this, and leaves this in a list that held something.
+fn reads_file<F: Files>(files: &mut F, name: &Text, row: &FileRead, into: &mut Octets) -> bool {
+    into.len() == 3 && files.read(name, row.1, into) == row.2 && holds(into, row.3)
+}
+
+fn reads_row<F: Files>(alloc: Global, files: &mut F, row: &FileRead) -> bool {
+    match Text::new(alloc, row.0) {
+        Ok(name) => reads_file(files, &name, row, &mut list(alloc, b"old")),
+        Err(_) => false,
+    }
+}
+
+fn reads_files<F: Files>(alloc: Global, files: &mut F, rows: &[FileRead]) -> bool {
+    for row in rows {
+        if !reads_row(alloc, files, row) {
+            return false;
+        }
+    }
+    true
+}
+
+fn steady_files_are_read(alloc: Global) -> bool {
+    match files(alloc) {
+        Some(files) => reads_files(alloc, &mut SteadyFiles::new(files), WHOLE),
+        None => false,
+    }
+}
+
+fn failing_files_are_read(alloc: Global) -> bool {
+    match files(alloc) {
+        Some(files) => { reads_files(alloc, &mut MemFiles::new(files, list(alloc, &[1])), FAILED) }
+        None => false,
+    }
+}
+
+#[test]
+fn files_are_read_whole(rt: HostRuntime) {
+    assert!(rt; steady_files_are_read(rt.alloc()) && failing_files_are_read(rt.alloc()));
+}
+
+fn link(alloc: Global, bytes: &[u8]) -> MemLink {
+    MemLink::new(
+        MemSource::new(list(alloc, bytes), List::new(alloc), List::new(alloc)),
         MemSink::new(alloc, List::new(alloc), List::new(alloc)),
-    ))
+    )
 }
 
-fn links(alloc: Global) -> Result<LinkedList<MemLink>, Fail> {
+fn puts_link(alloc: Global, links: &mut LinkedList<MemLink>, bytes: &[u8]) -> bool {
+    links.push_back(link(alloc, bytes)).is_ok()
+}
+
+fn puts_links(alloc: Global, links: &mut LinkedList<MemLink>) -> bool {
+    puts_link(alloc, links, b"abc")
+        && puts_link(alloc, links, b"def")
+        && puts_link(alloc, links, b"ghi")
+}
+
+fn links(alloc: Global) -> Option<LinkedList<MemLink>> {
     let mut links = LinkedList::new(alloc);
-    for bytes in [b"abc", b"def", b"ghi"] {
-        assert_ok(links.push_back(link(alloc, bytes)?).is_ok())?;
+    if !puts_links(alloc, &mut links) {
+        return None;
     }
-    Ok(links)
+    Some(links)
 }
 
 /// What an accept gave: a link of which three bytes are read, no link, or a fault.
-#[derive(Clone, Copy, Debug, PartialEq, Eq)]
 enum Gave {
-    Link([u8; 3]),
+    Link(&'static [u8; 3]),
     Done,
     Failed,
 }
 
+/// Whether a link is given, of which these bytes are read.
+fn gives<I: Source, O: Sink>(source: &mut I, sink: &mut O, gave: &Gave) -> bool {
+    let mut into = [0u8; 3];
+    source.read(&mut into);
+    sink.close();
+    match gave {
+        Gave::Link(bytes) => into == **bytes,
+        _ => false,
+    }
+}
+
 /// An accept through the bound.
-fn accept_one<A: Acceptor>(acceptor: &mut A) -> Gave {
+fn accepts<A: Acceptor>(acceptor: &mut A, gave: &Gave) -> bool {
     match acceptor.accept() {
-        Accepted::Link(mut source, mut sink) => {
-            let (_, bytes) = read_three(&mut source);
-            sink.close();
-            Gave::Link(bytes)
+        Accepted::Link(mut source, mut sink) => gives(&mut source, &mut sink, gave),
+        Accepted::Done => matches!(gave, Gave::Done),
+        Accepted::Failed => matches!(gave, Gave::Failed),
+    }
+}
+
+fn accepts_each<A: Acceptor>(acceptor: &mut A, rows: &[Gave]) -> bool {
+    for gave in rows {
+        if !accepts(acceptor, gave) {
+            return false;
         }
-        Accepted::Done => Gave::Done,
-        Accepted::Failed => Gave::Failed,
+    }
+    true
+}
+
+/// Accepts of at most two links, of which that of number 1 fails.
+const FAILING_ACCEPTS: &[Gave] = &[
+    Gave::Link(b"abc"),
+    Gave::Failed,
+    Gave::Link(b"def"),
+    Gave::Done,
+];
+
+/// Accepts of at most nine links.
+const STEADY_ACCEPTS: &[Gave] = &[
+    Gave::Link(b"abc"),
+    Gave::Link(b"def"),
+    Gave::Link(b"ghi"),
+    Gave::Done,
+];
+
+fn failing_acceptor_gives(alloc: Global) -> bool {
+    match links(alloc) {
+        Some(links) => {
+            let mut acceptor = MemAcceptor::new(links, 2, list(alloc, &[1]));
+            accepts_each(&mut acceptor, FAILING_ACCEPTS)
+        }
+        None => false,
+    }
+}
+
+fn steady_acceptor_gives(alloc: Global) -> bool {
+    match links(alloc) {
+        Some(links) => accepts_each(&mut SteadyAcceptor::new(links, 9), STEADY_ACCEPTS),
+        None => false,
     }
 }
 
 #[test]
-fn links_are_handed_out_in_order(rt: HostRuntime) -> Result<(), Fail> {
-    let alloc = rt.alloc();
-    let failing = List::from_vec(Vec::from_slice(alloc, &[1u64])?);
-    let mut acceptor = MemAcceptor::new(links(alloc)?, 2, failing);
-    for gave in [
-        Gave::Link(*b"abc"),
-        Gave::Failed,
-        Gave::Link(*b"def"),
-        Gave::Done,
-    ] {
-        assert_eq!(rt; accept_one(&mut acceptor), gave);
-    }
-    let mut steady = SteadyAcceptor::new(links(alloc)?, 9);
-    for gave in [
-        Gave::Link(*b"abc"),
-        Gave::Link(*b"def"),
-        Gave::Link(*b"ghi"),
-        Gave::Done,
-    ] {
-        assert_eq!(rt; accept_one(&mut steady), gave);
-    }
-    Ok(())
+fn links_are_handed_out_in_order(rt: HostRuntime) {
+    assert!(rt; failing_acceptor_gives(rt.alloc()) && steady_acceptor_gives(rt.alloc()));
 }
 
 /// A gate through the bound.
@@ -434,26 +764,42 @@ fn pass<G: Gate>(gate: &G, job: &Job) {
     gate.leave(job);
 }
 
-#[test]
-fn an_open_gate_lets_a_job_pass(rt: HostRuntime) -> Result<(), Fail> {
-    let job = job(rt.alloc(), 3)?;
-    pass(&Open, &job);
-    assert_eq!(rt; job.id, 3);
-    Ok(())
+fn passes(alloc: Global, gate: &Open) -> bool {
+    match job(alloc, 3) {
+        Some(job) => {
+            pass(gate, &job);
+            job.id == 3
+        }
+        None => false,
+    }
 }
 
 #[test]
-fn priority_models_have_their_numbers(rt: HostRuntime) -> Result<(), Fail> {
-    assert_eq!(rt;
-        PriorityModel::of_number(0),
-        Some(PriorityModel::ClientPropagated)
-    );
-    assert_eq!(rt;
-        PriorityModel::of_number(1),
-        Some(PriorityModel::ServerDeclared)
-    );
-    assert_eq!(rt; PriorityModel::of_number(2), None);
-    assert_eq!(rt; PriorityModel::ClientPropagated.number(), 0);
-    assert_eq!(rt; PriorityModel::ServerDeclared.number(), 1);
-    Ok(())
+fn an_open_gate_lets_a_job_pass(rt: HostRuntime) {
+    assert!(rt; passes(rt.alloc(), &Open));
+}
+
+/// Numbers, and the models that have them.
+const MODELS: &[(u32, Option<PriorityModel>)] = &[
+    (0, Some(PriorityModel::ClientPropagated)),
+    (1, Some(PriorityModel::ServerDeclared)),
+    (2, None),
+];
+
+fn has_number(row: &(u32, Option<PriorityModel>)) -> bool {
+    PriorityModel::of_number(row.0) == row.1
+}
+
+fn have_numbers(rows: &[(u32, Option<PriorityModel>)]) -> bool {
+    for row in rows {
+        if !has_number(row) {
+            return false;
+        }
+    }
+    PriorityModel::ClientPropagated.number() == 0 && PriorityModel::ServerDeclared.number() == 1
+}
+
+#[test]
+fn priority_models_have_their_numbers(rt: HostRuntime) {
+    assert!(rt; have_numbers(MODELS));
 }

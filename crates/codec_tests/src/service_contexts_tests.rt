@@ -1,6 +1,8 @@
 //! Contexts and policy values as bytes that were spelled out by hand from CORBA 3.0.3, section 15.3.3.
+ghost use Rattle.std.specs.Prelude.{◌≡◌, IfSome};
+ghost use Rattle.cdr_core.specs.Lists.{AreCounted, item_of_tagged};
 
-use orb_base::{Band, Context, List, NoMemory, Order, Priority, PriorityModel};
+use orb_base::{Band, Context, List, Octets, Order, Priority, PriorityModel, Tagged};
 use service_contexts::*;
 use std::alloc::Global;
 use std::test::*;
@@ -21,218 +23,332 @@ const MODEL: &[u8] = &[0, 0, 0, 0, 0, 0, 0, 0, 0, 100];
 /// The bands 0 to 99 and 100 to 200.
 const BANDS: &[u8] = &[0, 0, 0, 0, 0, 0, 0, 2, 0, 0, 0, 99, 0, 100, 0, 200];
 
-fn priority(level: i16) -> Result<Priority, Fail> {
-    Ok(Priority::new(level).ok_or("a priority")?)
+/// The number of no bands.
+const NO_BAND: &[u8] = &[0; 8];
+
+fn band(low: i16, high: i16) -> Option<Band> {
+    Band::new(Priority::new(low)?, Priority::new(high)?)
 }
 
-fn band(low: i16, high: i16) -> Result<Band, Fail> {
-    Ok(Band::new(priority(low)?, priority(high)?).ok_or("a band")?)
-}
+/// Priorities with their contexts.
+const PRIORITIES: &[(Order, i16, &[u8])] = &[
+    (Order::Big, 100, HUNDRED),
+    (Order::Little, 100, LITTLE_HUNDRED),
+    (Order::Big, 0x7fff, &[0, 0, 0x7f, 0xff]),
+];
 
-#[test]
-fn a_priority_is_written_in_either_order(rt: HostRuntime) -> Result<(), Fail> {
-    let hundred = priority(100)?;
-    assert_eq!(rt; priority_context(Order::Big, hundred).as_slice(), HUNDRED);
-    assert_eq!(rt;
-        priority_context(Order::Little, hundred).as_slice(),
-        LITTLE_HUNDRED
-    );
-    assert_eq!(rt;
-        priority_context(Order::Big, priority(0x7fff)?),
-        [0, 0, 0x7f, 0xff]
-    );
-    Ok(())
-}
-
-#[test]
-fn a_range_is_written_low_end_first(rt: HostRuntime) -> Result<(), Fail> {
-    let range = band(100, 200)?;
-    assert_eq!(rt; range_context(Order::Big, range).as_slice(), RANGE);
-    assert_eq!(rt;
-        range_context(Order::Little, range).as_slice(),
-        LITTLE_RANGE
-    );
-    Ok(())
-}
-
-#[test]
-fn a_model_is_written_with_its_priority(rt: HostRuntime) -> Result<(), Fail> {
-    let client = model_policy(PriorityModel::ClientPropagated, priority(100)?);
-    assert_eq!(rt; client.as_slice(), MODEL);
-    let server = model_policy(PriorityModel::ServerDeclared, priority(30)?);
-    assert_eq!(rt; server, [0, 0, 0, 0, 0, 0, 0, 1, 0, 30]);
-    Ok(())
-}
-
-#[test]
-fn bands_are_written_behind_their_number(rt: HostRuntime) -> Result<(), Fail> {
-    let bands = [band(0, 99)?, band(100, 200)?];
-    assert_eq!(rt; bands_policy(rt.alloc(), &bands)?.as_slice(), BANDS);
-    assert_eq!(rt;
-        bands_policy(rt.alloc(), &[])?.as_slice(),
-        [0; 8].as_slice()
-    );
-    Ok(())
-}
-
-/// What contexts of these ids and contents tell.
-fn told(alloc: Global, parts: &[(u32, &[u8])]) -> Result<Result<Contexts, ContextFault>, NoMemory> {
-    let mut list = List::new(alloc);
-    for (id, bytes) in parts {
-        let bytes = List::from_vec(Vec::from_slice(alloc, *bytes)?);
-        if list.push(Context { id: *id, bytes }).is_err() {
-            return Err(NoMemory);
+fn are_priorities_written(rows: &[(Order, i16, &[u8])]) -> bool {
+    for (order, level, bytes) in rows {
+        match Priority::new(*level) {
+            Some(priority) => {
+                if priority_context(*order, priority).as_slice() != *bytes {
+                    return false;
+                }
+            }
+            None => return false,
         }
     }
-    Ok(contexts_of(&list))
+    true
 }
 
 #[test]
-fn contexts_tell_a_priority_and_a_range(rt: HostRuntime) -> Result<(), Fail> {
-    let hundred = Some(priority(100)?);
-    let range = Some(band(100, 200)?);
-    let all = Ok(Contexts {
-        priority: hundred,
-        range,
-    });
-    assert_eq!(rt;
-        told(rt.alloc(), &[])?,
-        Ok(Contexts {
-            priority: None,
-            range: None
-        })
-    );
-    assert_eq!(rt;
-        told(rt.alloc(), &[(10, HUNDRED)])?,
-        Ok(Contexts {
-            priority: hundred,
-            range: None
-        })
-    );
-    assert_eq!(rt;
-        told(rt.alloc(), &[(11, LITTLE_RANGE)])?,
-        Ok(Contexts {
-            priority: None,
-            range
-        })
-    );
-    assert_eq!(rt;
-        told(rt.alloc(), &[(10, LITTLE_HUNDRED), (11, RANGE)])?,
-        all
-    );
-    assert_eq!(rt;
-        told(rt.alloc(), &[(11, LITTLE_RANGE), (10, HUNDRED)])?,
-        all
-    );
-    Ok(())
+fn a_priority_is_written_in_either_order(rt: HostRuntime) {
+    assert!(rt; are_priorities_written(PRIORITIES));
+}
+
+fn is_range_written() -> bool {
+    match band(100, 200) {
+        Some(range) => {
+            range_context(Order::Big, range).as_slice() == RANGE
+                && range_context(Order::Little, range).as_slice() == LITTLE_RANGE
+        }
+        None => false,
+    }
 }
 
 #[test]
-fn the_first_context_of_an_id_counts(rt: HostRuntime) -> Result<(), Fail> {
-    let hundred = Some(priority(100)?);
-    let range = Some(band(100, 200)?);
-    let all = Ok(Contexts {
-        priority: hundred,
-        range,
-    });
-    let parts: [(u32, &[u8]); 5] = [
-        (9, &[]),
-        (10, HUNDRED),
-        (10, &[0, 0, 0, 7]),
-        (11, RANGE),
-        (11, &[2]),
-    ];
-    assert_eq!(rt; told(rt.alloc(), &parts)?, all);
-    let parts: [(u32, &[u8]); 4] = [(10, HUNDRED), (12, &[0]), (10, &[]), (11, RANGE)];
-    assert_eq!(rt; told(rt.alloc(), &parts)?, all);
-    Ok(())
+fn a_range_is_written_low_end_first(rt: HostRuntime) {
+    assert!(rt; is_range_written());
 }
 
-#[test]
-fn a_fault_names_the_first_context_without_a_reading(rt: HostRuntime) -> Result<(), Fail> {
-    let priority = Some(priority(100)?);
-    let range = Some(band(100, 200)?);
-    let none: [(u32, &[u8]); 2] = [(11, RANGE), (10, HUNDRED)];
-    assert_eq!(rt; told(rt.alloc(), &none)?, Ok(Contexts { priority, range }));
-    let first: [(u32, &[u8]); 2] = [(10, &[0, 0]), (11, &[])];
-    assert_eq!(rt; told(rt.alloc(), &first)?, Err(ContextFault { id: 10 }));
-    let second: [(u32, &[u8]); 2] = [(11, &[]), (10, &[0, 0])];
-    assert_eq!(rt; told(rt.alloc(), &second)?, Err(ContextFault { id: 11 }));
-    let third: [(u32, &[u8]); 3] = [(10, HUNDRED), (10, &[]), (11, &[])];
-    assert_eq!(rt; told(rt.alloc(), &third)?, Err(ContextFault { id: 11 }));
-    Ok(())
-}
-
-/// No byte, no order, cut short, negative in either order.
-const NO_PRIORITIES: [&[u8]; 6] = [
-    &[],
-    &[2, 0, 0, 100],
-    &[0],
-    &[0, 0, 0],
-    &[0, 0, 0x80, 0],
-    &[1, 0, 0, 0x80],
+/// Models with the server's priority, and their values.
+const MODELS: &[(PriorityModel, i16, &[u8])] = &[
+    (PriorityModel::ClientPropagated, 100, MODEL),
+    (
+        PriorityModel::ServerDeclared,
+        30,
+        &[0, 0, 0, 0, 0, 0, 0, 1, 0, 30],
+    ),
 ];
 
-/// No byte, cut short, the low end above the high one, an end negative.
-const NO_RANGES: [&[u8]; 5] = [
-    &[],
-    &[0, 0, 0, 100, 0],
-    &[0, 0, 0, 200, 0, 100],
-    &[0, 0, 0, 100, 0x80, 0],
-    &[0, 0, 0xff, 0xff, 0, 100],
-];
-
-#[test]
-fn contexts_without_a_reading_are_refused(rt: HostRuntime) -> Result<(), Fail> {
-    let priority = Some(priority(100)?);
-    let range = Some(band(100, 200)?);
-    assert_eq!(rt;
-        told(rt.alloc(), &[(10, HUNDRED), (11, RANGE)])?,
-        Ok(Contexts { priority, range })
-    );
-    for bytes in NO_PRIORITIES {
-        assert_eq!(rt;
-            told(rt.alloc(), &[(10, bytes)])?,
-            Err(ContextFault { id: 10 }),
-            "{bytes:?}"
-        );
+fn are_models_written(rows: &[(PriorityModel, i16, &[u8])]) -> bool {
+    for (model, level, bytes) in rows {
+        match Priority::new(*level) {
+            Some(priority) => {
+                if model_policy(*model, priority).as_slice() != *bytes {
+                    return false;
+                }
+            }
+            None => return false,
+        }
     }
-    for bytes in NO_RANGES {
-        assert_eq!(rt;
-            told(rt.alloc(), &[(11, bytes)])?,
-            Err(ContextFault { id: 11 }),
-            "{bytes:?}"
-        );
-    }
-    Ok(())
+    true
 }
 
 #[test]
-fn pads_and_bytes_behind_are_ignored(rt: HostRuntime) -> Result<(), Fail> {
-    let parts: [(u32, &[u8]); 2] = [
+fn a_model_is_written_with_its_priority(rt: HostRuntime) {
+    assert!(rt; are_models_written(MODELS));
+}
+
+/// Whether bands, 2 at most, are written so.
+fn writes_bands(alloc: Global, bands: &[Band], bytes: &[u8]) -> bool {
+    if bands.len() > 2 {
+        return false;
+    }
+    match bands_policy(alloc, bands) {
+        Ok(octets) => octets.as_slice() == bytes,
+        Err(_) => false,
+    }
+}
+
+/// Whether two bands, and none, are written so.
+fn are_bands_written(alloc: Global) -> bool {
+    match (band(0, 99), band(100, 200)) {
+        (Some(low), Some(high)) => {
+            writes_bands(alloc, &[low, high], BANDS) && writes_bands(alloc, &[], NO_BAND)
+        }
+        _ => false,
+    }
+}
+
+#[test]
+fn bands_are_written_behind_their_number(rt: HostRuntime) {
+    assert!(rt; are_bands_written(rt.alloc()));
+}
+
+fn octets(alloc: Global, bytes: &[u8]) -> Option<Octets>
+    ensures { IfSome result (λ o. o.items ≡ bytes.now) }
+{
+    let vec = Vec::from_slice(alloc, bytes).ok()?;
+    Some(List::from_vec(vec))
+}
+
+/// Puts a context behind those that stand there. False where memory is wanting.
+fn put(alloc: Global, list: &mut List<Context>, id: u32, bytes: &[u8]) -> bool {
+    match octets(alloc, bytes) {
+        Some(bytes) => list.push(Context { id, bytes }).is_ok(),
+        None => false,
+    }
+}
+
+fn put_all(alloc: Global, list: &mut List<Context>, parts: &[(u32, &[u8])]) -> bool {
+    for (id, bytes) in parts {
+        if !put(alloc, list, *id, bytes) {
+            return false;
+        }
+    }
+    true
+}
+
+fn level_of(priority: Option<Priority>) -> Option<i16> {
+    match priority {
+        Some(priority) => Some(priority.get()),
+        None => None,
+    }
+}
+
+fn ends_of(band: Option<Band>) -> Option<(i16, i16)> {
+    match band {
+        Some(band) => Some((band.low().get(), band.high().get())),
+        None => None,
+    }
+}
+
+/// Contexts of these ids and contents, and the priority and the range that they tell.
+struct Told {
+    parts: &'static [(u32, &'static [u8])],
+    priority: Option<i16>,
+    range: Option<(i16, i16)>,
+}
+
+fn tells(alloc: Global, row: &Told) -> bool {
+    let mut list = List::new(alloc);
+    if !put_all(alloc, &mut list, row.parts) {
+        return false;
+    }
+    match contexts_of(&list) {
+        Ok(told) => level_of(told.priority) == row.priority && ends_of(told.range) == row.range,
+        Err(_) => false,
+    }
+}
+
+fn all_tell(alloc: Global, rows: &[Told]) -> bool {
+    for row in rows {
+        if !tells(alloc, row) {
+            return false;
+        }
+    }
+    true
+}
+
+const TOLD: &[Told] = &[
+    Told {
+        parts: &[],
+        priority: None,
+        range: None,
+    },
+    Told {
+        parts: &[(10, HUNDRED)],
+        priority: Some(100),
+        range: None,
+    },
+    Told {
+        parts: &[(11, LITTLE_RANGE)],
+        priority: None,
+        range: Some((100, 200)),
+    },
+    Told {
+        parts: &[(10, LITTLE_HUNDRED), (11, RANGE)],
+        priority: Some(100),
+        range: Some((100, 200)),
+    },
+    Told {
+        parts: &[(11, LITTLE_RANGE), (10, HUNDRED)],
+        priority: Some(100),
+        range: Some((100, 200)),
+    },
+    Told {
+        parts: &[(11, RANGE), (10, HUNDRED)],
+        priority: Some(100),
+        range: Some((100, 200)),
+    },
+    Told {
+        parts: &[(10, HUNDRED), (11, RANGE)],
+        priority: Some(100),
+        range: Some((100, 200)),
+    },
+];
+
+#[test]
+fn contexts_tell_a_priority_and_a_range(rt: HostRuntime) {
+    assert!(rt; all_tell(rt.alloc(), TOLD));
+}
+
+const FIRSTS: &[Told] = &[
+    Told {
+        parts: &[
+            (9, &[]),
+            (10, HUNDRED),
+            (10, &[0, 0, 0, 7]),
+            (11, RANGE),
+            (11, &[2]),
+        ],
+        priority: Some(100),
+        range: Some((100, 200)),
+    },
+    Told {
+        parts: &[(10, HUNDRED), (12, &[0]), (10, &[]), (11, RANGE)],
+        priority: Some(100),
+        range: Some((100, 200)),
+    },
+];
+
+#[test]
+fn the_first_context_of_an_id_counts(rt: HostRuntime) {
+    assert!(rt; all_tell(rt.alloc(), FIRSTS));
+}
+
+const PADS: &[Told] = &[Told {
+    parts: &[
         (10, &[0, 7, 0x7f, 0xff, 9]),
         (11, &[1, 8, 5, 0, 5, 0, 9, 9]),
-    ];
-    let priority = Some(priority(0x7fff)?);
-    let range = Some(band(5, 5)?);
-    assert_eq!(rt; told(rt.alloc(), &parts)?, Ok(Contexts { priority, range }));
-    Ok(())
+    ],
+    priority: Some(0x7fff),
+    range: Some((5, 5)),
+}];
+
+#[test]
+fn pads_and_bytes_behind_are_ignored(rt: HostRuntime) {
+    assert!(rt; all_tell(rt.alloc(), PADS));
+}
+
+/// Contexts, and the id of the first one without a reading.
+type Fault = (&'static [(u32, &'static [u8])], u32);
+
+fn is_fault(alloc: Global, parts: &[(u32, &[u8])], id: u32) -> bool {
+    let mut list = List::new(alloc);
+    if !put_all(alloc, &mut list, parts) {
+        return false;
+    }
+    match contexts_of(&list) {
+        Ok(_) => false,
+        Err(fault) => fault == ContextFault { id },
+    }
+}
+
+fn are_faults(alloc: Global, rows: &[Fault]) -> bool {
+    for (parts, id) in rows {
+        if !is_fault(alloc, parts, *id) {
+            return false;
+        }
+    }
+    true
+}
+
+const FIRST_FAULTS: &[Fault] = &[
+    (&[(10, &[0, 0]), (11, &[])], 10),
+    (&[(11, &[]), (10, &[0, 0])], 11),
+    (&[(10, HUNDRED), (10, &[]), (11, &[])], 11),
+];
+
+#[test]
+fn a_fault_names_the_first_context_without_a_reading(rt: HostRuntime) {
+    assert!(rt; are_faults(rt.alloc(), FIRST_FAULTS));
+}
+
+/// Priorities: no byte, no order, cut short, negative in either order. Ranges: no byte, cut short, the low end above the
+/// high one, an end negative.
+const NO_READINGS: &[Fault] = &[
+    (&[(10, &[])], 10),
+    (&[(10, &[2, 0, 0, 100])], 10),
+    (&[(10, &[0])], 10),
+    (&[(10, &[0, 0, 0])], 10),
+    (&[(10, &[0, 0, 0x80, 0])], 10),
+    (&[(10, &[1, 0, 0, 0x80])], 10),
+    (&[(11, &[])], 11),
+    (&[(11, &[0, 0, 0, 100, 0])], 11),
+    (&[(11, &[0, 0, 0, 200, 0, 100])], 11),
+    (&[(11, &[0, 0, 0, 100, 0x80, 0])], 11),
+    (&[(11, &[0, 0, 0xff, 0xff, 0, 100])], 11),
+];
+
+#[test]
+fn contexts_without_a_reading_are_refused(rt: HostRuntime) {
+    assert!(rt; are_faults(rt.alloc(), NO_READINGS));
+}
+
+fn is_model(bytes: &[u8], model: PriorityModel, level: i16) -> bool {
+    match read_model_policy(bytes) {
+        Some((read, priority)) => read == model && priority.get() == level,
+        None => false,
+    }
+}
+
+/// SERVER_DECLARED with the priority 30, behind a pad of any content, and a byte behind it.
+const LITTLE_MODEL: &[u8] = &[1, 9, 9, 9, 1, 0, 0, 0, 30, 0, 7];
+
+fn are_models_read() -> bool {
+    is_model(MODEL, PriorityModel::ClientPropagated, 100)
+        && is_model(LITTLE_MODEL, PriorityModel::ServerDeclared, 30)
 }
 
 #[test]
-fn a_model_is_read_in_either_order(rt: HostRuntime) -> Result<(), Fail> {
-    let client = Some((PriorityModel::ClientPropagated, priority(100)?));
-    assert_eq!(rt; read_model_policy(MODEL), client);
-    let server = Some((PriorityModel::ServerDeclared, priority(30)?));
-    assert_eq!(rt;
-        read_model_policy(&[1, 9, 9, 9, 1, 0, 0, 0, 30, 0, 7]),
-        server
-    );
-    Ok(())
+fn a_model_is_read_in_either_order(rt: HostRuntime) {
+    assert!(rt; are_models_read());
 }
 
 /// No byte, cut short, a model of 2, the number 1 in the other order, a negative priority.
-const NO_MODELS: [&[u8]; 5] = [
+const NO_MODELS: &[&[u8]] = &[
     &[],
     &[0, 0, 0, 0, 0, 0, 0, 0, 0],
     &[0, 0, 0, 0, 0, 0, 0, 2, 0, 100],
@@ -240,28 +356,67 @@ const NO_MODELS: [&[u8]; 5] = [
     &[0, 0, 0, 0, 0, 0, 0, 0, 0x80, 0],
 ];
 
+fn are_no_models(rows: &[&[u8]]) -> bool {
+    for bytes in rows {
+        if read_model_policy(bytes).is_some() {
+            return false;
+        }
+    }
+    true
+}
+
 #[test]
 fn other_bytes_are_no_model(rt: HostRuntime) {
-    for bytes in NO_MODELS {
-        assert_eq!(rt; read_model_policy(bytes), None, "{bytes:?}");
+    assert!(rt; are_no_models(NO_MODELS));
+}
+
+fn has_ends(bands: &List<Band>, ends: &[(i16, i16)]) -> bool {
+    if bands.len() != ends.len() {
+        return false;
+    }
+    for (i, pair) in ends.iter().enumerate() {
+        if ends_of(bands.get(i).copied()) != Some(*pair) {
+            return false;
+        }
+    }
+    true
+}
+
+/// Whether the bytes carry bands from and to these priorities.
+fn are_bands(alloc: Global, bytes: &[u8], ends: &[(i16, i16)]) -> bool {
+    match read_bands_policy(alloc, bytes) {
+        Ok(Some(bands)) => has_ends(&bands, ends),
+        Ok(None) => false,
+        Err(_) => false,
     }
 }
 
+/// Values, and the bands that they carry.
+const BANDS_READ: &[(&[u8], &[(i16, i16)])] = &[
+    (BANDS, &[(0, 99), (100, 200)]),
+    (
+        &[1, 0, 0, 0, 2, 0, 0, 0, 0, 0, 99, 0, 100, 0, 200, 0, 5],
+        &[(0, 99), (100, 200)],
+    ),
+    (NO_BAND, &[]),
+];
+
+fn are_bands_read(alloc: Global, rows: &[(&[u8], &[(i16, i16)])]) -> bool {
+    for (bytes, ends) in rows {
+        if !are_bands(alloc, bytes, ends) {
+            return false;
+        }
+    }
+    true
+}
+
 #[test]
-fn bands_are_read_in_either_order(rt: HostRuntime) -> Result<(), Fail> {
-    let want = [band(0, 99)?, band(100, 200)?];
-    let big = read_bands_policy(rt.alloc(), BANDS)?.ok_or("bands")?;
-    assert_eq!(rt; big.as_slice(), want.as_slice());
-    let little = [1, 0, 0, 0, 2, 0, 0, 0, 0, 0, 99, 0, 100, 0, 200, 0, 5];
-    let little = read_bands_policy(rt.alloc(), &little)?.ok_or("bands")?;
-    assert_eq!(rt; little.as_slice(), want.as_slice());
-    let none = read_bands_policy(rt.alloc(), &[0; 8])?.ok_or("no bands")?;
-    assert!(rt; none.is_empty());
-    Ok(())
+fn bands_are_read_in_either_order(rt: HostRuntime) {
+    assert!(rt; are_bands_read(rt.alloc(), BANDS_READ));
 }
 
 /// No byte, no number, a number above what is left, a band cut short, the low end above the high one, a negative end.
-const NO_BANDS: [&[u8]; 6] = [
+const NO_BANDS: &[&[u8]] = &[
     &[],
     &[0, 0, 0, 0, 0, 0, 0],
     &[0, 0, 0, 0, 0, 0, 0, 5, 0, 1, 0, 2],
@@ -270,45 +425,90 @@ const NO_BANDS: [&[u8]; 6] = [
     &[0, 0, 0, 0, 0, 0, 0, 1, 0x80, 0, 0, 1],
 ];
 
-#[test]
-fn other_bytes_are_no_bands(rt: HostRuntime) -> Result<(), Fail> {
-    for bytes in NO_BANDS {
-        assert!(rt;
-            read_bands_policy(rt.alloc(), bytes)?.is_none(),
-            "{bytes:?}"
-        );
+fn is_no_bands(alloc: Global, bytes: &[u8]) -> bool {
+    match read_bands_policy(alloc, bytes) {
+        Ok(bands) => bands.is_none(),
+        Err(_) => false,
     }
-    Ok(())
+}
+
+fn are_no_bands(alloc: Global, rows: &[&[u8]]) -> bool {
+    for bytes in rows {
+        if !is_no_bands(alloc, bytes) {
+            return false;
+        }
+    }
+    true
 }
 
 #[test]
-fn a_fault_prints_its_context(rt: HostRuntime) -> Result<(), Fail> {
-    let printed = format!(in rt.alloc(); "{}", ContextFault { id: 11 })?;
-    assert_eq!(rt; printed.as_str(), "context 11");
-    Ok(())
+fn other_bytes_are_no_bands(rt: HostRuntime) {
+    assert!(rt; are_no_bands(rt.alloc(), NO_BANDS));
 }
 
-// Two policies: the model of an object, and one of another type, without a value; and a byte behind them.
-#[test]
-fn policies_are_carried_by_a_component(rt: HostRuntime) -> Result<(), Fail> {
-    let want = [
-        0, 0, 0, 0, 0, 0, 0, 2, 0, 0, 0, 40, 0, 0, 0, 2, 7, 8, 0, 0, 0, 0, 0, 41, 0, 0, 0, 0,
-    ];
-    let bytes = orb_base::List::from_vec(Vec::from_slice(rt.alloc(), &[7, 8])?);
-    let model = orb_base::Tagged { tag: 40, bytes };
-    let bytes = orb_base::List::new(rt.alloc());
-    let other = orb_base::Tagged { tag: 41, bytes };
-    let written = policies_component(rt.alloc(), &[model, other]);
-    assert!(rt; matches!(&written, Ok(bytes) if bytes.as_slice() == want.as_slice()));
-    let read = read_policies_component(rt.alloc(), &want)?;
-    assert!(rt; read.is_some());
-    if let Some(list) = &read {
-        let mut parts = list.as_slice().iter().map(|p| (p.tag, p.bytes.as_slice()));
-        assert_eq!(rt; parts.next(), Some((40, [7, 8].as_slice())));
-        assert_eq!(rt; parts.next(), Some((41, [].as_slice())));
-        assert!(rt; parts.next().is_none());
+fn is_printed(alloc: Global, fault: ContextFault, text: &str) -> bool {
+    match format!(in alloc; "{fault}") {
+        Ok(printed) => printed.as_str() == text,
+        Err(_) => false,
     }
-    let cut = read_policies_component(rt.alloc(), &want[..27])?;
-    assert!(rt; cut.is_none());
-    Ok(())
+}
+
+#[test]
+fn a_fault_prints_its_context(rt: HostRuntime) {
+    assert!(rt; is_printed(rt.alloc(), ContextFault { id: 11 }, "context 11"));
+}
+
+/// Two policies: the model of an object, and one of another type, without a value.
+const POLICIES: &[u8] = &[
+    0, 0, 0, 0, 0, 0, 0, 2, 0, 0, 0, 40, 0, 0, 0, 2, 7, 8, 0, 0, 0, 0, 0, 41, 0, 0, 0, 0,
+];
+
+fn policies(alloc: Global) -> Option<List<Tagged>>
+    ensures { IfSome result (λ l. AreCounted item_of_tagged l.items) }
+{
+    let bytes = octets(alloc, &[7, 8])?;
+    let mut list = List::new(alloc);
+    list.push(Tagged { tag: 40, bytes }).ok()?;
+    let bytes = List::new(alloc);
+    list.push(Tagged { tag: 41, bytes }).ok()?;
+    Some(list)
+}
+
+fn writes_policies(alloc: Global) -> bool {
+    match policies(alloc) {
+        Some(list) => match policies_component(alloc, list.as_slice()) {
+            Ok(written) => written.as_slice() == POLICIES,
+            Err(_) => false,
+        },
+        None => false,
+    }
+}
+
+fn is_policy(policy: &Tagged, tag: u32, bytes: &[u8]) -> bool {
+    policy.tag == tag && policy.bytes.as_slice() == bytes
+}
+
+fn reads_policies(alloc: Global) -> bool {
+    match read_policies_component(alloc, POLICIES) {
+        Ok(Some(list)) => match list.as_slice() {
+            [model, other] => is_policy(model, 40, &[7, 8]) && is_policy(other, 41, &[]),
+            _ => false,
+        },
+        Ok(None) => false,
+        Err(_) => false,
+    }
+}
+
+/// Whether the bytes that are cut short carry no policies.
+fn reads_none_cut(alloc: Global) -> bool {
+    match read_policies_component(alloc, &POLICIES[..27]) {
+        Ok(list) => list.is_none(),
+        Err(_) => false,
+    }
+}
+
+#[test]
+fn policies_are_carried_by_a_component(rt: HostRuntime) {
+    let alloc = rt.alloc();
+    assert!(rt; writes_policies(alloc) && reads_policies(alloc) && reads_none_cut(alloc));
 }

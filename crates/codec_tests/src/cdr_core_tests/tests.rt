@@ -1,354 +1,620 @@
-ghost use Rattle.std.specs.Prelude.{◌≤◌};
+ghost use Rattle.std.specs.Prelude.{◌≡◌, ◌≤◌, ◌<◌, ◌^◌, length, IfSome};
 
-use super::vectors::ROWS;
+use super::vectors::{ROWS, Row};
 use cdr_core::*;
-use orb_base::{Context, List, NoMemory, Octets, Order, Tagged, Text};
+use orb_base::{Context, List, Order, Tagged, Text};
 use std::alloc::Global;
 use std::test::*;
-
-fn put_all(alloc: Global, order: Order, at: usize) -> Result<Octets, NoMemory>
-    requires { at ≤ 262144 }
-{
-    let hi = match Text::new(alloc, b"hi") {
-        Ok(hi) => hi,
-        Err(_) => return Err(NoMemory),
-    };
-    let mut out = Writer::new(alloc, order, at);
-    out.put_u8(0x11)?;
-    out.put_u16(0x2122)?;
-    out.put_bool(true)?;
-    out.put_u32(0x3132_3334)?;
-    out.put_octets(&[0x41, 0x42, 0x43])?;
-    out.put_u64(0x5152_5354_5556_5758)?;
-    out.put_string(&hi)?;
-    Ok(out.finish())
-}
-
-#[test]
-fn values_are_spelled_at_every_place(rt: HostRuntime) -> Result<(), Fail> {
-    for (order, at, bytes) in ROWS {
-        assert!(rt; at < 8);
-        for place in [at, at + 8] {
-            let out = put_all(rt.alloc(), order, place)?;
-            assert_eq!(rt; out.as_slice(), bytes, "{order:?} at {place}");
-        }
-    }
-    Ok(())
-}
-
-#[test]
-fn values_are_read_at_every_place(rt: HostRuntime) -> Result<(), Fail> {
-    for (order, at, bytes) in ROWS {
-        assert!(rt; at < 8);
-        for place in [at, at + 8] {
-            let mut reader = Reader::new(order, place, bytes);
-            assert_eq!(rt; reader.take_u8()?, 0x11);
-            assert_eq!(rt; reader.take_u16()?, 0x2122);
-            assert!(rt; reader.take_bool()?);
-            assert_eq!(rt; reader.take_u32()?, 0x3132_3334);
-            assert_eq!(rt; reader.take_octets()?, [0x41, 0x42, 0x43].as_slice());
-            assert_eq!(rt; reader.take_u64()?, 0x5152_5354_5556_5758);
-            assert_eq!(rt; reader.take_string()?, b"hi".as_slice());
-            assert_eq!(rt; reader.left(), 0);
-            assert!(rt; reader.place() > place && reader.place() - place == bytes.len());
-        }
-    }
-    Ok(())
-}
 
 fn fault(cause: CdrCause, place: usize) -> CdrFault {
     CdrFault { cause, place }
 }
 
-#[test]
-fn pads_of_any_content_are_read(rt: HostRuntime) -> Result<(), Fail> {
-    let mut reader = Reader::new(Order::Big, 5, &[7, 8, 9, 0, 0, 1, 0, 7, 1]);
-    assert_eq!(rt; reader.take_u32()?, 256);
-    assert_eq!(rt; reader.place(), 12);
-    assert_eq!(rt; reader.take_u8()?, 7);
-    assert!(rt; reader.take_bool()?);
-    Ok(())
+/// Whether the spelling is these bytes, and all was put.
+fn is_spelled(out: Writer, put: bool, bytes: &[u8]) -> bool {
+    out.finish().as_slice() == bytes && put
 }
 
-/// Behind a pad of one byte a number of the size lacks its last byte.
+fn puts_numbers(out: &mut Writer) -> bool {
+    out.put_u8(0x11).is_ok()
+        && out.put_u16(0x2122).is_ok()
+        && out.put_bool(true).is_ok()
+        && out.put_u32(0x3132_3334).is_ok()
+        && out.put_octets(&[0x41, 0x42, 0x43]).is_ok()
+        && out.put_u64(0x5152_5354_5556_5758).is_ok()
+}
+
+fn puts_hi(alloc: Global, out: &mut Writer) -> bool {
+    match Text::new(alloc, b"hi") {
+        Ok(hi) => out.put_string(&hi).is_ok(),
+        Err(_) => false,
+    }
+}
+
+fn is_put(alloc: Global, order: Order, place: usize, bytes: &[u8]) -> bool
+    requires { place ≤ 262144 }
+{
+    let mut out = Writer::new(alloc, order, place);
+    let put = puts_numbers(&mut out) && puts_hi(alloc, &mut out);
+    is_spelled(out, put, bytes)
+}
+
+/// Whether the values are spelled so at the row's place and 8 behind it.
+fn row_is_put(alloc: Global, row: &Row) -> bool {
+    let (order, at, bytes) = *row;
+    let at = usize::from(at);
+    is_put(alloc, order, at, bytes) && is_put(alloc, order, at + 8, bytes)
+}
+
+fn all_are_put(alloc: Global, rows: &[Row]) -> bool {
+    for row in rows {
+        if !row_is_put(alloc, row) {
+            return false;
+        }
+    }
+    true
+}
+
+#[test]
+fn values_are_spelled_at_every_place(rt: HostRuntime) {
+    assert!(rt; all_are_put(rt.alloc(), ROWS));
+}
+
+fn takes_values(reader: &mut Reader<'_>) -> bool {
+    reader.take_u8() == Ok(0x11)
+        && reader.take_u16() == Ok(0x2122)
+        && reader.take_bool() == Ok(true)
+        && reader.take_u32() == Ok(0x3132_3334)
+        && reader.take_octets() == Ok([0x41, 0x42, 0x43].as_slice())
+        && reader.take_u64() == Ok(0x5152_5354_5556_5758)
+        && reader.take_string() == Ok(b"hi".as_slice())
+}
+
+/// Whether a reader stands at this place and has so many bytes left.
+fn stands(reader: &Reader<'_>, place: usize, left: usize) -> bool {
+    reader.place() == place && reader.left() == left
+}
+
+fn is_taken(order: Order, place: usize, bytes: &[u8]) -> bool
+    requires { place ≤ 262144 }
+{
+    let mut reader = Reader::new(order, place, bytes);
+    takes_values(&mut reader) && stands(&reader, place + bytes.len(), 0)
+}
+
+fn row_is_taken(row: &Row) -> bool {
+    let (order, at, bytes) = *row;
+    let at = usize::from(at);
+    is_taken(order, at, bytes) && is_taken(order, at + 8, bytes)
+}
+
+fn all_are_taken(rows: &[Row]) -> bool {
+    for row in rows {
+        if !row_is_taken(row) {
+            return false;
+        }
+    }
+    true
+}
+
+#[test]
+fn values_are_read_at_every_place(rt: HostRuntime) {
+    assert!(rt; all_are_taken(ROWS));
+}
+
+fn passes_pads() -> bool {
+    let mut reader = Reader::new(Order::Big, 5, &[7, 8, 9, 0, 0, 1, 0, 7, 1]);
+    reader.take_u32() == Ok(256)
+        && reader.place() == 12
+        && reader.take_u8() == Ok(7)
+        && reader.take_bool() == Ok(true)
+}
+
+#[test]
+fn pads_of_any_content_are_read(rt: HostRuntime) {
+    assert!(rt; passes_pads());
+}
+
+/// What is taken.
+enum Take {
+    U8,
+    U16,
+    U32,
+    U64,
+    Bool,
+    Count,
+    Octets,
+    Text,
+    Encap,
+    Item,
+}
+
+/// The fault of a number's or a boolean's taking.
+fn fault_of_number(reader: &mut Reader<'_>, take: &Take) -> Option<CdrFault> {
+    match take {
+        Take::U8 => reader.take_u8().err(),
+        Take::U16 => reader.take_u16().err(),
+        Take::U32 => reader.take_u32().err(),
+        Take::U64 => reader.take_u64().err(),
+        Take::Bool => reader.take_bool().err(),
+        _ => None,
+    }
+}
+
+/// The fault of taking this.
+fn fault_of(reader: &mut Reader<'_>, take: &Take) -> Option<CdrFault> {
+    match take {
+        Take::Count => reader.take_count().err(),
+        Take::Octets => reader.take_octets().err(),
+        Take::Text => reader.take_string().err(),
+        Take::Encap => reader.enter_encap().err(),
+        Take::Item => reader.take_item().err(),
+        number => fault_of_number(reader, number),
+    }
+}
+
+/// Bytes from a place on of which this can't be taken, for this cause at this place.
+type Refusal = (u8, &'static [u8], Take, CdrCause, usize);
+
+/// Whether the fault is told, and the reader stays where it stood.
+fn refuses(order: Order, row: &Refusal) -> bool {
+    let (at, bytes, take, cause, place) = row;
+    let mut reader = Reader::new(order, usize::from(*at), bytes);
+    fault_of(&mut reader, take) == Some(fault(*cause, *place))
+        && stands(&reader, usize::from(*at), bytes.len())
+}
+
+fn refuses_each(order: Order, rows: &[Refusal]) -> bool {
+    for row in rows {
+        if !refuses(order, row) {
+            return false;
+        }
+    }
+    true
+}
+
+/// Behind a pad a number of the size lacks its last byte.
+const SHORT: &[Refusal] = &[
+    (7, &[], Take::U8, CdrCause::Short, 7),
+    (7, &[], Take::Bool, CdrCause::Short, 7),
+    (13, &[0, 1], Take::U16, CdrCause::Short, 14),
+    (11, &[0, 1, 2, 3], Take::U32, CdrCause::Short, 12),
+    (11, &[0, 1, 2, 3], Take::Count, CdrCause::Short, 12),
+    (11, &[0, 1, 2, 3], Take::Octets, CdrCause::Short, 12),
+    (11, &[0, 1, 2, 3], Take::Text, CdrCause::Short, 12),
+    (11, &[0, 1, 2, 3], Take::Encap, CdrCause::Short, 12),
+    (
+        15,
+        &[0, 1, 2, 3, 4, 5, 6, 7],
+        Take::U64,
+        CdrCause::Short,
+        16,
+    ),
+    (9, &[], Take::U64, CdrCause::Short, 16),
+];
+
 #[test]
 fn short_is_told_at_the_aligned_place(rt: HostRuntime) {
-    for order in [Order::Big, Order::Little] {
-        let mut reader = Reader::new(order, 7, &[]);
-        assert_eq!(rt; reader.take_u8(), Err(fault(CdrCause::Short, 7)));
-        assert_eq!(rt; reader.take_bool(), Err(fault(CdrCause::Short, 7)));
-        let mut reader = Reader::new(order, 13, &[0, 1]);
-        assert_eq!(rt; reader.take_u16(), Err(fault(CdrCause::Short, 14)));
-        let mut reader = Reader::new(order, 11, &[0, 1, 2, 3]);
-        assert_eq!(rt; reader.take_u32(), Err(fault(CdrCause::Short, 12)));
-        assert_eq!(rt; reader.take_count(), Err(fault(CdrCause::Short, 12)));
-        assert_eq!(rt; reader.take_octets(), Err(fault(CdrCause::Short, 12)));
-        assert_eq!(rt; reader.take_string(), Err(fault(CdrCause::Short, 12)));
-        assert!(rt;
-            matches!(
-                reader.enter_encap(),
-                Err(CdrFault {
-                    cause: CdrCause::Short,
-                    place: 12
-                })
-            )
-        );
-        let mut reader = Reader::new(order, 15, &[0, 1, 2, 3, 4, 5, 6, 7]);
-        assert_eq!(rt; reader.take_u64(), Err(fault(CdrCause::Short, 16)));
-        assert_eq!(rt; (reader.place(), reader.left()), (15, 8));
-        let mut reader = Reader::new(order, 9, &[]);
-        assert_eq!(rt; reader.take_u64(), Err(fault(CdrCause::Short, 16)));
-    }
+    assert!(rt; refuses_each(Order::Big, SHORT) && refuses_each(Order::Little, SHORT));
+}
+
+fn takes_booleans() -> bool {
+    let mut reader = Reader::new(Order::Little, 3, &[0, 1, 2, 255]);
+    reader.take_bool() == Ok(false)
+        && reader.take_bool() == Ok(true)
+        && reader.take_bool() == Err(fault(CdrCause::BadBool, 5))
+        && reader.take_u8() == Ok(2)
+        && reader.take_bool() == Err(fault(CdrCause::BadBool, 6))
 }
 
 #[test]
 fn a_boolean_is_0_or_1(rt: HostRuntime) {
-    let mut reader = Reader::new(Order::Little, 3, &[0, 1, 2, 255]);
-    assert_eq!(rt; reader.take_bool(), Ok(false));
-    assert_eq!(rt; reader.take_bool(), Ok(true));
-    assert_eq!(rt; reader.take_bool(), Err(fault(CdrCause::BadBool, 5)));
-    assert_eq!(rt; reader.take_u8(), Ok(2));
-    assert_eq!(rt; reader.take_bool(), Err(fault(CdrCause::BadBool, 6)));
+    assert!(rt; takes_booleans());
 }
 
 /// Each stands at place 1, so that its count stands at 4.
-const STRINGS: [(&[u8], &[u8]); 2] = [
+const STRINGS: &[(&[u8], &[u8])] = &[
     (&[0, 0, 0, 0, 0, 0, 1, 0], b""),
     (&[0, 0, 0, 0, 0, 0, 3, 104, 105, 0, 9], b"hi"),
 ];
 
-const NO_STRINGS: [(&[u8], CdrCause); 6] = [
-    (&[0, 0, 0, 0, 0, 0, 0, 0], CdrCause::BadString),
-    (&[0, 0, 0, 0, 0, 0, 2, 104, 105, 0], CdrCause::BadString),
-    (&[0, 0, 0, 0, 0, 0, 3, 104, 0, 0], CdrCause::BadString),
-    (&[0, 0, 0, 0, 0, 0, 4, 104, 105, 0], CdrCause::TooMany),
-    (&[0, 0, 0, 0, 0, 0, 4, 104, 105, 106], CdrCause::TooMany),
-    (&[0, 0, 0, 0, 0, 0], CdrCause::Short),
+fn is_string(row: &(&[u8], &[u8])) -> bool {
+    Reader::new(Order::Big, 1, row.0).take_string() == Ok(row.1)
+}
+
+fn are_strings(rows: &[(&[u8], &[u8])]) -> bool {
+    for row in rows {
+        if !is_string(row) {
+            return false;
+        }
+    }
+    true
+}
+
+const NO_STRINGS: &[Refusal] = &[
+    (
+        1,
+        &[0, 0, 0, 0, 0, 0, 0, 0],
+        Take::Text,
+        CdrCause::BadString,
+        4,
+    ),
+    (
+        1,
+        &[0, 0, 0, 0, 0, 0, 2, 104, 105, 0],
+        Take::Text,
+        CdrCause::BadString,
+        4,
+    ),
+    (
+        1,
+        &[0, 0, 0, 0, 0, 0, 3, 104, 0, 0],
+        Take::Text,
+        CdrCause::BadString,
+        4,
+    ),
+    (
+        1,
+        &[0, 0, 0, 0, 0, 0, 4, 104, 105, 0],
+        Take::Text,
+        CdrCause::TooMany,
+        4,
+    ),
+    (
+        1,
+        &[0, 0, 0, 0, 0, 0, 4, 104, 105, 106],
+        Take::Text,
+        CdrCause::TooMany,
+        4,
+    ),
+    (1, &[0, 0, 0, 0, 0, 0], Take::Text, CdrCause::Short, 4),
 ];
 
 #[test]
-fn strings_end_in_their_only_nul(rt: HostRuntime) -> Result<(), Fail> {
-    for (bytes, text) in STRINGS {
-        let mut reader = Reader::new(Order::Big, 1, bytes);
-        assert_eq!(rt; reader.take_string()?, text);
-    }
-    for (bytes, cause) in NO_STRINGS {
-        let mut reader = Reader::new(Order::Big, 1, bytes);
-        assert_eq!(rt; reader.take_string(), Err(fault(cause, 4)), "{bytes:?}");
-        assert_eq!(rt; (reader.place(), reader.left()), (1, bytes.len()));
-    }
-    Ok(())
+fn strings_end_in_their_only_nul(rt: HostRuntime) {
+    assert!(rt; are_strings(STRINGS) && refuses_each(Order::Big, NO_STRINGS));
+}
+
+/// Counts above what is left.
+const TOO_MANY: &[Refusal] = &[
+    (
+        2,
+        &[0, 0, 3, 0, 0, 0, 7, 8],
+        Take::Count,
+        CdrCause::TooMany,
+        4,
+    ),
+    (
+        2,
+        &[0, 0, 3, 0, 0, 0, 7, 8],
+        Take::Octets,
+        CdrCause::TooMany,
+        4,
+    ),
+];
+
+fn takes_count() -> bool {
+    let mut reader = Reader::new(Order::Little, 2, &[0, 0, 2, 0, 0, 0, 7, 8]);
+    reader.take_count() == Ok(2) && stands(&reader, 8, 2)
 }
 
 #[test]
 fn a_count_is_at_most_what_is_left(rt: HostRuntime) {
-    let mut reader = Reader::new(Order::Little, 2, &[0, 0, 3, 0, 0, 0, 7, 8]);
-    assert_eq!(rt; reader.take_count(), Err(fault(CdrCause::TooMany, 4)));
-    assert_eq!(rt; reader.take_octets(), Err(fault(CdrCause::TooMany, 4)));
-    assert_eq!(rt; (reader.place(), reader.left()), (2, 8));
-    let mut reader = Reader::new(Order::Little, 2, &[0, 0, 2, 0, 0, 0, 7, 8]);
-    assert_eq!(rt; reader.take_count(), Ok(2));
-    assert_eq!(rt; (reader.place(), reader.left()), (8, 2));
+    assert!(rt; refuses_each(Order::Little, TOO_MANY) && takes_count());
 }
 
 /// The content of a priority context for priority 100, in either order, as a sequence at a place whose remainder by 4
 /// is 2: the short stands at place 2 of its encapsulation.
-#[test]
-fn places_of_an_encapsulation_count_from_its_order_byte(rt: HostRuntime) -> Result<(), Fail> {
-    for octets in [[0, 0, 0, 100], [1, 0, 100, 0]] {
-        let bytes = [
-            9, 9, 0, 0, 0, 4, octets[0], octets[1], octets[2], octets[3], 5,
-        ];
-        let mut reader = Reader::new(Order::Big, 6, &bytes);
-        let mut inner = reader.enter_encap()?;
-        assert_eq!(rt; (inner.place(), inner.left()), (1, 3));
-        assert_eq!(rt; inner.take_u16(), Ok(100));
-        assert_eq!(rt; inner.take_u8(), Err(fault(CdrCause::Short, 4)));
-        assert_eq!(rt; (reader.place(), reader.take_u8()), (16, Ok(5)));
+const ENCAPSULATIONS: &[&[u8]] = &[
+    &[9, 9, 0, 0, 0, 4, 0, 0, 0, 100, 5],
+    &[9, 9, 0, 0, 0, 4, 1, 0, 100, 0, 5],
+];
+
+fn holds_hundred(inner: &mut Reader<'_>) -> bool {
+    stands(inner, 1, 3)
+        && inner.take_u16() == Ok(100)
+        && inner.take_u8() == Err(fault(CdrCause::Short, 4))
+}
+
+fn enters_hundred(bytes: &[u8]) -> bool {
+    let mut reader = Reader::new(Order::Big, 6, bytes);
+    match reader.enter_encap() {
+        Ok(mut inner) => {
+            holds_hundred(&mut inner) && reader.place() == 16 && reader.take_u8() == Ok(5)
+        }
+        Err(_) => false,
     }
-    Ok(())
 }
 
-/// The same content without a count before it, and bytes that are none.
-#[test]
-fn bytes_are_an_encapsulation_as_a_whole(rt: HostRuntime) -> Result<(), Fail> {
-    for octets in [[0, 0, 0, 100, 5], [1, 0, 100, 0, 5]] {
-        let mut inner = Reader::encapsulated(&octets)?;
-        assert_eq!(rt; (inner.place(), inner.left()), (1, 4));
-        assert_eq!(rt; inner.take_u16(), Ok(100));
-        assert_eq!(rt; (inner.place(), inner.take_u8()), (4, Ok(5)));
+fn all_enter_hundred(rows: &[&[u8]]) -> bool {
+    for bytes in rows {
+        if !enters_hundred(bytes) {
+            return false;
+        }
     }
-    assert!(rt;
-        matches!(
-            Reader::encapsulated(&[]),
-            Err(CdrFault {
-                cause: CdrCause::Short,
-                place: 0
-            })
-        )
-    );
-    assert!(rt;
-        matches!(
-            Reader::encapsulated(&[2, 0]),
-            Err(CdrFault {
-                cause: CdrCause::BadBool,
-                place: 0
-            })
-        )
-    );
-    Ok(())
+    true
 }
 
 #[test]
-fn room_is_taken_ahead(rt: HostRuntime) -> Result<(), Fail> {
-    let mut writer = Writer::new(rt.alloc(), Order::Big, 2);
-    writer.reserve(4)?;
-    writer.put_u16(7)?;
-    writer.reserve(0)?;
-    writer.put_u32(8)?;
-    assert_eq!(rt; writer.finish().as_slice(), b"\0\x07\0\0\0\x08".as_slice());
-    Ok(())
+fn places_of_an_encapsulation_count_from_its_order_byte(rt: HostRuntime) {
+    assert!(rt; all_enter_hundred(ENCAPSULATIONS));
 }
 
-#[test]
-fn an_encapsulation_is_spelled_by_a_writer_of_its_own(rt: HostRuntime) -> Result<(), Fail> {
-    for (order, byte, want) in [
-        (Order::Big, 0, [0, 0, 0, 4, 0, 0, 0, 100]),
-        (Order::Little, 1, [0, 0, 0, 4, 1, 0, 100, 0]),
-    ] {
-        let mut inner = Writer::new(rt.alloc(), order, 0);
-        inner.put_u8(byte)?;
-        inner.put_u16(100)?;
-        let inner = inner.finish();
-        assert!(rt; inner.len() == 4);
-        let mut outer = Writer::new(rt.alloc(), Order::Big, 8);
-        outer.put_octets(inner.as_slice())?;
-        assert_eq!(rt; outer.finish().as_slice(), want.as_slice());
+/// The same content without a count before it.
+const WHOLE_ENCAPSULATIONS: &[&[u8]] = &[&[0, 0, 0, 100, 5], &[1, 0, 100, 0, 5]];
+
+fn is_hundred(inner: &mut Reader<'_>) -> bool {
+    stands(inner, 1, 4)
+        && inner.take_u16() == Ok(100)
+        && inner.place() == 4
+        && inner.take_u8() == Ok(5)
+}
+
+fn opens_hundred(bytes: &[u8]) -> bool {
+    match Reader::encapsulated(bytes) {
+        Ok(mut inner) => is_hundred(&mut inner),
+        Err(_) => false,
     }
-    Ok(())
+}
+
+fn all_open_hundred(rows: &[&[u8]]) -> bool {
+    for bytes in rows {
+        if !opens_hundred(bytes) {
+            return false;
+        }
+    }
+    true
+}
+
+/// Whether bytes are no encapsulation, for this cause at place 0.
+fn is_no_encapsulation(bytes: &[u8], cause: CdrCause) -> bool {
+    Reader::encapsulated(bytes).err() == Some(fault(cause, 0))
 }
 
 #[test]
-fn an_encapsulation_begins_with_its_order(rt: HostRuntime) {
-    let mut reader = Reader::new(Order::Big, 8, &[0, 0, 0, 0]);
+fn bytes_are_an_encapsulation_as_a_whole(rt: HostRuntime) {
+    assert!(rt; all_open_hundred(WHOLE_ENCAPSULATIONS));
     assert!(rt;
-        matches!(
-            reader.enter_encap(),
-            Err(CdrFault {
-                cause: CdrCause::Short,
-                place: 0
-            })
-        )
+        is_no_encapsulation(&[], CdrCause::Short) && is_no_encapsulation(&[2, 0], CdrCause::BadBool)
     );
-    let mut reader = Reader::new(Order::Big, 8, &[0, 0, 0, 1, 2]);
-    assert!(rt;
-        matches!(
-            reader.enter_encap(),
-            Err(CdrFault {
-                cause: CdrCause::BadBool,
-                place: 0
-            })
-        )
-    );
-    assert_eq!(rt; (reader.place(), reader.left()), (8, 5));
-    let mut reader = Reader::new(Order::Big, 8, &[0, 0, 0, 2, 1]);
-    assert!(rt;
-        matches!(
-            reader.enter_encap(),
-            Err(CdrFault {
-                cause: CdrCause::TooMany,
-                place: 8
-            })
-        )
-    );
+}
+
+fn puts_in_room(out: &mut Writer) -> bool {
+    out.reserve(4).is_ok()
+        && out.put_u16(7).is_ok()
+        && out.reserve(0).is_ok()
+        && out.put_u32(8).is_ok()
+}
+
+fn room_is_filled(alloc: Global) -> bool {
+    let mut out = Writer::new(alloc, Order::Big, 2);
+    let put = puts_in_room(&mut out);
+    is_spelled(out, put, b"\0\x07\0\0\0\x08")
 }
 
 #[test]
-fn a_fault_prints_its_place_and_cause(rt: HostRuntime) -> Result<(), Fail> {
-    let printed = format!(in rt.alloc(); "{}", fault(CdrCause::TooMany, 4))?;
-    assert_eq!(rt; printed.as_str(), "4: TooMany");
-    Ok(())
+fn room_is_taken_ahead(rt: HostRuntime) {
+    assert!(rt; room_is_filled(rt.alloc()));
+}
+
+/// An order, its byte, and the octets of an encapsulation of 100.
+type Wrapped = (Order, u8, &'static [u8]);
+
+const WRAPPED: &[Wrapped] = &[
+    (Order::Big, 0, &[0, 0, 0, 4, 0, 0, 0, 100]),
+    (Order::Little, 1, &[0, 0, 0, 4, 1, 0, 100, 0]),
+];
+
+/// Whether four octets are spelled so.
+fn wraps(alloc: Global, inner: &[u8], want: &[u8]) -> bool {
+    let mut outer = Writer::new(alloc, Order::Big, 8);
+    let put = inner.len() == 4 && outer.put_octets(inner).is_ok();
+    is_spelled(outer, put, want)
+}
+
+fn is_wrapped(alloc: Global, row: &Wrapped) -> bool {
+    let mut inner = Writer::new(alloc, row.0, 0);
+    let put = inner.put_u8(row.1).is_ok() && inner.put_u16(100).is_ok();
+    wraps(alloc, inner.finish().as_slice(), row.2) && put
+}
+
+fn all_are_wrapped(alloc: Global, rows: &[Wrapped]) -> bool {
+    for row in rows {
+        if !is_wrapped(alloc, row) {
+            return false;
+        }
+    }
+    true
 }
 
 #[test]
-fn runs_are_padded_to_their_alignment(rt: HostRuntime) -> Result<(), Fail> {
-    let mut out = Writer::new(rt.alloc(), Order::Big, 5);
-    assert!(rt; out.put_run(8, b"ab").is_ok());
-    assert!(rt; out.put_run(1, b"c").is_ok());
-    assert!(rt; out.put_run(4, b"").is_ok());
-    assert_eq!(rt; out.finish().as_slice(), b"\0\0\0abc\0".as_slice());
-    Ok(())
+fn an_encapsulation_is_spelled_by_a_writer_of_its_own(rt: HostRuntime) {
+    assert!(rt; all_are_wrapped(rt.alloc(), WRAPPED));
 }
 
-// A tag of 4 bytes, the length 3, and three octets, behind a byte that stands at place 9.
-const ITEMS: [(Order, [u8; 14]); 2] = [
-    (
-        Order::Big,
-        [0, 0, 0, 0x01, 0x02, 0x03, 0x04, 0, 0, 0, 3, 7, 8, 9],
-    ),
-    (
-        Order::Little,
-        [0, 0, 0, 0x04, 0x03, 0x02, 0x01, 3, 0, 0, 0, 7, 8, 9],
-    ),
+/// Octets at place 8 that are no encapsulation: without an order byte, with another one, and too few.
+const NO_ORDERS: &[Refusal] = &[
+    (8, &[0, 0, 0, 0], Take::Encap, CdrCause::Short, 0),
+    (8, &[0, 0, 0, 1, 2], Take::Encap, CdrCause::BadBool, 0),
+    (8, &[0, 0, 0, 2, 1], Take::Encap, CdrCause::TooMany, 8),
 ];
 
 #[test]
-fn an_item_is_a_number_and_octets(rt: HostRuntime) -> Result<(), Fail> {
-    for (order, bytes) in ITEMS {
-        let mut out = Writer::new(rt.alloc(), order, 9);
-        assert!(rt; out.put_item(0x0102_0304, &[7, 8, 9]).is_ok());
-        assert_eq!(rt; out.finish().as_slice(), bytes.as_slice());
-        let mut reader = Reader::new(order, 9, &bytes);
-        let copy = reader.copy();
-        assert_eq!(rt; reader.take_item()?, (0x0102_0304, [7, 8, 9].as_slice()));
-        assert_eq!(rt; (reader.place(), reader.left()), (23, 0));
-        assert_eq!(rt; (copy.place(), copy.left()), (9, 14));
-        let mut cut = Reader::new(order, 9, &bytes[..13]);
-        assert_eq!(rt; cut.take_item(), Err(fault(CdrCause::TooMany, 16)));
-        assert_eq!(rt; (cut.place(), cut.left()), (9, 13));
+fn an_encapsulation_begins_with_its_order(rt: HostRuntime) {
+    assert!(rt; refuses_each(Order::Big, NO_ORDERS));
+}
+
+fn prints(alloc: Global, fault: CdrFault, want: &str) -> bool {
+    match format!(in alloc; "{}", fault) {
+        Ok(printed) => printed.as_str() == want,
+        Err(_) => false,
     }
-    Ok(())
+}
+
+#[test]
+fn a_fault_prints_its_place_and_cause(rt: HostRuntime) {
+    assert!(rt; prints(rt.alloc(), fault(CdrCause::TooMany, 4), "4: TooMany"));
+}
+
+fn puts_runs(out: &mut Writer) -> bool {
+    out.put_run(8, b"ab").is_ok() && out.put_run(1, b"c").is_ok() && out.put_run(4, b"").is_ok()
+}
+
+fn runs_are_put(alloc: Global) -> bool {
+    let mut out = Writer::new(alloc, Order::Big, 5);
+    let put = puts_runs(&mut out);
+    is_spelled(out, put, b"\0\0\0abc\0")
+}
+
+#[test]
+fn runs_are_padded_to_their_alignment(rt: HostRuntime) {
+    assert!(rt; runs_are_put(rt.alloc()));
+}
+
+/// An order, and bytes.
+type Spelt = (Order, &'static [u8]);
+
+/// A tag of 4 bytes, the length 3, and three octets, behind a byte that stands at place 9.
+const ITEMS: &[Spelt] = &[
+    (
+        Order::Big,
+        &[0, 0, 0, 0x01, 0x02, 0x03, 0x04, 0, 0, 0, 3, 7, 8, 9],
+    ),
+    (
+        Order::Little,
+        &[0, 0, 0, 0x04, 0x03, 0x02, 0x01, 3, 0, 0, 0, 7, 8, 9],
+    ),
+];
+
+fn is_item_put(alloc: Global, row: &Spelt) -> bool {
+    let mut out = Writer::new(alloc, row.0, 9);
+    let put = out.put_item(0x0102_0304, &[7, 8, 9]).is_ok();
+    is_spelled(out, put, row.1)
+}
+
+fn is_item_taken(row: &Spelt) -> bool {
+    let mut reader = Reader::new(row.0, 9, row.1);
+    let copy = reader.copy();
+    reader.take_item() == Ok((0x0102_0304, [7, 8, 9].as_slice()))
+        && stands(&reader, 23, 0)
+        && stands(&copy, 9, 14)
+}
+
+fn all_are_items(alloc: Global, rows: &[Spelt]) -> bool {
+    for row in rows {
+        if !is_item_put(alloc, row) || !is_item_taken(row) {
+            return false;
+        }
+    }
+    true
+}
+
+/// The same without their last byte.
+const CUT: &[Refusal] = &[(
+    9,
+    &[0, 0, 0, 0x01, 0x02, 0x03, 0x04, 0, 0, 0, 3, 7, 8],
+    Take::Item,
+    CdrCause::TooMany,
+    16,
+)];
+
+const LITTLE_CUT: &[Refusal] = &[(
+    9,
+    &[0, 0, 0, 0x04, 0x03, 0x02, 0x01, 3, 0, 0, 0, 7, 8],
+    Take::Item,
+    CdrCause::TooMany,
+    16,
+)];
+
+#[test]
+fn an_item_is_a_number_and_octets(rt: HostRuntime) {
+    assert!(rt; all_are_items(rt.alloc(), ITEMS));
+    assert!(rt; refuses_each(Order::Big, CUT) && refuses_each(Order::Little, LITTLE_CUT));
+}
+
+fn numbers_have_bytes() -> bool {
+    bytes_of_u16(Order::Big, 0x0102) == [1, 2]
+        && bytes_of_u16(Order::Little, 0x0102) == [2, 1]
+        && bytes_of_u32(Order::Big, 0x0102_0304) == [1, 2, 3, 4]
+        && bytes_of_u32(Order::Little, 0x0102_0304) == [4, 3, 2, 1]
+        && u32_of(Order::Big, &[1, 2, 3, 4]) == 0x0102_0304
+        && u32_of(Order::Little, &[1, 2, 3, 4]) == 0x0403_0201
 }
 
 #[test]
 fn numbers_have_bytes_in_either_order(rt: HostRuntime) {
-    assert_eq!(rt; bytes_of_u16(Order::Big, 0x0102), [1, 2]);
-    assert_eq!(rt; bytes_of_u16(Order::Little, 0x0102), [2, 1]);
-    assert_eq!(rt; bytes_of_u32(Order::Big, 0x0102_0304), [1, 2, 3, 4]);
-    assert_eq!(rt; bytes_of_u32(Order::Little, 0x0102_0304), [4, 3, 2, 1]);
-    assert_eq!(rt; u32_of(Order::Big, &[1, 2, 3, 4]), 0x0102_0304);
-    assert_eq!(rt; u32_of(Order::Little, &[1, 2, 3, 4]), 0x0403_0201);
+    assert!(rt; numbers_have_bytes());
+}
+
+/// A list of an item of tag 5 with the octet 9, and of one of tag 6 without octets.
+const LIST: [u8; 24] = [
+    0, 0, 0, 2, 0, 0, 0, 5, 0, 0, 0, 1, 9, 0, 0, 0, 0, 0, 0, 6, 0, 0, 0, 0,
+];
+
+fn nine(alloc: Global) -> Option<Tagged>
+    ensures { IfSome result (λ t. length t.bytes ≡ 1) }
+{
+    let bytes = Vec::from_slice(alloc, &[9]).ok()?;
+    Some(Tagged {
+        tag: 5,
+        bytes: List::from_vec(bytes),
+    })
+}
+
+fn empty(alloc: Global) -> Tagged
+    ensures { length result.bytes ≡ 0 }
+{
+    Tagged {
+        tag: 6,
+        bytes: List::new(alloc),
+    }
+}
+
+fn puts_list(out: &mut Writer, first: Tagged, second: Tagged) -> bool
+    requires first { length first.bytes < 2 ^ 32 }
+    requires second { length second.bytes < 2 ^ 32 }
+{
+    put_list(out, &[first, second]).is_ok()
+}
+
+fn list_is_put(alloc: Global) -> bool {
+    let mut out = Writer::new(alloc, Order::Big, 0);
+    let put = match nine(alloc) {
+        Some(first) => puts_list(&mut out, first, empty(alloc)),
+        None => false,
+    };
+    is_spelled(out, put, &LIST)
+}
+
+fn are_parts(list: &[Context]) -> bool {
+    match list {
+        [first, second] => {
+            first.id == 5
+                && first.bytes.as_slice() == [9].as_slice()
+                && second.id == 6
+                && second.bytes.as_slice() == [].as_slice()
+        }
+        _ => false,
+    }
+}
+
+fn list_is_taken(alloc: Global) -> bool {
+    let mut reader = Reader::new(Order::Big, 0, &LIST);
+    let read: Result<List<Context>, CdrError> = take_list(alloc, &mut reader);
+    match read {
+        Ok(list) => are_parts(list.as_slice()) && reader.left() == 0,
+        Err(_) => false,
+    }
+}
+
+fn cut_list_is_refused(alloc: Global) -> bool {
+    let mut cut = Reader::new(Order::Big, 0, &LIST[..21]);
+    let refused: Result<List<Tagged>, CdrError> = take_list(alloc, &mut cut);
+    refused.err() == Some(CdrError::Refused(fault(CdrCause::Short, 20))) && cut.place() == 0
 }
 
 #[test]
-fn lists_are_put_and_taken(rt: HostRuntime) -> Result<(), Fail> {
-    let want = [
-        0, 0, 0, 2, 0, 0, 0, 5, 0, 0, 0, 1, 9, 0, 0, 0, 0, 0, 0, 6, 0, 0, 0, 0,
-    ];
-    let bytes = List::from_vec(Vec::from_slice(rt.alloc(), &[9])?);
-    let first = Tagged { tag: 5, bytes };
-    let bytes = List::new(rt.alloc());
-    let second = Tagged { tag: 6, bytes };
-    let mut out = Writer::new(rt.alloc(), Order::Big, 0);
-    assert!(rt; put_list(&mut out, &[first, second]).is_ok());
-    assert_eq!(rt; out.finish().as_slice(), want.as_slice());
-    let mut reader = Reader::new(Order::Big, 0, &want);
-    let read: List<Context> = take_list(rt.alloc(), &mut reader)?;
-    let mut parts = read.as_slice().iter().map(|c| (c.id, c.bytes.as_slice()));
-    assert_eq!(rt; parts.next(), Some((5, [9].as_slice())));
-    assert_eq!(rt; parts.next(), Some((6, [].as_slice())));
-    assert_eq!(rt; (parts.next(), reader.left()), (None, 0));
-    let mut cut = Reader::new(Order::Big, 0, &want[..21]);
-    let refused: Result<List<Tagged>, CdrError> = take_list(rt.alloc(), &mut cut);
-    assert!(rt;
-        matches!(
-            refused,
-            Err(CdrError::Refused(CdrFault {
-                cause: CdrCause::Short,
-                place: 20
-            }))
-        )
-    );
-    assert_eq!(rt; cut.place(), 0);
-    Ok(())
+fn lists_are_put_and_taken(rt: HostRuntime) {
+    assert!(rt; list_is_put(rt.alloc()) && list_is_taken(rt.alloc()));
+    assert!(rt; cut_list_is_refused(rt.alloc()));
 }

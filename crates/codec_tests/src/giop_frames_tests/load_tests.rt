@@ -1,6 +1,9 @@
-use super::tests::fed_by;
+//! A message in very many pieces.
+ghost use Rattle.std.specs.Prelude.{◌<◌};
+
+use super::tests::{fed_by, put_zeros};
 use giop_frames::*;
-use orb_base::{List, NoMemory, Order};
+use orb_base::{List, Order};
 use std::alloc::Global;
 use std::test::*;
 
@@ -16,39 +19,60 @@ const LAST: [u8; 32] = [
 /// The header of the joined message.
 const JOINED: [u8; 12] = [0x47, 0x49, 0x4f, 0x50, 1, 2, 0, 0, 0, 3, 0xff, 0xf4];
 
-/// A first piece of 262,128 bytes, so many empty Fragments, and the last one, which makes a message of 262,144 bytes.
-fn with_empty_fragments(alloc: Global, n: u32) -> Result<Vec<u8>, NoMemory> {
-    let mut bytes = Vec::new(alloc);
-    bytes.extend_from_slice(&[0x47, 0x49, 0x4f, 0x50, 1, 2, 2, 0, 0, 3, 0xff, 0xe4])?;
-    for _ in 0..262_116u32 {
-        bytes.push(0)?;
-    }
+/// The header of the first piece, of 262,128 bytes.
+const FIRST_OF_ALL: [u8; 12] = [0x47, 0x49, 0x4f, 0x50, 1, 2, 2, 0, 0, 3, 0xff, 0xe4];
+
+fn put_empty_fragments(bytes: &mut Vec<u8>, n: u32) -> bool {
     for _ in 0..n {
-        bytes.extend_from_slice(&EMPTY)?;
+        if bytes.extend_from_slice(&EMPTY).is_err() {
+            return false;
+        }
     }
-    bytes.extend_from_slice(&LAST)?;
-    Ok(bytes)
+    true
+}
+
+/// Puts the first piece, so many empty Fragments, and the last one, which makes a message of 262,144 bytes.
+fn put_all(bytes: &mut Vec<u8>, n: u32) -> bool {
+    bytes.extend_from_slice(&FIRST_OF_ALL).is_ok()
+        && put_zeros(bytes, 262_116)
+        && put_empty_fragments(bytes, n)
+        && bytes.extend_from_slice(&LAST).is_ok()
+}
+
+fn is_joined(whole: &[Whole]) -> bool {
+    match whole {
+        [one] => {
+            let joined = one.bytes.as_slice();
+            (one.at, one.kind, one.order) == (3_462_128, 0, Order::Big)
+                && joined.len() == 262_144
+                && joined[..12] == JOINED[..12]
+                && joined[262_128..] == LAST[16..]
+        }
+        _ => false,
+    }
+}
+
+/// Whether the bytes are the one message where they are fed in pieces of so many bytes.
+fn joins_by(alloc: Global, bytes: &[u8], n: usize) -> bool
+    requires { 0 < n }
+{
+    let mut whole = List::new(alloc);
+    match fed_by(alloc, 262_144, bytes, n, &mut whole) {
+        Ok(answer) => answer == (Ok(()), None) && is_joined(whole.as_slice()),
+        Err(_) => false,
+    }
+}
+
+fn joins_all(alloc: Global) -> bool {
+    let mut bytes = Vec::new(alloc);
+    put_all(&mut bytes, 200_000)
+        && joins_by(alloc, bytes.as_slice(), 1)
+        && joins_by(alloc, bytes.as_slice(), 16)
+        && joins_by(alloc, bytes.as_slice(), 65_536)
 }
 
 /// Were each Fragment to cost as much as the message is long, this would be 50,000,000,000 steps.
 #[test]
-fn an_empty_fragment_costs_a_constant(rt: HostRuntime) -> Result<(), Fail> {
-    let bytes = with_empty_fragments(rt.alloc(), 200_000)?;
-    for n in [1, 16, 65_536] {
-        let mut whole = List::new(rt.alloc());
-        let answer = fed_by(rt.alloc(), 262_144, bytes.as_slice(), n, &mut whole)?;
-        assert_eq!(rt; answer, (Ok(()), None));
-        assert_eq!(rt; whole.len(), 1);
-        match whole.get(0) {
-            Some(one) => {
-                assert_eq!(rt; (one.at, one.kind, one.order), (3_462_128, 0, Order::Big));
-                let joined = one.bytes.as_slice();
-                assert_eq!(rt; joined.len(), 262_144);
-                assert_eq!(rt; joined[..12], JOINED[..12]);
-                assert_eq!(rt; joined[262_128..], LAST[16..]);
-            }
-            None => assert!(rt; false),
-        }
-    }
-    Ok(())
+fn an_empty_fragment_costs_a_constant(rt: HostRuntime) {
+    assert!(rt; joins_all(rt.alloc()));
 }

@@ -1,9 +1,10 @@
-ghost use Rattle.std.specs.Prelude.{◌≤◌, ◌<◌};
+//! Streams, fed in any pieces, as they were laid out by hand by the rules of CORBA 3.0.3, section 15.4.
+ghost use Rattle.std.specs.Prelude.{◌≡◌, ◌≤◌, ◌<◌, ◌^◌, length, IfSome};
+ghost use Rattle.giop_frames.specs.Feeds.{joined_feeds};
 
 use giop_frames::*;
-use orb_base::{List, NoMemory, Order};
+use orb_base::{List, NoMemory, Octets, Order};
 use std::alloc::Global;
-use std::process::Abort;
 use std::test::*;
 
 /// Two pings, of ids 1 and 2. That of id 1 comes in three fragments, at 0, 72 and 104, and the other one at 24 between
@@ -58,57 +59,82 @@ fn fault(cause: FrameCause, offset: u64) -> FeedFault {
     FeedFault::Frame(FrameFault { cause, offset })
 }
 
-fn expect_pings(rt: &impl Abort, whole: &List<Whole>, n: usize) {
-    assert_eq!(rt; whole.len(), 2, "by {n}");
-    for (i, (at, id)) in [(24, 2), (104, 1)].iter().enumerate() {
-        match whole.get(i) {
-            Some(message) => {
-                assert_eq!(rt;
-                    (message.at, message.kind, message.order),
-                    (*at, 0, Order::Big),
-                    "by {n}"
-                );
-                let bytes = message.bytes.as_slice();
-                assert_eq!(rt; bytes.len(), 48);
-                assert_eq!(rt; bytes[..15], PING[..15], "by {n}");
-                assert_eq!(rt; bytes[15], *id);
-                assert_eq!(rt; bytes[16..], PING[16..], "by {n}");
-            }
-            None => assert!(rt; false),
+/// Whether this is the ping of an id, which the piece at this offset completed.
+fn is_ping(message: &Whole, at: u64, id: u8) -> bool {
+    let bytes = message.bytes.as_slice();
+    (message.at, message.kind, message.order) == (at, 0, Order::Big)
+        && bytes.len() == 48
+        && bytes[..15] == PING[..15]
+        && bytes[15] == id
+        && bytes[16..] == PING[16..]
+}
+
+fn are_pings(whole: &[Whole]) -> bool {
+    match whole {
+        [one, other] => is_ping(one, 24, 2) && is_ping(other, 104, 1),
+        _ => false,
+    }
+}
+
+/// Whether the two pings are joined where they are fed in pieces of so many bytes.
+fn joins_pings_by(alloc: Global, n: usize) -> bool
+    requires { 0 < n }
+{
+    let mut whole = List::new(alloc);
+    match fed_by(alloc, 262_144, &INTERLEAVED, n, &mut whole) {
+        Ok(answer) => answer == (Ok(()), None) && are_pings(whole.as_slice()),
+        Err(_) => false,
+    }
+}
+
+fn joins_pings_by_any(alloc: Global) -> bool {
+    for n in 1..129 {
+        if !joins_pings_by(alloc, n) {
+            return false;
         }
     }
+    true
 }
 
 #[test]
-fn interleaved_messages_are_joined_however_they_are_cut(rt: HostRuntime) -> Result<(), Fail> {
-    for n in 1..129 {
-        let mut whole = List::new(rt.alloc());
-        let answer = fed_by(rt.alloc(), 262_144, &INTERLEAVED, n, &mut whole)?;
-        assert_eq!(rt; answer, (Ok(()), None));
-        expect_pings(&rt, &whole, n);
+fn interleaved_messages_are_joined_however_they_are_cut(rt: HostRuntime) {
+    assert!(rt; joins_pings_by_any(rt.alloc()));
+}
+
+/// Whether the two pings are joined where so many bytes are fed, and then the others.
+fn joins_pings_of(alloc: Global, n: usize) -> bool
+    requires { n ≤ 128 }
+{
+    let rest = if n == 0 || n == 128 { None } else { Some(0) };
+    let mut whole = List::new(alloc);
+    match Framer::new(alloc, 262_144) {
+        Ok(mut framer) => {
+            framer.feed(&INTERLEAVED[..n], &mut whole) == Ok(())
+                && framer.rest() == rest
+                && framer.feed(&INTERLEAVED[n..], &mut whole) == Ok(())
+                && framer.rest().is_none()
+                && are_pings(whole.as_slice())
+        }
+        Err(_) => false,
     }
-    Ok(())
 }
 
-#[test]
-fn two_feeds_say_what_one_says(rt: HostRuntime) -> Result<(), Fail> {
+fn joins_pings_of_any(alloc: Global) -> bool {
     for n in 0..129 {
-        let mut framer = Framer::new(rt.alloc(), 262_144)?;
-        let mut whole = List::new(rt.alloc());
-        assert_eq!(rt; framer.feed(&INTERLEAVED[..n], &mut whole), Ok(()));
-        assert_eq!(rt;
-            framer.rest(),
-            if n == 0 || n == 128 { None } else { Some(0) }
-        );
-        assert_eq!(rt; framer.feed(&INTERLEAVED[n..], &mut whole), Ok(()));
-        assert_eq!(rt; framer.rest(), None);
-        expect_pings(&rt, &whole, n);
+        if !joins_pings_of(alloc, n) {
+            return false;
+        }
     }
-    Ok(())
+    true
+}
+
+#[test]
+fn two_feeds_say_what_one_says(rt: HostRuntime) {
+    assert!(rt; joins_pings_of_any(rt.alloc()));
 }
 
 /// What follows a first piece of id 1, the limit, and the cause, at offset 24.
-const FAULTS: [(&[u8], usize, FrameCause); 11] = [
+const FAULTS: &[(&[u8], usize, FrameCause)] = &[
     (
         &[0x47, 0x49, 0x4f, 0x51, 1, 2, 0, 0, 0, 0, 0, 0],
         64,
@@ -167,55 +193,84 @@ const FAULTS: [(&[u8], usize, FrameCause); 11] = [
     ),
 ];
 
-/// The last byte that makes a fault tells it, and every later feed again.
-#[test]
-fn each_cause_is_told_at_its_offset(rt: HostRuntime) -> Result<(), Fail> {
-    for (bytes, limit, cause) in FAULTS {
-        assert!(rt; 16 <= limit && limit <= 262_144 && !bytes.is_empty() && bytes.len() < 100);
-        let mut framer = Framer::new(rt.alloc(), limit)?;
-        let mut whole = List::new(rt.alloc());
-        let last = bytes.len() - 1;
-        assert_eq!(rt; framer.feed(&FIRST, &mut whole), Ok(()));
-        assert_eq!(rt; framer.kept(), 24);
-        assert_eq!(rt;
-            framer.feed(&bytes[..last], &mut whole),
-            Ok(()),
-            "{cause:?}"
-        );
-        assert_eq!(rt;
-            framer.feed(&bytes[last..], &mut whole),
-            Err(fault(cause, 24))
-        );
-        assert_eq!(rt; framer.feed(&PING, &mut whole), Err(fault(cause, 24)));
-        assert_eq!(rt; framer.rest(), Some(0));
-        assert_eq!(rt; framer.kept(), 0);
-        assert_eq!(rt; whole.len(), 0);
+/// Whether the last byte that makes a fault tells it, and every later feed again.
+fn is_told(alloc: Global, bytes: &[u8], limit: usize, cause: FrameCause) -> bool {
+    if limit < 16 || limit > 262_144 || bytes.is_empty() || bytes.len() > 99 {
+        return false;
     }
-    Ok(())
+    let told = fault(cause, 24);
+    let (front, last) = bytes.split_at(bytes.len() - 1);
+    let mut whole = List::new(alloc);
+    match Framer::new(alloc, limit) {
+        Ok(mut framer) => {
+            framer.feed(&FIRST, &mut whole) == Ok(())
+                && framer.kept() == 24
+                && framer.feed(front, &mut whole) == Ok(())
+                && framer.feed(last, &mut whole) == Err(told)
+                && framer.feed(&PING, &mut whole) == Err(told)
+                && framer.rest() == Some(0)
+                && framer.kept() == 0
+                && whole.is_empty()
+        }
+        Err(_) => false,
+    }
+}
+
+fn are_told(alloc: Global, rows: &[(&[u8], usize, FrameCause)]) -> bool {
+    for (bytes, limit, cause) in rows {
+        if !is_told(alloc, bytes, *limit, *cause) {
+            return false;
+        }
+    }
+    true
 }
 
 #[test]
-fn sixteen_messages_may_be_open(rt: HostRuntime) -> Result<(), Fail> {
-    let mut bytes = Vec::new(rt.alloc());
+fn each_cause_is_told_at_its_offset(rt: HostRuntime) {
+    assert!(rt; are_told(rt.alloc(), FAULTS));
+}
+
+/// Puts first pieces of 17 messages. False where memory is wanting.
+fn put_firsts(bytes: &mut Vec<u8>) -> bool {
     for id in 0..17u8 {
         let mut first = FIRST;
         first[15] = id;
-        bytes.extend_from_slice(&first)?;
+        if bytes.extend_from_slice(&first).is_err() {
+            return false;
+        }
     }
-    for n in [1, 7, 24, 408] {
-        let mut whole = List::new(rt.alloc());
-        let answer = fed_by(rt.alloc(), 64, bytes.as_slice(), n, &mut whole)?;
-        assert_eq!(rt;
-            answer,
-            (Err(fault(FrameCause::TooManyPartials, 384)), Some(0))
-        );
-        assert_eq!(rt; whole.len(), 0);
+    true
+}
+
+/// Whether the 17th of them is one too many where they are fed in pieces of so many bytes.
+fn are_too_many(alloc: Global, bytes: &[u8], n: usize) -> bool
+    requires { 0 < n }
+{
+    let mut whole = List::new(alloc);
+    match fed_by(alloc, 64, bytes, n, &mut whole) {
+        Ok(answer) => {
+            answer == (Err(fault(FrameCause::TooManyPartials, 384)), Some(0)) && whole.is_empty()
+        }
+        Err(_) => false,
     }
-    Ok(())
+}
+
+fn opens_sixteen(alloc: Global) -> bool {
+    let mut bytes = Vec::new(alloc);
+    put_firsts(&mut bytes)
+        && are_too_many(alloc, bytes.as_slice(), 1)
+        && are_too_many(alloc, bytes.as_slice(), 7)
+        && are_too_many(alloc, bytes.as_slice(), 24)
+        && are_too_many(alloc, bytes.as_slice(), 408)
+}
+
+#[test]
+fn sixteen_messages_may_be_open(rt: HostRuntime) {
+    assert!(rt; opens_sixteen(rt.alloc()));
 }
 
 /// The numbers of section 15.4.1.
-const KINDS: [(u8, Kind); 8] = [
+const KINDS: &[(u8, Kind)] = &[
     (0, Kind::Request),
     (1, Kind::Reply),
     (2, Kind::CancelRequest),
@@ -226,14 +281,18 @@ const KINDS: [(u8, Kind); 8] = [
     (7, Kind::Fragment),
 ];
 
-#[test]
-fn kinds_have_numbers(rt: HostRuntime) -> Result<(), Fail> {
-    for (number, kind) in KINDS {
-        assert_eq!(rt; Kind::of_number(number), Some(kind));
-        assert_eq!(rt; kind.number(), number);
+fn have_numbers(rows: &[(u8, Kind)]) -> bool {
+    for (number, kind) in rows {
+        if Kind::of_number(*number) != Some(*kind) || kind.number() != *number {
+            return false;
+        }
     }
-    assert_eq!(rt; Kind::of_number(8), None);
-    Ok(())
+    true
+}
+
+#[test]
+fn kinds_have_numbers(rt: HostRuntime) {
+    assert!(rt; have_numbers(KINDS) && Kind::of_number(8).is_none());
 }
 
 /// A CancelRequest of id 1, and the last fragment of id 1, which then has no message.
@@ -242,68 +301,122 @@ const CANCELLED: [u8; 32] = [
     0, 0, 0, 4, 0, 0, 0, 1,
 ];
 
-#[test]
-fn a_cancel_request_drops_the_open_message(rt: HostRuntime) -> Result<(), Fail> {
-    let mut framer = Framer::new(rt.alloc(), 64)?;
-    let mut whole = List::new(rt.alloc());
-    assert_eq!(rt; framer.feed(&FIRST, &mut whole), Ok(()));
-    assert_eq!(rt; framer.rest(), Some(0));
-    assert_eq!(rt; framer.feed(&CANCELLED[..16], &mut whole), Ok(()));
-    assert_eq!(rt; (framer.rest(), whole.len()), (None, 1));
-    assert_eq!(rt;
-        framer.feed(&CANCELLED[16..], &mut whole),
-        Err(fault(FrameCause::BadPiece, 40))
-    );
-    assert_eq!(rt; (framer.rest(), whole.len()), (None, 1));
-    Ok(())
+fn drops_the_open_message(alloc: Global) -> bool {
+    let mut whole = List::new(alloc);
+    match Framer::new(alloc, 64) {
+        Ok(mut framer) => {
+            framer.feed(&FIRST, &mut whole) == Ok(())
+                && framer.rest() == Some(0)
+                && framer.feed(&CANCELLED[..16], &mut whole) == Ok(())
+                && (framer.rest(), whole.len()) == (None, 1)
+                && framer.feed(&CANCELLED[16..], &mut whole) == Err(fault(FrameCause::BadPiece, 40))
+                && (framer.rest(), whole.len()) == (None, 1)
+        }
+        Err(_) => false,
+    }
 }
 
-/// A Request of exactly 262,144 bytes.
-pub(crate) fn long_message(alloc: Global) -> Result<Vec<u8>, NoMemory> {
+#[test]
+fn a_cancel_request_drops_the_open_message(rt: HostRuntime) {
+    assert!(rt; drops_the_open_message(rt.alloc()));
+}
+
+/// The header of a Request of 262,144 bytes.
+const LONG_HEADER: [u8; 12] = [0x47, 0x49, 0x4f, 0x50, 1, 2, 0, 0, 0, 3, 0xff, 0xf4];
+
+/// Puts so many zeros. False where memory is wanting.
+pub(crate) fn put_zeros(bytes: &mut Vec<u8>, n: u32) -> bool {
+    for _ in 0..n {
+        if bytes.push(0).is_err() {
+            return false;
+        }
+    }
+    true
+}
+
+/// Puts a Request of exactly 262,144 bytes.
+pub(crate) fn put_long_message(bytes: &mut Vec<u8>) -> bool {
+    bytes.extend_from_slice(&LONG_HEADER).is_ok() && put_zeros(bytes, 262_132)
+}
+
+/// Whether the bytes, fed in pieces of so many bytes, are one message of the greatest length.
+fn is_one_by(alloc: Global, bytes: &[u8], n: usize) -> bool
+    requires { 0 < n }
+{
+    let mut whole = List::new(alloc);
+    match fed_by(alloc, 262_144, bytes, n, &mut whole) {
+        Ok(answer) => answer == (Ok(()), None) && whole.len() == 1,
+        Err(_) => false,
+    }
+}
+
+fn takes_the_longest(alloc: Global) -> bool {
     let mut bytes = Vec::new(alloc);
-    bytes.extend_from_slice(&[0x47, 0x49, 0x4f, 0x50, 1, 2, 0, 0, 0, 3, 0xff, 0xf4])?;
-    for _ in 0..262_132u32 {
-        bytes.push(0)?;
+    put_long_message(&mut bytes)
+        && is_one_by(alloc, bytes.as_slice(), 1)
+        && is_one_by(alloc, bytes.as_slice(), 4_096)
+        && is_one_by(alloc, bytes.as_slice(), 262_144)
+}
+
+#[test]
+fn a_message_may_be_as_long_as_the_limit(rt: HostRuntime) {
+    assert!(rt; takes_the_longest(rt.alloc()));
+}
+
+fn keeps_a_header(alloc: Global) -> bool {
+    let mut whole = List::new(alloc);
+    match Framer::new(alloc, 262_144) {
+        Ok(mut framer) => {
+            framer.feed(&LONG_HEADER, &mut whole) == Ok(())
+                && (framer.kept(), framer.rest(), whole.len()) == (12, Some(0), 0)
+        }
+        Err(_) => false,
     }
-    Ok(bytes)
 }
 
 #[test]
-fn a_message_may_be_as_long_as_the_limit(rt: HostRuntime) -> Result<(), Fail> {
-    let bytes = long_message(rt.alloc())?;
-    for n in [1, 4_096, 262_144] {
-        let mut whole = List::new(rt.alloc());
-        let answer = fed_by(rt.alloc(), 262_144, bytes.as_slice(), n, &mut whole)?;
-        assert_eq!(rt; answer, (Ok(()), None));
-        assert_eq!(rt; whole.len(), 1);
+fn a_header_alone_keeps_its_12_bytes(rt: HostRuntime) {
+    assert!(rt; keeps_a_header(rt.alloc()));
+}
+
+fn octets(alloc: Global, bytes: &[u8]) -> Option<Octets>
+    ensures { IfSome result (λ o. o.items ≡ bytes.now) }
+{
+    let vec = Vec::from_slice(alloc, bytes).ok()?;
+    Some(List::from_vec(vec))
+}
+
+/// The stream of the two pings in two feeds.
+fn two_feeds(alloc: Global) -> Option<List<Octets>>
+    ensures { IfSome result (λ l. length (joined_feeds l.items) < 2 ^ 64) }
+{
+    let head = octets(alloc, &INTERLEAVED[..50])?;
+    let tail = octets(alloc, &INTERLEAVED[50..])?;
+    let mut feeds = List::new(alloc);
+    feeds.push(head).ok()?;
+    feeds.push(tail).ok()?;
+    Some(feeds)
+}
+
+/// Whether the feeds are read as the two pings.
+fn reads_pings(alloc: Global, feeds: &[Octets]) -> bool
+    requires { length (joined_feeds feeds.now) < 2 ^ 64 }
+{
+    let mut whole = List::new(alloc);
+    match read_stream(alloc, 262_144, feeds, &mut whole) {
+        Ok(rest) => rest.is_none() && are_pings(whole.as_slice()),
+        Err(_) => false,
     }
-    Ok(())
+}
+
+fn reads_two_feeds(alloc: Global) -> bool {
+    match two_feeds(alloc) {
+        Some(feeds) => reads_pings(alloc, feeds.as_slice()),
+        None => false,
+    }
 }
 
 #[test]
-fn a_header_alone_keeps_its_12_bytes(rt: HostRuntime) -> Result<(), Fail> {
-    let mut framer = Framer::new(rt.alloc(), 262_144)?;
-    let mut whole = List::new(rt.alloc());
-    let header = [0x47, 0x49, 0x4f, 0x50, 1, 2, 0, 0, 0, 3, 0xff, 0xf4];
-    assert_eq!(rt; framer.feed(&header, &mut whole), Ok(()));
-    assert_eq!(rt;
-        (framer.kept(), framer.rest(), whole.len()),
-        (12, Some(0), 0)
-    );
-    Ok(())
-}
-
-#[test]
-fn a_list_of_feeds_is_read_as_one_stream(rt: HostRuntime) -> Result<(), Fail> {
-    let mut head = List::new(rt.alloc());
-    head.append(&INTERLEAVED[..50])?;
-    let mut tail = List::new(rt.alloc());
-    tail.append(&INTERLEAVED[50..])?;
-    let mut whole = List::new(rt.alloc());
-    assert_eq!(rt;
-        read_stream(rt.alloc(), 262_144, &[head, tail], &mut whole),
-        Ok(None)
-    );
-    expect_pings(&rt, &whole, 50);
-    Ok(())
+fn a_list_of_feeds_is_read_as_one_stream(rt: HostRuntime) {
+    assert!(rt; reads_two_feeds(rt.alloc()));
 }

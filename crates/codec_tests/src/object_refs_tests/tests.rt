@@ -1,9 +1,11 @@
+//! Object URLs: CORBA 3.0.3, section 13.6.10.
+
 use object_refs::*;
 use std::alloc::Global;
 use std::test::*;
 
 /// The text of an object URL, and the host, port and key that it names.
-const LOCATIONS: [(&[u8], &[u8], u16, &[u8]); 8] = [
+const LOCATIONS: &[(&[u8], &[u8], u16, &[u8])] = &[
     (
         b"corbaloc:iiop:1.2@127.0.0.1:2810/ping",
         b"127.0.0.1",
@@ -19,19 +21,33 @@ const LOCATIONS: [(&[u8], &[u8], u16, &[u8]); 8] = [
     (b"corbaloc::1.2@h:00080/k", b"h", 80, b"k"),
 ];
 
-#[test]
-fn object_urls_name_locations(rt: HostRuntime) -> Result<(), Fail> {
-    for (text, host, port, key) in LOCATIONS {
-        let location = parse_corbaloc(rt.alloc(), text).ok().ok_or("a location")?;
-        assert_eq!(rt; location.host.as_slice(), host, "{text:?}");
-        assert_eq!(rt; location.port, port, "{text:?}");
-        assert_eq!(rt; location.key.as_slice(), key, "{text:?}");
+fn is_location(alloc: Global, text: &[u8], host: &[u8], port: u16, key: &[u8]) -> bool {
+    match parse_corbaloc(alloc, text) {
+        Ok(location) => {
+            location.host.as_slice() == host
+                && location.port == port
+                && location.key.as_slice() == key
+        }
+        Err(_) => false,
     }
-    Ok(())
+}
+
+fn are_locations(alloc: Global, rows: &[(&[u8], &[u8], u16, &[u8])]) -> bool {
+    for (text, host, port, key) in rows {
+        if !is_location(alloc, text, host, *port, key) {
+            return false;
+        }
+    }
+    true
+}
+
+#[test]
+fn object_urls_name_locations(rt: HostRuntime) {
+    assert!(rt; are_locations(rt.alloc(), LOCATIONS));
 }
 
 /// Digits, the most of them, and the port that they are.
-const PORTS: [(&[u8], usize, Option<u16>); 9] = [
+const PORTS: &[(&[u8], usize, Option<u16>)] = &[
     (b"1", 1, Some(1)),
     (b"65535", 5, Some(65_535)),
     (b"000080", 6, Some(80)),
@@ -43,16 +59,22 @@ const PORTS: [(&[u8], usize, Option<u16>); 9] = [
     (b"80", 0, None),
 ];
 
-#[test]
-fn digits_are_ports(rt: HostRuntime) -> Result<(), Fail> {
-    for (digits, most, port) in PORTS {
-        assert_eq!(rt; port_number(digits, most), port, "{digits:?}");
+fn are_ports(rows: &[(&[u8], usize, Option<u16>)]) -> bool {
+    for (digits, most, port) in rows {
+        if port_number(digits, *most) != *port {
+            return false;
+        }
     }
-    Ok(())
+    true
+}
+
+#[test]
+fn digits_are_ports(rt: HostRuntime) {
+    assert!(rt; are_ports(PORTS));
 }
 
 /// Texts that name no location, with the cause and its place.
-const NO_LOCATIONS: [(&[u8], RefCause, usize); 28] = [
+const NO_LOCATIONS: &[(&[u8], RefCause, usize)] = &[
     (b"", RefCause::NoPrefix, 0),
     (b"corbaloc:", RefCause::NoPrefix, 0),
     (b"corbaloc:rir:/ping", RefCause::NoPrefix, 0),
@@ -83,43 +105,60 @@ const NO_LOCATIONS: [(&[u8], RefCause, usize); 28] = [
     (b"corbaloc::1.2@h:80/a%2g%zz", RefCause::BadEscape, 19),
 ];
 
+fn is_fault(alloc: Global, text: &[u8], cause: RefCause, place: usize) -> bool {
+    match parse_corbaloc(alloc, text) {
+        Ok(_) => false,
+        Err(told) => told == RefError::Refused(RefFault { cause, place }),
+    }
+}
+
+fn are_faults(alloc: Global, rows: &[(&[u8], RefCause, usize)]) -> bool {
+    for (text, cause, place) in rows {
+        if !is_fault(alloc, text, *cause, *place) {
+            return false;
+        }
+    }
+    true
+}
+
 #[test]
 fn a_part_without_reading_is_at_fault(rt: HostRuntime) {
-    for (text, cause, place) in NO_LOCATIONS {
-        let fault = parse_corbaloc(rt.alloc(), text).err();
-        assert_eq!(rt;
-            fault,
-            Some(RefError::Refused(RefFault { cause, place })),
-            "{text:?}"
-        );
+    assert!(rt; are_faults(rt.alloc(), NO_LOCATIONS));
+}
+
+/// Puts an object URL whose host is so many times `h`. False where memory is wanting.
+fn put_url(text: &mut Vec<u8>, len: usize) -> bool {
+    if text.extend_from_slice(b"corbaloc::1.2@").is_err() {
+        return false;
+    }
+    for _ in 0..len {
+        if text.push(b'h').is_err() {
+            return false;
+        }
+    }
+    text.extend_from_slice(b"/k").is_ok()
+}
+
+/// Whether the text names a host of this length.
+fn has_host_of(alloc: Global, text: &[u8], len: usize) -> bool {
+    match parse_corbaloc(alloc, text) {
+        Ok(location) => location.host.len() == len,
+        Err(_) => false,
     }
 }
 
-/// An object URL whose host is so many times `h`.
-fn url_of_host(alloc: Global, len: usize) -> Result<Vec<u8>, Fail> {
-    let mut text = Vec::from_slice(alloc, b"corbaloc::1.2@")?;
-    for _ in 0..len {
-        text.push(b'h')?;
-    }
-    text.extend_from_slice(b"/k")?;
-    Ok(text)
+fn reads_host_of_255(alloc: Global) -> bool {
+    let mut text = Vec::new(alloc);
+    put_url(&mut text, 255) && has_host_of(alloc, text.as_slice(), 255)
+}
+
+fn refuses_host_of_256(alloc: Global) -> bool {
+    let mut text = Vec::new(alloc);
+    put_url(&mut text, 256) && is_fault(alloc, text.as_slice(), RefCause::BadHost, 14)
 }
 
 #[test]
-fn a_host_has_at_most_255_bytes(rt: HostRuntime) -> Result<(), Fail> {
-    let longest = url_of_host(rt.alloc(), 255)?;
-    let location = parse_corbaloc(rt.alloc(), longest.as_slice())
-        .ok()
-        .ok_or("a location")?;
-    assert_eq!(rt; location.host.len(), 255);
-    let longer = url_of_host(rt.alloc(), 256)?;
-    let fault = RefFault {
-        cause: RefCause::BadHost,
-        place: 14,
-    };
-    assert_eq!(rt;
-        parse_corbaloc(rt.alloc(), longer.as_slice()).err(),
-        Some(RefError::Refused(fault))
-    );
-    Ok(())
+fn a_host_has_at_most_255_bytes(rt: HostRuntime) {
+    assert!(rt; reads_host_of_255(rt.alloc()));
+    assert!(rt; refuses_host_of_256(rt.alloc()));
 }

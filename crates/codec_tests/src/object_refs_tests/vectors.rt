@@ -21,7 +21,6 @@ pub const SMALL: &[u8] = b"\0\x01\x02\0\0\0\0\x02h\0\x0a\xf9\0\0\0\x01k\0\0\0\0\
 pub const OLDEST: &[u8] = b"\0\x01\0\0\0\0\0\x02h\0\x0a\xf9\0\0\0\x01k";
 
 /// A reference that another broker wrote, and what it tells of it.
-#[derive(Clone, Copy)]
 pub struct Foreign {
     pub text: &'static [u8],
     pub type_id: &'static [u8],
@@ -32,7 +31,7 @@ pub struct Foreign {
 }
 
 /// References that omniORB 4.2.5 wrote, in the little order, with what its `catior` tells of them.
-pub const FOREIGN: [Foreign; 4] = [
+pub const FOREIGN: &[Foreign] = &[
     Foreign {
         text: b"IOR:010000001100000049444c3a4f72622f50696e673a312e3000000000010000000000000054000000010102000a00\
         00003139322e302e322e3700f90a0400000070696e670200000000000000080000000100000000545441010000001c00\
