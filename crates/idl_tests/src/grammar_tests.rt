@@ -2,12 +2,11 @@
 ghost use Rattle.std.specs.Prelude.{◌≡◌};
 
 use grammar::*;
-use idl_tokens::{Dialect, Kind, Token, tokens_of};
+use idl_tokens::{Dialect, Kind, Token, Tokens, tokens_of};
 use std::alloc::Global;
-use std::test::*;
 
 /// What is done along a list.
-#[derive(Clone, Copy, Debug, PartialEq, Eq)]
+#[derive(Clone, Copy)]
 enum Label {
     /// Nothing.
     Skip,
@@ -18,7 +17,7 @@ enum Label {
 }
 
 /// The rule in brackets.
-#[derive(Clone, Copy, Debug, PartialEq, Eq)]
+#[derive(Clone, Copy)]
 enum Inner {
     Items,
 }
@@ -51,7 +50,7 @@ static FILE: ListRule = Rule::Many(&Rule::Then(
 ));
 
 /// How many tokens were taken, and how many items were counted behind a comma, each up to 2^32 - 1.
-#[derive(Debug, Drop)]
+#[derive(Drop)]
 struct Count {
     tokens: u32,
     commas: u32,
@@ -60,9 +59,9 @@ struct Count {
 impl Builder for Count {
     ghost use Rattle.std.specs.Prelude.{ℕ, ◌+◌, ◌-◌, ◌^◌, min, Ok};
     ghost use Rattle.grammar.specs.Rules.{one, ◌or◌, maybe, chained, nested};
-    ghost use Rattle.grammar.specs.declared.tests.Label.{Label};
-    ghost use Rattle.grammar.specs.declared.tests.Label.TheVariants as label;
-    ghost use Rattle.grammar.specs.declared.tests.Inner.TheVariants as inner;
+    ghost use Rattle.idl_tests.specs.declared.grammar_tests.Label.{Label};
+    ghost use Rattle.idl_tests.specs.declared.grammar_tests.Label.TheVariants as label;
+    ghost use Rattle.idl_tests.specs.declared.grammar_tests.Inner.TheVariants as inner;
     ghost use Rattle.idl_tokens.specs.declared.kind.Kind.TheVariants as kind;
 
     type Label = Label;
@@ -102,58 +101,89 @@ impl Builder for Count {
     }
 }
 
-/// What was counted along a text, or where it stops.
-fn counted(alloc: Global, text: &str, depth: u32) -> Result<Result<(u32, u32), (u32, u32)>, Fail> {
-    let bytes = text.as_bytes();
-    if bytes.len() > 1000 {
-        return Err(Fail::from("a long text"));
-    }
-    let found = tokens_of(alloc, Dialect::Idl, bytes)?;
-    let mut count = Count {
+fn items() -> &'static ListRule {
+    &ITEMS
+}
+
+fn file() -> &'static ListRule {
+    &FILE
+}
+
+/// Nothing was counted.
+fn nothing() -> Count {
+    Count {
         tokens: 0,
         commas: 0,
-    };
-    let mut tokens = found.stream();
-    match read_whole(&FILE, &mut tokens, &mut count, Kind::End, depth) {
-        Ok(()) => Ok(Ok((count.tokens, count.commas))),
-        Err(ReadError::Refused(place)) => Ok(Err(place)),
-        Err(ReadError::NoMemory) => Err(Fail::from("memory")),
+    }
+}
+
+/// What was counted along tokens, or where they stop; None for want of memory.
+fn counted(mut tokens: Tokens<'_>) -> Option<Result<(u32, u32), (u32, u32)>> {
+    let mut count = nothing();
+    match read_whole(file(), &mut tokens, &mut count, Kind::End, 2) {
+        Ok(()) => Some(Ok((count.tokens, count.commas))),
+        Err(ReadError::Refused(place)) => Some(Err(place)),
+        Err(ReadError::NoMemory) => None,
+    }
+}
+
+/// A text, and how many tokens and commas are counted along it, or the line and the column where it stops.
+type Row = (&'static [u8], Result<(u32, u32), (u32, u32)>);
+
+const ROWS: &[Row] = &[
+    (b"", Ok((0, 0))),
+    (b";", Ok((1, 0))),
+    (b"a;", Ok((2, 0))),
+    (b"a, b, c;\n(d, (e)), ();", Ok((17, 4))),
+    (b"a", Err((1, 2))),
+    (b"a b;", Err((1, 3))),
+    (b"a,;", Err((1, 3))),
+    (b"(a;", Err((1, 3))),
+    (b"((a));", Ok((6, 0))),
+    (b"a;\n(((b)));", Err((2, 3))),
+];
+
+fn holds(alloc: Global, text: &[u8], want: Result<(u32, u32), (u32, u32)>) -> bool {
+    if text.len() > 1000 {
+        return false;
+    }
+    match tokens_of(alloc, Dialect::Idl, text) {
+        Ok(found) => counted(found.stream()) == Some(want),
+        Err(_) => false,
+    }
+}
+
+fn all_hold(alloc: Global) -> bool {
+    for (text, want) in ROWS {
+        if !holds(alloc, text, *want) {
+            return false;
+        }
+    }
+    true
+}
+
+#[test]
+fn texts_of_the_grammar_are_read_and_others_stop_at_their_first_fault(rt: HostRuntime) {
+    assert!(rt; all_hold(rt.alloc()));
+}
+
+/// Whether an item and a further one behind a comma are read, and a token of the sixth column is next.
+fn reads_two(mut tokens: Tokens<'_>) -> bool {
+    let mut count = nothing();
+    read_rule(items(), &mut tokens, &mut count, 0).is_ok()
+        && count.tokens == 3
+        && count.commas == 1
+        && tokens.front().column == 6
+}
+
+fn reads_as_far_as_it_goes(alloc: Global) -> bool {
+    match tokens_of(alloc, Dialect::Idl, b"a, b c") {
+        Ok(found) => reads_two(found.stream()),
+        Err(_) => false,
     }
 }
 
 #[test]
-fn texts_of_the_grammar_are_read_and_others_stop_at_their_first_fault(
-    rt: HostRuntime,
-) -> Result<(), Fail> {
-    let rows: [(&str, Result<(u32, u32), (u32, u32)>); 10] = [
-        ("", Ok((0, 0))),
-        (";", Ok((1, 0))),
-        ("a;", Ok((2, 0))),
-        ("a, b, c;\n(d, (e)), ();", Ok((17, 4))),
-        ("a", Err((1, 2))),
-        ("a b;", Err((1, 3))),
-        ("a,;", Err((1, 3))),
-        ("(a;", Err((1, 3))),
-        ("((a));", Ok((6, 0))),
-        ("a;\n(((b)));", Err((2, 3))),
-    ];
-    for (text, want) in rows {
-        let got = counted(rt.alloc(), text, 2)?;
-        assert_eq!(rt; got, want);
-    }
-    Ok(())
-}
-
-#[test]
-fn a_rule_is_read_as_far_as_it_goes(rt: HostRuntime) -> Result<(), Fail> {
-    let found = tokens_of(rt.alloc(), Dialect::Idl, b"a, b c")?;
-    let mut tokens = found.stream();
-    let mut count = Count {
-        tokens: 0,
-        commas: 0,
-    };
-    assert!(rt; read_rule(&ITEMS, &mut tokens, &mut count, 0).is_ok());
-    assert_eq!(rt; (count.tokens, count.commas), (3, 1));
-    assert_eq!(rt; tokens.front().column, 6);
-    Ok(())
+fn a_rule_is_read_as_far_as_it_goes(rt: HostRuntime) {
+    assert!(rt; reads_as_far_as_it_goes(rt.alloc()));
 }

@@ -3,141 +3,177 @@
 use grammar::ReadError;
 use idl_grammar::IdlCause;
 use idl_names::*;
+use idl_scopes::Scopes;
 use std::alloc::Global;
-use std::test::*;
 
-/// None where a text is whole, and else the cause and the column of its first fault.
-fn told(alloc: Global, text: &str) -> Result<Option<(IdlCause, u32)>, Fail> {
-    let bytes = text.as_bytes();
-    if bytes.len() > 2000 {
-        return Err(Fail::from("a long text"));
+/// Whether a text is whole.
+fn is_whole(alloc: Global, text: &[u8]) -> bool {
+    if text.len() > 2000 {
+        return false;
     }
-    match read_names(alloc, bytes) {
-        Ok(_) => Ok(None),
-        Err(ReadError::Refused(fault)) => Ok(Some((fault.cause, fault.column))),
-        Err(ReadError::NoMemory) => Err(Fail::from("memory")),
+    read_names(alloc, text).is_ok()
+}
+
+/// Whether the first fault of a text is of this cause, at this column.
+fn is_refused(alloc: Global, text: &[u8], cause: IdlCause, column: u32) -> bool {
+    if text.len() > 2000 {
+        return false;
+    }
+    match read_names(alloc, text) {
+        Err(ReadError::Refused(fault)) => fault.cause == cause && fault.column == column,
+        _ => false,
     }
 }
 
-#[test]
-fn whole_texts(rt: HostRuntime) -> Result<(), Fail> {
-    let texts: [&str; 8] = [
-        "typedef long T; typedef T U;",
-        "module M { typedef long T; }; module M { typedef T U; };",
-        "exception E { long x; }; interface I { void f() raises (E); };",
-        "interface A { void f(); }; interface B : A, A { };",
-        "enum E { X, Y }; union U switch (E) { case X: long a; default: string<5> b[2]; };",
-        "interface I { readonly attribute long a, b; attribute string c; oneway void n(in octet x); };",
-        "const octet c = 0x1F; const short d = -32768; const char e = 'x'; const string<2> s = \"ab\";",
-        "module M { struct S { long a, b[2]; }; }; typedef sequence<M::S, 7> Q; typedef ::M::S P;",
-    ];
-    for text in texts {
-        assert_eq!(rt; told(rt.alloc(), text)?, None);
+const WHOLE: &[&[u8]] = &[
+    b"typedef long T; typedef T U;",
+    b"module M { typedef long T; }; module M { typedef T U; };",
+    b"exception E { long x; }; interface I { void f() raises (E); };",
+    b"interface A { void f(); }; interface B : A, A { };",
+    b"enum E { X, Y }; union U switch (E) { case X: long a; default: string<5> b[2]; };",
+    b"interface I { readonly attribute long a, b; attribute string c; oneway void n(in octet x); };",
+    b"const octet c = 0x1F; const short d = -32768; const char e = 'x'; const string<2> s = \"ab\";",
+    b"module M { struct S { long a, b[2]; }; }; typedef sequence<M::S, 7> Q; typedef ::M::S P;",
+];
+
+fn are_whole(alloc: Global) -> bool {
+    for text in WHOLE {
+        if !is_whole(alloc, text) {
+            return false;
+        }
     }
-    Ok(())
+    true
 }
 
 #[test]
-fn names_at_fault(rt: HostRuntime) -> Result<(), Fail> {
-    let rows: [(&str, IdlCause, u32); 12] = [
-        ("typedef V U;", IdlCause::Unknown, 9),
-        ("struct S { sequence<S> x; };", IdlCause::Unknown, 21),
-        (
-            "interface I { void f(in long p); }; typedef I::f::p T;",
-            IdlCause::Unknown,
-            51,
-        ),
-        ("typedef long T; typedef T t;", IdlCause::Clash, 27),
-        (
-            "interface A { void f(); }; interface B : A { void F(); };",
-            IdlCause::Clash,
-            51,
-        ),
-        (
-            "interface A { attribute long x; }; interface B : A { void x(); };",
-            IdlCause::Clash,
-            59,
-        ),
-        (
-            "module M { typedef long T; }; module m { typedef long U; };",
-            IdlCause::Clash,
-            38,
-        ),
-        ("struct S { long s; };", IdlCause::Clash, 17),
-        ("typedef long LONG;", IdlCause::Clash, 14),
-        (
-            "typedef long T; struct S { long T; T x; };",
-            IdlCause::WrongKind,
-            36,
-        ),
-        (
-            "struct S { long x; }; interface I { void f() raises (S); };",
-            IdlCause::WrongKind,
-            54,
-        ),
-        (
-            "interface I { void f(in I x); };",
-            IdlCause::NotInProfile,
-            25,
-        ),
-    ];
+fn whole_texts(rt: HostRuntime) {
+    assert!(rt; are_whole(rt.alloc()));
+}
+
+/// Texts, and of the first fault of each its cause and its column.
+type Row = (&'static [u8], IdlCause, u32);
+
+fn are_refused(alloc: Global, rows: &[Row]) -> bool {
     for (text, cause, column) in rows {
-        assert_eq!(rt; told(rt.alloc(), text)?, Some((cause, column)));
+        if !is_refused(alloc, text, *cause, *column) {
+            return false;
+        }
     }
-    Ok(())
+    true
 }
 
-#[test]
-fn values_at_fault(rt: HostRuntime) -> Result<(), Fail> {
-    let rows: [(&str, IdlCause, u32); 11] = [
-        ("const char c = -5;", IdlCause::WrongKind, 16),
-        (
-            "const octet c = 1; const char d = c;",
-            IdlCause::WrongKind,
-            35,
-        ),
-        ("const octet c = -256;", IdlCause::OutOfRange, 18),
-        ("const short c = +32768;", IdlCause::OutOfRange, 18),
-        ("typedef sequence<long, 65537> T;", IdlCause::OutOfRange, 24),
-        ("typedef string<0> T;", IdlCause::OutOfRange, 16),
-        (
-            "interface I { oneway void f(out long x); };",
-            IdlCause::BadOneway,
-            29,
-        ),
-        (
-            "exception E { }; interface I { oneway void f() raises (E); };",
-            IdlCause::BadOneway,
-            48,
-        ),
-        (
-            "union U switch (long) { case 16: long a; case 0x10: long b; };",
-            IdlCause::TwiceCase,
-            47,
-        ),
-        (
-            "union U switch (long) { default: long a; default: long b; };",
-            IdlCause::TwiceCase,
-            42,
-        ),
-        ("typedef long T[300][300];", IdlCause::TooLarge, 14),
-    ];
-    for (text, cause, column) in rows {
-        assert_eq!(rt; told(rt.alloc(), text)?, Some((cause, column)));
-    }
-    Ok(())
-}
+const NAMES: &[Row] = &[
+    (b"typedef V U;", IdlCause::Unknown, 9),
+    (b"struct S { sequence<S> x; };", IdlCause::Unknown, 21),
+    (
+        b"interface I { void f(in long p); }; typedef I::f::p T;",
+        IdlCause::Unknown,
+        51,
+    ),
+    (b"typedef long T; typedef T t;", IdlCause::Clash, 27),
+    (
+        b"interface A { void f(); }; interface B : A { void F(); };",
+        IdlCause::Clash,
+        51,
+    ),
+    (
+        b"interface A { attribute long x; }; interface B : A { void x(); };",
+        IdlCause::Clash,
+        59,
+    ),
+    (
+        b"module M { typedef long T; }; module m { typedef long U; };",
+        IdlCause::Clash,
+        38,
+    ),
+    (b"struct S { long s; };", IdlCause::Clash, 17),
+    (b"typedef long LONG;", IdlCause::Clash, 14),
+    (
+        b"typedef long T; struct S { long T; T x; };",
+        IdlCause::WrongKind,
+        36,
+    ),
+    (
+        b"struct S { long x; }; interface I { void f() raises (S); };",
+        IdlCause::WrongKind,
+        54,
+    ),
+    (
+        b"interface I { void f(in I x); };",
+        IdlCause::NotInProfile,
+        25,
+    ),
+];
 
 #[test]
-fn things_stand_by_the_places_of_names(rt: HostRuntime) -> Result<(), Fail> {
-    let names = match read_names(rt.alloc(), b"module M { typedef long T; };".as_slice()) {
-        Ok(names) => names,
-        Err(_) => return Err(Fail::from("refused")),
-    };
+fn names_at_fault(rt: HostRuntime) {
+    assert!(rt; are_refused(rt.alloc(), NAMES));
+}
+
+const VALUES: &[Row] = &[
+    (b"const char c = -5;", IdlCause::WrongKind, 16),
+    (
+        b"const octet c = 1; const char d = c;",
+        IdlCause::WrongKind,
+        35,
+    ),
+    (b"const octet c = -256;", IdlCause::OutOfRange, 18),
+    (b"const short c = +32768;", IdlCause::OutOfRange, 18),
+    (
+        b"typedef sequence<long, 65537> T;",
+        IdlCause::OutOfRange,
+        24,
+    ),
+    (b"typedef string<0> T;", IdlCause::OutOfRange, 16),
+    (
+        b"interface I { oneway void f(out long x); };",
+        IdlCause::BadOneway,
+        29,
+    ),
+    (
+        b"exception E { }; interface I { oneway void f() raises (E); };",
+        IdlCause::BadOneway,
+        48,
+    ),
+    (
+        b"union U switch (long) { case 16: long a; case 0x10: long b; };",
+        IdlCause::TwiceCase,
+        47,
+    ),
+    (
+        b"union U switch (long) { default: long a; default: long b; };",
+        IdlCause::TwiceCase,
+        42,
+    ),
+    (b"typedef long T[300][300];", IdlCause::TooLarge, 14),
+];
+
+#[test]
+fn values_at_fault(rt: HostRuntime) {
+    assert!(rt; are_refused(rt.alloc(), VALUES));
+}
+
+fn stand_in_scopes(scopes: &Scopes) -> bool {
+    scopes.len() == 2 && scopes.name_at(1) == b"T".as_slice()
+}
+
+fn stand_in_things(things: &[Thing]) -> bool {
+    things.len() == 2 && matches!(things.get(1), Some(Thing::Type(_)))
+}
+
+fn stand_together(names: Names) -> bool {
     let (scopes, things) = names.into_parts();
-    assert_eq!(rt; scopes.len(), 2);
-    assert!(rt; scopes.name_at(1) == b"T".as_slice());
-    assert_eq!(rt; things.len(), 2);
-    assert!(rt; matches!(&things[1], Thing::Type(_)));
-    Ok(())
+    stand_in_scopes(&scopes) && stand_in_things(&things)
+}
+
+fn stand_by_places(alloc: Global) -> bool {
+    match read_names(alloc, b"module M { typedef long T; };".as_slice()) {
+        Ok(names) => stand_together(names),
+        Err(_) => false,
+    }
+}
+
+#[test]
+fn things_stand_by_the_places_of_names(rt: HostRuntime) {
+    assert!(rt; stand_by_places(rt.alloc()));
 }

@@ -1,94 +1,116 @@
 //! References to types.
 
 use super::samples::{
-    array, exception, interface, longs, named, of_one, operation, pair, seq, structure, word_of,
+    array, exception, interface, longs, named, operation, pair, push, puts, seq, structure, word_of,
 };
-use cdr_values::IdlType;
+use cdr_values::{IdlType, Member};
 use idl_types::*;
-use orb_base::{List, NoMemory};
+use orb_base::List;
 use std::alloc::Global;
-use std::test::Fail;
+use std::process::Abort;
 
-/// IDL's word for the type of a part of the thing at a place, so many steps into its elements.
-fn at(all: &Repository, place: u32, part: Part, steps: u32) -> &'static str {
-    word_of(all.type_at(TypeRef { place, part, steps }))
+/// A part of the thing at a place, so many steps into its elements, and IDL's word for its type.
+type Row = (u32, Part, u32, &'static str);
+
+fn reaches(all: &Repository, rows: &[Row]) -> bool {
+    for (place, part, steps, want) in rows {
+        let reference = TypeRef {
+            place: *place,
+            part: *part,
+            steps: *steps,
+        };
+        if word_of(all.type_at(reference)) != *want {
+            return false;
+        }
+    }
+    true
 }
 
-/// `sequence<char [3]>`
-fn rows(alloc: Global) -> Result<IdlType, NoMemory> {
-    seq(alloc, array(alloc, IdlType::Char, 3)?)
+/// Whether these rows hold where one thing is declared.
+fn reaches_in(alloc: Global, declaration: Declaration, rows: &[Row]) -> bool {
+    let mut all = Repository::new(alloc);
+    puts(&mut all, declaration) && reaches(&all, rows)
+}
+
+/// `octet x; sequence<char [3]> y;`
+fn members<R: Abort>(rt: &R, alloc: Global) -> Vec<Member> {
+    let rows = seq(rt, alloc, array(rt, alloc, IdlType::Char, 3));
+    pair(rt, alloc, b"y", rows)
 }
 
 /// `struct S { octet x; sequence<char [3]> y; };`
-fn of_struct(alloc: Global) -> Result<Repository, NoMemory> {
-    let members = pair(alloc, b"y", rows(alloc)?)?;
-    let kind = structure(alloc, members)?;
-    of_one(alloc, named(alloc, b"IDL:S:1.0", kind)?)
+fn of_struct<R: Abort>(rt: &R, alloc: Global) -> Declaration {
+    let kind = structure(rt, alloc, members(rt, alloc));
+    named(rt, alloc, b"IDL:S:1.0", kind)
 }
 
+const IN_STRUCT: &[Row] = &[
+    (0, Part::Whole, 0, "struct"),
+    (0, Part::Whole, 1, "none"),
+    (0, Part::Member(0), 0, "octet"),
+    (0, Part::Member(2), 0, "none"),
+    (0, Part::Outcome(0), 0, "none"),
+    (0, Part::Member(1), 0, "sequence"),
+    (0, Part::Member(1), 1, "array"),
+    (0, Part::Member(1), 2, "char"),
+    (0, Part::Member(1), 3, "none"),
+    (1, Part::Whole, 0, "none"),
+];
+
 #[test]
-fn members_and_elements_are_reached(rt: HostRuntime) -> Result<(), Fail> {
-    let all = of_struct(rt.alloc())?;
-    assert_eq!(rt; at(&all, 0, Part::Whole, 0), "struct");
-    assert_eq!(rt; at(&all, 0, Part::Whole, 1), "none");
-    assert_eq!(rt; at(&all, 0, Part::Member(0), 0), "octet");
-    assert_eq!(rt; at(&all, 0, Part::Member(2), 0), "none");
-    assert_eq!(rt; at(&all, 0, Part::Outcome(0), 0), "none");
-    assert_eq!(rt; at(&all, 0, Part::Member(1), 0), "sequence");
-    assert_eq!(rt; at(&all, 0, Part::Member(1), 1), "array");
-    assert_eq!(rt; at(&all, 0, Part::Member(1), 2), "char");
-    assert_eq!(rt; at(&all, 0, Part::Member(1), 3), "none");
-    assert_eq!(rt; at(&all, 1, Part::Whole, 0), "none");
-    Ok(())
+fn members_and_elements_are_reached(rt: HostRuntime) {
+    assert!(rt; reaches_in(rt.alloc(), of_struct(&rt, rt.alloc()), IN_STRUCT));
 }
 
 /// `exception E { octet x; sequence<char [3]> y; };`
-fn of_exception(alloc: Global) -> Result<Repository, NoMemory> {
-    let members = pair(alloc, b"y", rows(alloc)?)?;
-    of_one(alloc, exception(alloc, b"IDL:E:1.0", members)?)
+fn of_exception<R: Abort>(rt: &R, alloc: Global) -> Declaration {
+    exception(rt, alloc, b"IDL:E:1.0", members(rt, alloc))
 }
+
+const IN_EXCEPTION: &[Row] = &[
+    (0, Part::Whole, 0, "none"),
+    (0, Part::Member(1), 1, "array"),
+    (0, Part::Member(2), 0, "none"),
+];
 
 #[test]
-fn members_of_an_exception_are_reached(rt: HostRuntime) -> Result<(), Fail> {
-    let all = of_exception(rt.alloc())?;
-    assert_eq!(rt; at(&all, 0, Part::Whole, 0), "none");
-    assert_eq!(rt; at(&all, 0, Part::Member(1), 1), "array");
-    assert_eq!(rt; at(&all, 0, Part::Member(2), 0), "none");
-    Ok(())
+fn members_of_an_exception_are_reached(rt: HostRuntime) {
+    assert!(rt; reaches_in(rt.alloc(), of_exception(&rt, rt.alloc()), IN_EXCEPTION));
 }
 
-/// `void f();`
-fn first(alloc: Global) -> Result<Operation, NoMemory> {
-    operation(alloc, b"f", None, List::new(alloc))
-}
-
-/// `short g(in long x, in long y);`
-fn second(alloc: Global) -> Result<Operation, NoMemory> {
-    let params = longs(alloc, &[b"x", b"y"])?;
-    operation(alloc, b"g", Some(IdlType::Short), params)
-}
-
-fn both(alloc: Global) -> Result<List<Operation>, NoMemory> {
+/// `void f(); short g(in long x, in long y);`
+fn both<R: Abort>(rt: &R, alloc: Global) -> List<Operation> {
+    let params = longs(rt, alloc, &[b"x", b"y"]);
     let mut list = Vec::new(alloc);
-    list.push(first(alloc)?)?;
-    list.push(second(alloc)?)?;
-    Ok(List::from_vec(list))
+    push(
+        rt,
+        &mut list,
+        operation(rt, alloc, b"f", None, List::new(alloc)),
+    );
+    push(
+        rt,
+        &mut list,
+        operation(rt, alloc, b"g", Some(IdlType::Short), params),
+    );
+    List::from_vec(list)
 }
 
-fn of_interface(alloc: Global) -> Result<Repository, NoMemory> {
-    let operations = both(alloc)?;
-    of_one(alloc, interface(alloc, b"IDL:I:1.0", &[], operations)?)
+/// `interface I { void f(); short g(in long x, in long y); };`
+fn of_interface<R: Abort>(rt: &R, alloc: Global) -> Declaration {
+    interface(rt, alloc, b"IDL:I:1.0", &[], both(rt, alloc))
 }
+
+const IN_INTERFACE: &[Row] = &[
+    (0, Part::Outcome(0), 0, "none"),
+    (0, Part::Outcome(1), 0, "short"),
+    (0, Part::Outcome(2), 0, "none"),
+    (0, Part::Parameter(1, 1), 0, "long"),
+    (0, Part::Parameter(1, 2), 0, "none"),
+    (0, Part::Parameter(0, 0), 0, "none"),
+    (0, Part::Whole, 0, "none"),
+];
 
 #[test]
-fn results_and_parameters_are_reached(rt: HostRuntime) -> Result<(), Fail> {
-    let all = of_interface(rt.alloc())?;
-    assert_eq!(rt; at(&all, 0, Part::Outcome(0), 0), "none");
-    assert_eq!(rt; at(&all, 0, Part::Outcome(1), 0), "short");
-    assert_eq!(rt; at(&all, 0, Part::Outcome(2), 0), "none");
-    assert_eq!(rt; at(&all, 0, Part::Parameter(1, 1), 0), "long");
-    assert_eq!(rt; at(&all, 0, Part::Parameter(1, 2), 0), "none");
-    assert_eq!(rt; at(&all, 0, Part::Parameter(0, 0), 0), "none");
-    assert_eq!(rt; at(&all, 0, Part::Whole, 0), "none");
-    Ok(())
+fn results_and_parameters_are_reached(rt: HostRuntime) {
+    assert!(rt; reaches_in(rt.alloc(), of_interface(&rt, rt.alloc()), IN_INTERFACE));
 }

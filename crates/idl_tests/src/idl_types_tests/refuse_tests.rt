@@ -1,92 +1,127 @@
 //! What a repository doesn't take.
 
 use super::samples::{
-    alone, array, constant, exception, interface, labels, longs, named, nested, of_one, operation,
-    pair, param_x, plain_interface, plains, seq, structure, union, with,
+    alone, answers, array, constant, exception, getter, interface, labels, longs, named, nested,
+    operation, pair, param_x, plain_interface, puts, seq, structure, union,
 };
 use cdr_values::{IdlType, IdlValue};
 use idl_types::*;
-use orb_base::{List, NoMemory};
+use orb_base::List;
 use std::alloc::Global;
-use std::test::Fail;
+use std::process::Abort;
 
 const ID: &[u8] = b"IDL:M/A:1.0";
 
 /// The most leaves of a type.
 const MOST: u32 = 65_536;
 
-/// Whether the empty repository takes a thing.
-fn takes(alloc: Global, declaration: Declaration) -> Result<bool, NoMemory> {
-    Repository::new(alloc).accepts(&declaration)
+/// Whether the empty repository answers this on a thing.
+fn takes(alloc: Global, declaration: Declaration, want: bool) -> bool {
+    answers(&Repository::new(alloc), declaration, want)
 }
 
-/// Whether it takes a type.
-fn takes_type(alloc: Global, kind: IdlType) -> Result<bool, NoMemory> {
-    takes(alloc, named(alloc, ID, kind)?)
+/// Whether it answers this on a type.
+fn takes_type<R: Abort>(rt: &R, alloc: Global, kind: IdlType, want: bool) -> bool {
+    takes(alloc, named(rt, alloc, ID, kind), want)
 }
 
-/// Whether it takes a constant of a type.
-fn takes_constant(alloc: Global, kind: IdlType) -> Result<bool, NoMemory> {
-    takes(alloc, constant(alloc, ID, kind, IdlValue::Number(1))?)
+/// Whether it answers this on a constant of a type.
+fn takes_constant<R: Abort>(rt: &R, alloc: Global, kind: IdlType, want: bool) -> bool {
+    takes(
+        alloc,
+        constant(rt, alloc, ID, kind, IdlValue::Number(1)),
+        want,
+    )
 }
 
-/// Whether it takes an interface of these operations.
-fn takes_operations(alloc: Global, operations: List<Operation>) -> Result<bool, NoMemory> {
-    takes(alloc, interface(alloc, ID, &[], operations)?)
+/// Whether it answers this on an interface of one operation.
+fn takes_operation<R: Abort>(rt: &R, alloc: Global, one: Operation, want: bool) -> bool {
+    let operations = alone(rt, alloc, one);
+    takes(alloc, interface(rt, alloc, ID, &[], operations), want)
 }
 
-/// Whether it takes a type by this id, and whether it does behind a type A in a module M.
-fn takes_id(alloc: Global, id: &[u8]) -> Result<(bool, bool), NoMemory> {
-    let declaration = named(alloc, id, IdlType::Octet)?;
-    let first = Repository::new(alloc).accepts(&declaration)?;
-    let all = of_one(alloc, named(alloc, ID, IdlType::Octet)?)?;
-    Ok((first, all.accepts(&declaration)?))
+/// `typedef octet NAME;`
+fn octet<R: Abort>(rt: &R, alloc: Global, id: &[u8]) -> Declaration {
+    named(rt, alloc, id, IdlType::Octet)
+}
+
+/// Ids, whether the empty repository takes a type by each, and whether one with a type A in a module M does.
+const IDS: &[(&[u8], bool, bool)] = &[
+    (b"IDL:Orb/Ping:1.0", false, false),
+    (b"IDL:oRB/A:1.0", false, false),
+    (b"IDL:ORB:1.0", false, false),
+    (b"IDL:Orbs:1.0", true, true),
+    (b"IDL:M/Orb/A:1.0", true, true),
+    (b"IDL:M/A:1.0", true, false),
+    (b"IDL:M/a:1.0", true, false),
+    (b"idl:m/A:1.0", true, false),
+    (b"IDL:M/B:1.0", true, true),
+];
+
+/// Whether a repository answers this on a type by an id.
+fn takes_id<R: Abort>(rt: &R, alloc: Global, all: &Repository, id: &[u8], want: bool) -> bool {
+    answers(all, octet(rt, alloc, id), want)
+}
+
+fn takes_ids<R: Abort>(rt: &R, alloc: Global, first: &Repository, behind: &Repository) -> bool {
+    for (id, one, other) in IDS {
+        if !takes_id(rt, alloc, first, id, *one) || !takes_id(rt, alloc, behind, id, *other) {
+            return false;
+        }
+    }
+    true
+}
+
+fn takes_ids_behind_a<R: Abort>(rt: &R, alloc: Global) -> bool {
+    let mut all = Repository::new(alloc);
+    puts(&mut all, octet(rt, alloc, ID)) && takes_ids(rt, alloc, &Repository::new(alloc), &all)
 }
 
 #[test]
-fn refuses_ids_in_the_built_in_module_and_known_ones(rt: HostRuntime) -> Result<(), Fail> {
-    let rows: [(&[u8], (bool, bool)); 9] = [
-        (b"IDL:Orb/Ping:1.0", (false, false)),
-        (b"IDL:oRB/A:1.0", (false, false)),
-        (b"IDL:ORB:1.0", (false, false)),
-        (b"IDL:Orbs:1.0", (true, true)),
-        (b"IDL:M/Orb/A:1.0", (true, true)),
-        (b"IDL:M/A:1.0", (true, false)),
-        (b"IDL:M/a:1.0", (true, false)),
-        (b"idl:m/A:1.0", (true, false)),
-        (b"IDL:M/B:1.0", (true, true)),
-    ];
-    for (id, want) in rows {
-        assert_eq!(rt; takes_id(rt.alloc(), id)?, want, "{id:?}");
+fn refuses_ids_in_the_built_in_module_and_known_ones(rt: HostRuntime) {
+    assert!(rt; takes_ids_behind_a(&rt, rt.alloc()));
+}
+
+/// Bases, and whether a repository with a type A and an interface B takes an interface with each.
+const BASES: &[(&[u8], bool)] = &[
+    (b"IDL:M/B:1.0", true),
+    (b"IDL:M/b:1.0", false),
+    (b"IDL:M/A:1.0", false),
+    (b"IDL:M/C:1.0", false),
+    (b"IDL:omg.org/CORBA/Object:1.0", false),
+];
+
+/// Whether a repository answers this on an interface with this base.
+fn takes_base<R: Abort>(rt: &R, alloc: Global, all: &Repository, base: &[u8], want: bool) -> bool {
+    answers(
+        all,
+        plain_interface(rt, alloc, b"IDL:M/C:1.0", &[base], &[]),
+        want,
+    )
+}
+
+fn takes_bases<R: Abort>(rt: &R, alloc: Global, all: &Repository) -> bool {
+    for (base, want) in BASES {
+        if !takes_base(rt, alloc, all, base, *want) {
+            return false;
+        }
     }
-    Ok(())
+    true
 }
 
-/// A type A and an interface B.
-fn a_and_b(alloc: Global) -> Result<Repository, NoMemory> {
-    let all = of_one(alloc, named(alloc, ID, IdlType::Octet)?)?;
-    with(all, plain_interface(alloc, b"IDL:M/B:1.0", &[], &[])?)
-}
-
-/// Whether these take an interface with this base.
-fn takes_base(alloc: Global, base: &[u8]) -> Result<bool, NoMemory> {
-    let declaration = plain_interface(alloc, b"IDL:M/C:1.0", &[base], &[])?;
-    a_and_b(alloc)?.accepts(&declaration)
+fn takes_bases_behind_a_and_b<R: Abort>(rt: &R, alloc: Global) -> bool {
+    let mut all = Repository::new(alloc);
+    puts(&mut all, octet(rt, alloc, ID))
+        && puts(
+            &mut all,
+            plain_interface(rt, alloc, b"IDL:M/B:1.0", &[], &[]),
+        )
+        && takes_bases(rt, alloc, &all)
 }
 
 #[test]
-fn refuses_bases_that_are_no_interface_before(rt: HostRuntime) -> Result<(), Fail> {
-    let rows: [(&[u8], bool); 5] = [
-        (b"IDL:M/B:1.0", true),
-        (b"IDL:M/b:1.0", false),
-        (b"IDL:M/A:1.0", false),
-        (b"IDL:M/C:1.0", false),
-        (b"IDL:omg.org/CORBA/Object:1.0", false),
-    ];
-    for (base, want) in rows {
-        assert_eq!(rt; takes_base(rt.alloc(), base)?, want, "{base:?}");
-    }
-    Ok(())
+fn refuses_bases_that_are_no_interface_before(rt: HostRuntime) {
+    assert!(rt; takes_bases_behind_a_and_b(&rt, rt.alloc()));
 }
 
 /// A type: sequences around an octet, or an array of octets.
@@ -100,120 +135,153 @@ enum Sample {
     Rows(u32),
 }
 
-fn kind_of(alloc: Global, sample: Sample) -> Result<IdlType, NoMemory> {
+fn kind_of<R: Abort>(rt: &R, alloc: Global, sample: Sample) -> IdlType {
     match sample {
-        Sample::Nested(count) => nested(alloc, count),
-        Sample::Octets(len) => array(alloc, IdlType::Octet, len),
-        Sample::Rows(len) => seq(alloc, array(alloc, IdlType::Octet, len)?),
+        Sample::Nested(count) => nested(rt, alloc, count),
+        Sample::Octets(len) => array(rt, alloc, IdlType::Octet, len),
+        Sample::Rows(len) => seq(rt, alloc, array(rt, alloc, IdlType::Octet, len)),
     }
 }
 
-fn takes_sample(alloc: Global, sample: Sample) -> Result<bool, NoMemory> {
-    takes_type(alloc, kind_of(alloc, sample)?)
-}
+/// Types, and whether each is taken. A sequence has one leaf more than its element.
+const SIZES: &[(Sample, bool)] = &[
+    (Sample::Octets(0), false),
+    (Sample::Octets(MOST), true),
+    (Sample::Octets(MOST + 1), false),
+    (Sample::Rows(MOST - 1), true),
+    (Sample::Rows(MOST), false),
+    (Sample::Nested(64), true),
+    (Sample::Nested(65), false),
+];
 
-#[test]
-fn takes_as_many_leaves_and_levels_as_a_type_may_have(rt: HostRuntime) -> Result<(), Fail> {
-    // A sequence has one leaf more than its element.
-    let rows = [
-        (Sample::Octets(0), false),
-        (Sample::Octets(MOST), true),
-        (Sample::Octets(MOST + 1), false),
-        (Sample::Rows(MOST - 1), true),
-        (Sample::Rows(MOST), false),
-        (Sample::Nested(64), true),
-        (Sample::Nested(65), false),
-    ];
-    for (sample, want) in rows {
-        assert_eq!(rt; takes_sample(rt.alloc(), sample)?, want);
+fn takes_sizes<R: Abort>(rt: &R, alloc: Global) -> bool {
+    for (sample, want) in SIZES {
+        if !takes_type(rt, alloc, kind_of(rt, alloc, *sample), *want) {
+            return false;
+        }
     }
-    Ok(())
-}
-
-/// Whether it takes a struct of an octet x and another member.
-fn takes_struct(alloc: Global, name: &[u8], sample: Sample) -> Result<bool, NoMemory> {
-    let kind = kind_of(alloc, sample)?;
-    let members = pair(alloc, name, kind)?;
-    takes_type(alloc, structure(alloc, members)?)
-}
-
-/// Whether it takes such an exception.
-fn takes_exception(alloc: Global, name: &[u8], sample: Sample) -> Result<bool, NoMemory> {
-    let kind = kind_of(alloc, sample)?;
-    let members = pair(alloc, name, kind)?;
-    takes(alloc, exception(alloc, ID, members)?)
+    true
 }
 
 #[test]
-fn members_count_and_are_told_apart(rt: HostRuntime) -> Result<(), Fail> {
-    // A struct is one level above its members, and an exception is none.
-    let rows: [(&[u8], Sample, bool, bool); 7] = [
-        (b"y", Sample::Octets(MOST - 1), true, true),
-        (b"y", Sample::Octets(MOST), false, false),
-        (b"y", Sample::Nested(63), true, true),
-        (b"y", Sample::Nested(64), false, true),
-        (b"y", Sample::Nested(65), false, false),
-        (b"x", Sample::Octets(1), false, false),
-        (b"X", Sample::Octets(1), false, false),
-    ];
-    for (name, sample, one, other) in rows {
-        assert_eq!(rt; takes_struct(rt.alloc(), name, sample)?, one);
-        assert_eq!(rt; takes_exception(rt.alloc(), name, sample)?, other);
+fn takes_as_many_leaves_and_levels_as_a_type_may_have(rt: HostRuntime) {
+    assert!(rt; takes_sizes(&rt, rt.alloc()));
+}
+
+/// The name and the type of a member behind an octet x, and whether a struct and an exception of both are taken. A
+/// struct is one level above its members, and an exception is none.
+const MEMBERS: &[(&[u8], Sample, bool, bool)] = &[
+    (b"y", Sample::Octets(MOST - 1), true, true),
+    (b"y", Sample::Octets(MOST), false, false),
+    (b"y", Sample::Nested(63), true, true),
+    (b"y", Sample::Nested(64), false, true),
+    (b"y", Sample::Nested(65), false, false),
+    (b"x", Sample::Octets(1), false, false),
+    (b"X", Sample::Octets(1), false, false),
+];
+
+fn takes_struct<R: Abort>(rt: &R, alloc: Global, name: &[u8], kind: IdlType, want: bool) -> bool {
+    let members = pair(rt, alloc, name, kind);
+    takes_type(rt, alloc, structure(rt, alloc, members), want)
+}
+
+fn takes_exception<R: Abort>(
+    rt: &R,
+    alloc: Global,
+    name: &[u8],
+    kind: IdlType,
+    want: bool,
+) -> bool {
+    let members = pair(rt, alloc, name, kind);
+    takes(alloc, exception(rt, alloc, ID, members), want)
+}
+
+fn takes_members<R: Abort>(rt: &R, alloc: Global) -> bool {
+    for (name, sample, one, other) in MEMBERS {
+        if !takes_struct(rt, alloc, name, kind_of(rt, alloc, *sample), *one)
+            || !takes_exception(rt, alloc, name, kind_of(rt, alloc, *sample), *other)
+        {
+            return false;
+        }
     }
-    Ok(())
+    true
 }
 
 #[test]
-fn refuses_names_that_differ_in_case_alone(rt: HostRuntime) -> Result<(), Fail> {
-    let alloc = rt.alloc();
-    assert!(rt; takes_type(alloc, union(alloc, b"x", b"y")?)?);
-    assert!(rt; !takes_type(alloc, union(alloc, b"x", b"X")?)?);
-    assert!(rt; takes_type(alloc, labels(alloc, &[b"RED", b"BLUE", b"RE"])?)?);
-    assert!(rt; !takes_type(alloc, labels(alloc, &[b"RED", b"BLUE", b"Red"])?)?);
-    assert!(rt; takes_constant(alloc, IdlType::Octet)?);
-    assert!(rt; !takes_constant(alloc, labels(alloc, &[b"RED", b"red"])?)?);
-    Ok(())
+fn members_count_and_are_told_apart(rt: HostRuntime) {
+    assert!(rt; takes_members(&rt, rt.alloc()));
 }
 
-/// Whether it takes an interface with an operation of these parameters.
-fn takes_longs(alloc: Global, names: &[&[u8]]) -> Result<bool, NoMemory> {
-    let params = longs(alloc, names)?;
-    let one = operation(alloc, b"f", None, params)?;
-    takes_operations(alloc, alone(alloc, one)?)
-}
-
-#[test]
-fn operations_and_parameters_are_told_apart(rt: HostRuntime) -> Result<(), Fail> {
-    let alloc = rt.alloc();
-    assert!(rt; takes_longs(alloc, &[b"x", b"y"])?);
-    assert!(rt; !takes_longs(alloc, &[b"x", b"y", b"x"])?);
-    assert!(rt; !takes_longs(alloc, &[b"x", b"X"])?);
-    assert!(rt; !takes_operations(alloc, plains(alloc, &[b"f", b"g", b"f"])?)?);
-    // Two that are inherited may differ in case alone.
-    assert!(rt; takes_operations(alloc, plains(alloc, &[b"f", b"g", b"F"])?)?);
-    Ok(())
-}
-
-/// Whether it takes an interface with an operation of this result.
-fn takes_result(alloc: Global, count: u32) -> Result<bool, NoMemory> {
-    let kind = nested(alloc, count)?;
-    let one = operation(alloc, b"f", Some(kind), List::new(alloc))?;
-    takes_operations(alloc, alone(alloc, one)?)
-}
-
-/// Whether it takes an interface with an operation of this parameter.
-fn takes_param(alloc: Global, count: u32) -> Result<bool, NoMemory> {
-    let params = param_x(alloc, nested(alloc, count)?)?;
-    let one = operation(alloc, b"f", None, params)?;
-    takes_operations(alloc, alone(alloc, one)?)
+/// Whether a union's members and an enum's labels are taken by their names.
+fn tells_names_apart<R: Abort>(rt: &R, alloc: Global) -> bool {
+    takes_type(rt, alloc, union(rt, alloc, b"x", b"y"), true)
+        && takes_type(rt, alloc, union(rt, alloc, b"x", b"X"), false)
+        && takes_type(
+            rt,
+            alloc,
+            labels(rt, alloc, &[b"RED", b"BLUE", b"RE"]),
+            true,
+        )
+        && takes_type(
+            rt,
+            alloc,
+            labels(rt, alloc, &[b"RED", b"BLUE", b"Red"]),
+            false,
+        )
+        && takes_constant(rt, alloc, IdlType::Octet, true)
+        && takes_constant(rt, alloc, labels(rt, alloc, &[b"RED", b"red"]), false)
 }
 
 #[test]
-fn refuses_results_and_parameters_that_are_too_deep(rt: HostRuntime) -> Result<(), Fail> {
-    let alloc = rt.alloc();
-    assert!(rt; takes_result(alloc, 64)?);
-    assert!(rt; !takes_result(alloc, 65)?);
-    assert!(rt; takes_param(alloc, 64)?);
-    assert!(rt; !takes_param(alloc, 65)?);
-    Ok(())
+fn refuses_names_that_differ_in_case_alone(rt: HostRuntime) {
+    assert!(rt; tells_names_apart(&rt, rt.alloc()));
+}
+
+/// Whether an interface is taken that has an operation with parameters of these names.
+fn takes_longs<R: Abort>(rt: &R, alloc: Global, names: &[&[u8]], want: bool) -> bool {
+    let params = longs(rt, alloc, names);
+    takes_operation(rt, alloc, operation(rt, alloc, b"f", None, params), want)
+}
+
+/// Whether an interface is taken that has operations of these names.
+fn takes_plains<R: Abort>(rt: &R, alloc: Global, names: &[&[u8]], want: bool) -> bool {
+    takes(alloc, plain_interface(rt, alloc, ID, &[], names), want)
+}
+
+fn tells_operations_apart<R: Abort>(rt: &R, alloc: Global) -> bool {
+    takes_longs(rt, alloc, &[b"x", b"y"], true)
+        && takes_longs(rt, alloc, &[b"x", b"y", b"x"], false)
+        && takes_longs(rt, alloc, &[b"x", b"X"], false)
+        && takes_plains(rt, alloc, &[b"f", b"g", b"f"], false)
+        // Two that are inherited may differ in case alone.
+        && takes_plains(rt, alloc, &[b"f", b"g", b"F"], true)
+}
+
+#[test]
+fn operations_and_parameters_are_told_apart(rt: HostRuntime) {
+    assert!(rt; tells_operations_apart(&rt, rt.alloc()));
+}
+
+/// Whether an interface is taken that has an operation of this result.
+fn takes_result<R: Abort>(rt: &R, alloc: Global, count: u32, want: bool) -> bool {
+    let kind = nested(rt, alloc, count);
+    takes_operation(rt, alloc, getter(rt, alloc, b"f", kind), want)
+}
+
+/// Whether an interface is taken that has an operation of this parameter.
+fn takes_param<R: Abort>(rt: &R, alloc: Global, count: u32, want: bool) -> bool {
+    let params = param_x(rt, alloc, nested(rt, alloc, count));
+    takes_operation(rt, alloc, operation(rt, alloc, b"f", None, params), want)
+}
+
+fn takes_depths<R: Abort>(rt: &R, alloc: Global) -> bool {
+    takes_result(rt, alloc, 64, true)
+        && takes_result(rt, alloc, 65, false)
+        && takes_param(rt, alloc, 64, true)
+        && takes_param(rt, alloc, 65, false)
+}
+
+#[test]
+fn refuses_results_and_parameters_that_are_too_deep(rt: HostRuntime) {
+    assert!(rt; takes_depths(&rt, rt.alloc()));
 }

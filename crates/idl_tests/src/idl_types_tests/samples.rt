@@ -6,229 +6,257 @@ ghost use Rattle.idl_types.specs.Declaring.{may_declare};
 
 use cdr_values::{Case, IdlType, IdlValue, Member};
 use idl_types::*;
-use orb_base::{List, NoMemory, Text};
+use orb_base::{List, Text};
 use std::alloc::Global;
+use std::process::Abort;
 
-pub(crate) fn text(alloc: Global, bytes: &[u8]) -> Result<Text, NoMemory> {
+pub(crate) fn text<R: Abort>(rt: &R, alloc: Global, bytes: &[u8]) -> Text {
     match Text::new(alloc, bytes) {
-        Ok(text) => Ok(text),
-        Err(_) => Err(NoMemory),
+        Ok(text) => text,
+        Err(_) => rt.panic("a text"),
     }
 }
 
-fn texts(alloc: Global, names: &[&[u8]]) -> Result<List<Text>, NoMemory> {
+/// A type in a box.
+fn boxed<R: Abort>(rt: &R, alloc: Global, kind: IdlType) -> Box<IdlType> {
+    match Box::new(alloc, kind) {
+        Ok(kind) => kind,
+        Err(_) => rt.panic("memory"),
+    }
+}
+
+/// Puts one thing more behind others.
+pub(crate) fn push<R: Abort, T: Drop>(rt: &R, list: &mut Vec<T>, item: T) {
+    match list.push(item) {
+        Ok(()) => {}
+        Err(_) => rt.panic("memory"),
+    }
+}
+
+fn texts<R: Abort>(rt: &R, alloc: Global, names: &[&[u8]]) -> List<Text> {
     let mut list = Vec::new(alloc);
     for name in names {
-        list.push(text(alloc, name)?)?;
+        push(rt, &mut list, text(rt, alloc, name));
     }
-    Ok(List::from_vec(list))
+    List::from_vec(list)
 }
 
 /// An unbounded sequence.
-pub(crate) fn seq(alloc: Global, element: IdlType) -> Result<IdlType, NoMemory> {
-    Ok(IdlType::Seq(Box::new(alloc, element)?, 0))
+pub(crate) fn seq<R: Abort>(rt: &R, alloc: Global, element: IdlType) -> IdlType {
+    IdlType::Seq(boxed(rt, alloc, element), 0)
 }
 
-pub(crate) fn array(alloc: Global, element: IdlType, len: u32) -> Result<IdlType, NoMemory> {
-    Ok(IdlType::Array(Box::new(alloc, element)?, len))
+pub(crate) fn array<R: Abort>(rt: &R, alloc: Global, element: IdlType, len: u32) -> IdlType {
+    IdlType::Array(boxed(rt, alloc, element), len)
 }
 
 /// So many sequences around an octet: as many levels, and one leaf more.
-pub(crate) fn nested(alloc: Global, count: u32) -> Result<IdlType, NoMemory> {
+pub(crate) fn nested<R: Abort>(rt: &R, alloc: Global, count: u32) -> IdlType {
     let mut kind = IdlType::Octet;
     for _ in 0..count {
-        kind = seq(alloc, kind)?;
+        kind = seq(rt, alloc, kind);
     }
-    Ok(kind)
+    kind
 }
 
-pub(crate) fn member(alloc: Global, name: &[u8], kind: IdlType) -> Result<Member, NoMemory> {
-    let name = text(alloc, name)?;
-    Ok(Member { name, kind })
+fn member<R: Abort>(rt: &R, alloc: Global, name: &[u8], kind: IdlType) -> Member {
+    Member {
+        name: text(rt, alloc, name),
+        kind,
+    }
 }
 
 /// Members `octet x; TYPE NAME;`
-pub(crate) fn pair(alloc: Global, name: &[u8], kind: IdlType) -> Result<Vec<Member>, NoMemory> {
-    let second = member(alloc, name, kind)?;
+pub(crate) fn pair<R: Abort>(rt: &R, alloc: Global, name: &[u8], kind: IdlType) -> Vec<Member> {
     let mut members = Vec::new(alloc);
-    members.push(member(alloc, b"x", IdlType::Octet)?)?;
-    members.push(second)?;
-    Ok(members)
+    push(rt, &mut members, member(rt, alloc, b"x", IdlType::Octet));
+    push(rt, &mut members, member(rt, alloc, name, kind));
+    members
 }
 
-pub(crate) fn structure(alloc: Global, members: Vec<Member>) -> Result<IdlType, NoMemory> {
-    let name = text(alloc, b"S")?;
-    Ok(IdlType::Struct(name, members))
+pub(crate) fn structure<R: Abort>(rt: &R, alloc: Global, members: Vec<Member>) -> IdlType {
+    IdlType::Struct(text(rt, alloc, b"S"), members)
 }
 
 /// `enum E { LABEL, .. };`
-pub(crate) fn labels(alloc: Global, names: &[&[u8]]) -> Result<IdlType, NoMemory> {
-    let labels = texts(alloc, names)?;
-    let name = text(alloc, b"E")?;
-    Ok(IdlType::Enum(name, labels))
+pub(crate) fn labels<R: Abort>(rt: &R, alloc: Global, names: &[&[u8]]) -> IdlType {
+    IdlType::Enum(text(rt, alloc, b"E"), texts(rt, alloc, names))
+}
+
+/// One label.
+fn numbers<R: Abort>(rt: &R, alloc: Global, label: i128) -> List<i128> {
+    let mut labels = Vec::new(alloc);
+    push(rt, &mut labels, label);
+    List::from_vec(labels)
 }
 
 /// `case LABEL: octet NAME;`
-fn case(alloc: Global, label: i128, name: &[u8]) -> Result<Case, NoMemory> {
-    let member = member(alloc, name, IdlType::Octet)?;
-    let labels = List::from_vec(Vec::from_slice(alloc, &[label])?);
-    Ok(Case {
-        labels,
+fn case<R: Abort>(rt: &R, alloc: Global, label: i128, name: &[u8]) -> Case {
+    Case {
+        labels: numbers(rt, alloc, label),
         is_default: false,
-        member,
-    })
+        member: member(rt, alloc, name, IdlType::Octet),
+    }
 }
 
-fn cases(alloc: Global, first: &[u8], second: &[u8]) -> Result<Vec<Case>, NoMemory> {
+fn cases<R: Abort>(rt: &R, alloc: Global, first: &[u8], second: &[u8]) -> Vec<Case> {
     let mut cases = Vec::new(alloc);
-    cases.push(case(alloc, 1, first)?)?;
-    cases.push(case(alloc, 2, second)?)?;
-    Ok(cases)
+    push(rt, &mut cases, case(rt, alloc, 1, first));
+    push(rt, &mut cases, case(rt, alloc, 2, second));
+    cases
 }
 
 /// `union U switch (short) { case 1: octet FIRST; case 2: octet SECOND; };`
-pub(crate) fn union(alloc: Global, first: &[u8], second: &[u8]) -> Result<IdlType, NoMemory> {
-    let cases = cases(alloc, first, second)?;
-    let name = text(alloc, b"U")?;
-    let tag = Box::new(alloc, IdlType::Short)?;
-    Ok(IdlType::Union(name, tag, cases))
+pub(crate) fn union<R: Abort>(rt: &R, alloc: Global, first: &[u8], second: &[u8]) -> IdlType {
+    let tag = boxed(rt, alloc, IdlType::Short);
+    IdlType::Union(text(rt, alloc, b"U"), tag, cases(rt, alloc, first, second))
 }
 
 /// `in TYPE NAME`
-fn param(alloc: Global, name: &[u8], kind: IdlType) -> Result<Param, NoMemory> {
-    let name = text(alloc, name)?;
-    Ok(Param {
+fn param<R: Abort>(rt: &R, alloc: Global, name: &[u8], kind: IdlType) -> Param {
+    Param {
         way: Way::Input,
-        name,
+        name: text(rt, alloc, name),
         kind,
-    })
+    }
 }
 
 /// Parameters of type long.
-pub(crate) fn longs(alloc: Global, names: &[&[u8]]) -> Result<List<Param>, NoMemory> {
+pub(crate) fn longs<R: Abort>(rt: &R, alloc: Global, names: &[&[u8]]) -> List<Param> {
     let mut list = Vec::new(alloc);
     for name in names {
-        list.push(param(alloc, name, IdlType::Long)?)?;
+        push(rt, &mut list, param(rt, alloc, name, IdlType::Long));
     }
-    Ok(List::from_vec(list))
+    List::from_vec(list)
 }
 
 /// One parameter.
-pub(crate) fn param_x(alloc: Global, kind: IdlType) -> Result<List<Param>, NoMemory> {
+pub(crate) fn param_x<R: Abort>(rt: &R, alloc: Global, kind: IdlType) -> List<Param> {
     let mut list = Vec::new(alloc);
-    list.push(param(alloc, b"x", kind)?)?;
-    Ok(List::from_vec(list))
+    push(rt, &mut list, param(rt, alloc, b"x", kind));
+    List::from_vec(list)
 }
 
-pub(crate) fn operation(
+pub(crate) fn operation<R: Abort>(
+    rt: &R,
     alloc: Global,
     name: &[u8],
     outcome: Option<IdlType>,
     params: List<Param>,
-) -> Result<Operation, NoMemory> {
-    let name = text(alloc, name)?;
-    Ok(Operation {
-        name,
+) -> Operation {
+    Operation {
+        name: text(rt, alloc, name),
         oneway: false,
         result: outcome,
         params,
         raises: List::new(alloc),
-    })
+    }
 }
 
-/// `octet NAME();`
-fn plain(alloc: Global, name: &[u8]) -> Result<Operation, NoMemory> {
-    operation(alloc, name, Some(IdlType::Octet), List::new(alloc))
+/// `TYPE NAME();`
+pub(crate) fn getter<R: Abort>(rt: &R, alloc: Global, name: &[u8], kind: IdlType) -> Operation {
+    operation(rt, alloc, name, Some(kind), List::new(alloc))
 }
 
 /// Operations `octet NAME();`
-pub(crate) fn plains(alloc: Global, names: &[&[u8]]) -> Result<List<Operation>, NoMemory> {
+fn plains<R: Abort>(rt: &R, alloc: Global, names: &[&[u8]]) -> List<Operation> {
     let mut list = Vec::new(alloc);
     for name in names {
-        list.push(plain(alloc, name)?)?;
+        push(rt, &mut list, getter(rt, alloc, name, IdlType::Octet));
     }
-    Ok(List::from_vec(list))
+    List::from_vec(list)
 }
 
 /// One operation.
-pub(crate) fn alone(alloc: Global, operation: Operation) -> Result<List<Operation>, NoMemory> {
+pub(crate) fn alone<R: Abort>(rt: &R, alloc: Global, operation: Operation) -> List<Operation> {
     let mut list = Vec::new(alloc);
-    list.push(operation)?;
-    Ok(List::from_vec(list))
+    push(rt, &mut list, operation);
+    List::from_vec(list)
 }
 
-pub(crate) fn interface(
+pub(crate) fn interface<R: Abort>(
+    rt: &R,
     alloc: Global,
     id: &[u8],
     bases: &[&[u8]],
     operations: List<Operation>,
-) -> Result<Declaration, NoMemory> {
-    let bases = texts(alloc, bases)?;
-    let id = text(alloc, id)?;
-    Ok(Declaration::Interface(Interface {
-        id,
-        bases,
+) -> Declaration {
+    Declaration::Interface(Interface {
+        id: text(rt, alloc, id),
+        bases: texts(rt, alloc, bases),
         operations,
-    }))
+    })
 }
 
 /// An interface of operations `octet NAME();`
-pub(crate) fn plain_interface(
+pub(crate) fn plain_interface<R: Abort>(
+    rt: &R,
     alloc: Global,
     id: &[u8],
     bases: &[&[u8]],
     names: &[&[u8]],
-) -> Result<Declaration, NoMemory> {
-    let operations = plains(alloc, names)?;
-    interface(alloc, id, bases, operations)
+) -> Declaration {
+    interface(rt, alloc, id, bases, plains(rt, alloc, names))
 }
 
-pub(crate) fn named(alloc: Global, id: &[u8], kind: IdlType) -> Result<Declaration, NoMemory> {
-    let id = text(alloc, id)?;
-    Ok(Declaration::Named(NamedType { id, kind }))
+pub(crate) fn named<R: Abort>(rt: &R, alloc: Global, id: &[u8], kind: IdlType) -> Declaration {
+    Declaration::Named(NamedType {
+        id: text(rt, alloc, id),
+        kind,
+    })
 }
 
-pub(crate) fn constant(
+pub(crate) fn constant<R: Abort>(
+    rt: &R,
     alloc: Global,
     id: &[u8],
     kind: IdlType,
     value: IdlValue,
-) -> Result<Declaration, NoMemory> {
-    let id = text(alloc, id)?;
-    Ok(Declaration::Constant(Constant { id, kind, value }))
+) -> Declaration {
+    Declaration::Constant(Constant {
+        id: text(rt, alloc, id),
+        kind,
+        value,
+    })
 }
 
-pub(crate) fn exception(
+pub(crate) fn exception<R: Abort>(
+    rt: &R,
     alloc: Global,
     id: &[u8],
     members: Vec<Member>,
-) -> Result<Declaration, NoMemory> {
-    let id = text(alloc, id)?;
-    let members = List::from_vec(members);
-    Ok(Declaration::Exception(Exception { id, members }))
+) -> Declaration {
+    Declaration::Exception(Exception {
+        id: text(rt, alloc, id),
+        members: List::from_vec(members),
+    })
 }
 
-/// The repository with one thing more, or as it was where it doesn't take it.
-pub(crate) fn with(all: Repository, declaration: Declaration) -> Result<Repository, NoMemory> {
-    if !all.accepts(&declaration)? {
-        return Ok(all);
+fn accepts(all: &Repository, declaration: &Declaration, want: bool) -> bool {
+    match all.accepts(declaration) {
+        Ok(taken) => taken == want,
+        Err(_) => false,
     }
-    and_declared(all, declaration)
 }
 
-fn and_declared(all: Repository, declaration: Declaration) -> Result<Repository, NoMemory>
-    requires { IsTrue (may_declare (things_of all) (thing_of declaration)) }
+/// Whether a repository answers this, when it is asked whether it takes a thing.
+pub(crate) fn answers(all: &Repository, declaration: Declaration, want: bool) -> bool {
+    accepts(all, &declaration, want)
+}
+
+/// Whether a repository takes a thing, and has it then.
+pub(crate) fn puts(all: &mut Repository, declaration: Declaration) -> bool {
+    match all.accepts(&declaration) {
+        Ok(true) => has_declared(all, declaration),
+        _ => false,
+    }
+}
+
+fn has_declared(all: &mut Repository, declaration: Declaration) -> bool
+    requires { IsTrue (may_declare (things_of all.old) (thing_of declaration)) }
 {
-    let mut all = all;
-    all.declare(declaration)?;
-    Ok(all)
+    all.declare(declaration).is_ok()
 }
-
-/// The repository of one thing, or of none where it isn't taken.
-pub(crate) fn of_one(alloc: Global, declaration: Declaration) -> Result<Repository, NoMemory> {
-    with(Repository::new(alloc), declaration)
-}
-
 /// IDL's word for a type.
 pub(crate) fn word(kind: &IdlType) -> &'static str {
     match kind {
