@@ -3,6 +3,7 @@ ghost use Rattle.std.specs.Prelude.{◌≡◌};
 
 use grammar::{Builder, MAX_OPEN, ReadError, read_whole};
 use idl_tokens::{Dialect, Kind, Token, tokens_of};
+use orb_base::NoMemory;
 use script_grammar::*;
 use std::alloc::Global;
 use std::test::*;
@@ -52,10 +53,10 @@ impl Builder for Outline {
 }
 
 /// None where a text is of the grammar, and else its first token at fault.
-fn fault_of(alloc: Global, text: &str) -> Result<Option<ScriptFault>, Fail> {
+fn fault_of(alloc: Global, text: &str) -> Result<Option<ScriptFault>, NoMemory> {
     let bytes = text.as_bytes();
     if bytes.len() > 2000 {
-        return Err(Fail::from("a long text"));
+        return Err(NoMemory);
     }
     let found = tokens_of(alloc, Dialect::Script, bytes)?;
     let mut outline = Outline;
@@ -63,39 +64,57 @@ fn fault_of(alloc: Global, text: &str) -> Result<Option<ScriptFault>, Fail> {
     match read_whole(file_rule(), &mut tokens, &mut outline, Kind::End, MAX_OPEN) {
         Ok(()) => Ok(None),
         Err(ReadError::Refused(fault)) => Ok(Some(fault)),
-        Err(ReadError::NoMemory) => Err(Fail::from("memory")),
+        Err(ReadError::NoMemory) => Err(NoMemory),
     }
 }
 
-#[test]
-fn each_rule_has_its_texts(rt: HostRuntime) -> Result<(), Fail> {
-    let texts: [&str; 6] = [
-        "",
-        "servant A {} servant ::M::V { op f() {} op _get_a(x, y) {} }",
-        "servant A { op f(a) { let b = -a + !a * len(a) - priority(); set a = (b); } }",
-        "servant A { op f(a) { if a == 1 || a != 2 && TRUE { return; } else { return a.b[1]; } } }",
-        "servant A { op f(a) { raise E {}; raise ::M::E { x = [], y = [1, \"t\"] }; } }",
-        "servant A { op f(a) { return new M::S { x = FALSE, y = a / 2 % 3 < 4 }; } }",
-    ];
-    for text in texts {
-        assert_eq!(rt; fault_of(rt.alloc(), text)?, None);
+const TEXTS: &[&str] = &[
+    "",
+    "servant A {} servant ::M::V { op f() {} op _get_a(x, y) {} }",
+    "servant A { op f(a) { let b = -a + !a * len(a) - priority(); set a = (b); } }",
+    "servant A { op f(a) { if a == 1 || a != 2 && TRUE { return; } else { return a.b[1]; } } }",
+    "servant A { op f(a) { raise E {}; raise ::M::E { x = [], y = [1, \"t\"] }; } }",
+    "servant A { op f(a) { return new M::S { x = FALSE, y = a / 2 % 3 < 4 }; } }",
+];
+
+fn all_are_taken(alloc: Global) -> bool {
+    for text in TEXTS {
+        if fault_of(alloc, text) != Ok(None) {
+            return false;
+        }
     }
-    Ok(())
+    true
 }
 
 #[test]
-fn a_text_is_refused_at_its_first_token_at_fault(rt: HostRuntime) -> Result<(), Fail> {
-    let rows: [(&str, u32, u32); 6] = [
-        ("servant { }", 1, 9),
-        ("servant A { op f(a,) {} }", 1, 20),
-        ("servant A {\n op f() { return 1 < 2 < 3; } }", 2, 24),
-        ("servant A { op f() { return - -1; } }", 1, 31),
-        ("servant A { op f() { return new S {}; } }", 1, 36),
-        ("servant A { op f() {} ", 1, 23),
-    ];
-    for (text, line, column) in rows {
-        let wanted = Some(ScriptFault { line, column });
-        assert_eq!(rt; fault_of(rt.alloc(), text)?, wanted);
+fn each_rule_has_its_texts(rt: HostRuntime) {
+    assert!(rt; all_are_taken(rt.alloc()));
+}
+
+/// Texts, with the line and the column of their first token at fault.
+const REFUSED: &[(&str, u32, u32)] = &[
+    ("servant { }", 1, 9),
+    ("servant A { op f(a,) {} }", 1, 20),
+    ("servant A {\n op f() { return 1 < 2 < 3; } }", 2, 24),
+    ("servant A { op f() { return - -1; } }", 1, 31),
+    ("servant A { op f() { return new S {}; } }", 1, 36),
+    ("servant A { op f() {} ", 1, 23),
+];
+
+fn is_refused(alloc: Global, text: &str, line: u32, column: u32) -> bool {
+    fault_of(alloc, text) == Ok(Some(ScriptFault { line, column }))
+}
+
+fn all_are_refused(alloc: Global) -> bool {
+    for (text, line, column) in REFUSED {
+        if !is_refused(alloc, text, *line, *column) {
+            return false;
+        }
     }
-    Ok(())
+    true
+}
+
+#[test]
+fn a_text_is_refused_at_its_first_token_at_fault(rt: HostRuntime) {
+    assert!(rt; all_are_refused(rt.alloc()));
 }

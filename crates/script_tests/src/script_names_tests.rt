@@ -1,212 +1,173 @@
 //! Names of a small repository, which is put together by hand.
 
-use cdr_values::{IdlType, IdlValue, Member};
-use idl_types::{Constant, Declaration, Interface, NamedType, Operation, Repository};
-use orb_base::{List, Text};
+use idl_types::Repository;
+use orb_base::NoMemory;
 use script_names::*;
 use servant_scripts::{At, Name, Part, ScopedName};
 use std::alloc::Global;
 use std::test::*;
+use things::{Deed, Kind, Plain, Thing, boxed, put_made, with_ping};
 
-fn text(alloc: Global, text: &str) -> Result<Text, Fail> {
-    match Text::new(alloc, text.as_bytes()) {
-        Ok(text) => Ok(text),
-        Err(_) => Err(Fail::from("text")),
-    }
-}
+pub mod things;
 
-fn texts(alloc: Global, first: &str, second: &str) -> Result<List<Text>, Fail> {
-    let mut texts = Vec::new(alloc);
-    if !first.is_empty() {
-        texts.push(text(alloc, first)?)?;
-    }
-    if !second.is_empty() {
-        texts.push(text(alloc, second)?)?;
-    }
-    Ok(List::from_vec(texts))
-}
+const COLOR: Kind = Kind::Enum("IDL:M/Color:1.0", &["RED", "GREEN"]);
 
-fn put(repository: &mut Repository, declaration: Declaration) -> Result<(), Fail> {
-    if repository.accepts(&declaration)? {
-        repository.declare(declaration)?;
-        Ok(())
-    } else {
-        Err(Fail::from("not accepted"))
-    }
-}
+const PAIR: Kind = Kind::Struct("IDL:M/Pair:1.0", &[("a", Plain::Long)]);
 
-fn put_constant(repository: &mut Repository, alloc: Global, id: &str) -> Result<(), Fail> {
-    let constant = Constant {
-        id: text(alloc, id)?,
-        kind: IdlType::Long,
-        value: IdlValue::Number(5),
-    };
-    put(repository, Declaration::Constant(constant))
-}
-
-fn color(alloc: Global) -> Result<IdlType, Fail> {
-    Ok(IdlType::Enum(
-        text(alloc, "IDL:M/Color:1.0")?,
-        texts(alloc, "RED", "GREEN")?,
-    ))
-}
-
-fn pair(alloc: Global) -> Result<IdlType, Fail> {
-    let mut members = Vec::new(alloc);
-    members.push(Member {
-        name: text(alloc, "a")?,
-        kind: IdlType::Long,
-    })?;
-    Ok(IdlType::Struct(text(alloc, "IDL:M/Pair:1.0")?, members))
-}
-
-fn put_type(
-    repository: &mut Repository,
-    alloc: Global,
-    id: &str,
-    kind: IdlType,
-) -> Result<(), Fail> {
-    let named = NamedType {
-        id: text(alloc, id)?,
-        kind,
-    };
-    put(repository, Declaration::Named(named))
-}
-
-fn operation(alloc: Global, name: &str) -> Result<Operation, Fail> {
-    Ok(Operation {
-        name: text(alloc, name)?,
-        oneway: false,
-        result: Some(IdlType::Long),
-        params: List::new(alloc),
-        raises: List::new(alloc),
-    })
-}
-
-fn put_interface(
-    repository: &mut Repository,
-    alloc: Global,
-    id: &str,
-    base: &str,
-) -> Result<(), Fail> {
-    let mut operations = Vec::new(alloc);
-    operations.push(operation(alloc, "op")?)?;
-    operations.push(operation(alloc, "_get_size")?)?;
-    let interface = Interface {
-        id: text(alloc, id)?,
-        bases: texts(alloc, base, "")?,
-        operations: List::from_vec(operations),
-    };
-    put(repository, Declaration::Interface(interface))
-}
+const DEEDS: &[Deed] = &[
+    ("op", Some(Kind::Plain(Plain::Long)), &[], &[]),
+    ("_get_size", Some(Kind::Plain(Plain::Long)), &[], &[]),
+];
 
 /// module M { enum Color { RED, GREEN }; const long LIMIT = 5; struct Pair { long a; };
 /// interface Base { const long LIMIT = 5; long op(); readonly attribute long size; };
-/// interface Derived : Base { typedef Color Hue; }; }; const long RED = 5; and the built-in module.
-fn some_names(alloc: Global) -> Result<Names, Fail> {
-    let mut all = Repository::new(alloc);
-    put_type(&mut all, alloc, "IDL:M/Color:1.0", color(alloc)?)?;
-    put_constant(&mut all, alloc, "IDL:M/LIMIT:1.0")?;
-    put_type(&mut all, alloc, "IDL:M/Pair:1.0", pair(alloc)?)?;
-    put_interface(&mut all, alloc, "IDL:M/Base:1.0", "")?;
-    put_constant(&mut all, alloc, "IDL:M/Base/LIMIT:1.0")?;
-    put_interface(&mut all, alloc, "IDL:M/Derived:1.0", "IDL:M/Base:1.0")?;
-    put_type(&mut all, alloc, "IDL:M/Derived/Hue:1.0", color(alloc)?)?;
-    put_constant(&mut all, alloc, "IDL:RED:1.0")?;
-    let repository = all.with_ping()?;
-    Ok(Names::new(alloc, &repository)?)
-}
+/// interface Derived : Base { typedef Color Hue; }; }; const long RED = 5;
+const THINGS: &[Thing] = &[
+    Thing::Named("IDL:M/Color:1.0", COLOR),
+    Thing::Constant("IDL:M/LIMIT:1.0", 5),
+    Thing::Named("IDL:M/Pair:1.0", PAIR),
+    Thing::Interface("IDL:M/Base:1.0", &[], DEEDS),
+    Thing::Constant("IDL:M/Base/LIMIT:1.0", 5),
+    Thing::Interface("IDL:M/Derived:1.0", &["IDL:M/Base:1.0"], DEEDS),
+    Thing::Named("IDL:M/Derived/Hue:1.0", COLOR),
+    Thing::Constant("IDL:RED:1.0", 5),
+];
 
-fn add(alloc: Global, parts: &mut Vec<Part>, name: &str, column: u32) -> Result<(), Fail> {
-    if name.is_empty() {
-        return Ok(());
-    }
-    parts.push(Part {
-        at: At { line: 1, column },
-        name: Name::new(alloc, name.as_bytes())?,
-    })?;
-    Ok(())
-}
-
-/// What a name of up to three parts means; 1,000 and the number of the part that is unknown stand for no meaning.
-fn found(
-    names: &Names,
-    alloc: Global,
-    from: &str,
-    rooted: bool,
-    parts: (&str, &str, &str),
-) -> Result<Meaning, Fail> {
-    let (first, second, third) = parts;
-    let mut list = Vec::new(alloc);
-    add(alloc, &mut list, first, 1)?;
-    add(alloc, &mut list, second, 2)?;
-    add(alloc, &mut list, third, 3)?;
-    let name = ScopedName {
-        at: At { line: 1, column: 0 },
-        rooted,
-        parts: list,
-    };
-    match names.find(from.as_bytes(), &name) {
-        Ok(meaning) => Ok(meaning),
-        Err(FindError::Unknown(at)) => Ok(Meaning::Enumerator(1_000, at.column as usize)),
-        Err(FindError::NoMemory) => Err(Fail::from("memory")),
+fn names_of(alloc: Global, repository: &Repository) -> Result<Box<Names>, NoMemory> {
+    match Names::new(alloc, repository) {
+        Ok(names) => boxed(alloc, names),
+        Err(_) => Err(NoMemory),
     }
 }
+
+/// The names of these things and of the built-in module.
+fn some_names(alloc: Global) -> Result<Box<Names>, NoMemory> {
+    match with_ping(alloc, THINGS) {
+        Ok(repository) => names_of(alloc, &repository),
+        Err(_) => Err(NoMemory),
+    }
+}
+
+fn part(alloc: Global, name: &str, column: u32) -> Result<Part, NoMemory> {
+    match Name::new(alloc, name.as_bytes()) {
+        Ok(name) => Ok(Part {
+            at: At { line: 1, column },
+            name,
+        }),
+        Err(_) => Err(NoMemory),
+    }
+}
+
+/// Parts, whose columns count from 1.
+fn parts(alloc: Global, names: &[&str]) -> Result<Vec<Part>, NoMemory> {
+    let mut all = Vec::new(alloc);
+    let mut column: u32 = 0;
+    for name in names {
+        column = column.saturating_add(1);
+        if !put_made(&mut all, part(alloc, name, column)) {
+            return Err(NoMemory);
+        }
+    }
+    Ok(all)
+}
+
+/// A look-up: the interface that it begins in, whether the name is rooted, its parts, and what it means. 1,000 and the
+/// number of the part that is unknown stand for no meaning.
+type Row = (&'static str, bool, &'static [&'static str], Meaning);
+
+/// What a name means, in the same way.
+fn found(names: &Names, from: &str, name: &ScopedName) -> Option<Meaning> {
+    match names.find(from.as_bytes(), name) {
+        Ok(meaning) => Some(meaning),
+        Err(FindError::Unknown(at)) => Some(Meaning::Enumerator(1_000, at.column as usize)),
+        Err(FindError::NoMemory) => None,
+    }
+}
+
+fn means(alloc: Global, names: &Names, row: &Row) -> bool {
+    let (from, rooted, list, want) = row;
+    match parts(alloc, list) {
+        Ok(parts) => {
+            let name = ScopedName {
+                at: At { line: 1, column: 0 },
+                rooted: *rooted,
+                parts,
+            };
+            found(names, from, &name) == Some(*want)
+        }
+        Err(_) => false,
+    }
+}
+
+fn means_each(alloc: Global, names: &Names, rows: &[Row]) -> bool {
+    for row in rows {
+        if !means(alloc, names, row) {
+            return false;
+        }
+    }
+    true
+}
+
+fn all_mean(alloc: Global, rows: &[Row]) -> bool {
+    match some_names(alloc) {
+        Ok(names) => means_each(alloc, &names, rows),
+        Err(_) => false,
+    }
+}
+
+const DERIVED: &str = "IDL:M/Derived:1.0";
+
+const SINGLE: &[Row] = &[
+    (DERIVED, false, &["LIMIT"], Meaning::Thing(4)),
+    (DERIVED, false, &["RED"], Meaning::Enumerator(0, 0)),
+    (DERIVED, false, &["GREEN"], Meaning::Enumerator(0, 1)),
+    (DERIVED, false, &["Color"], Meaning::Thing(0)),
+    (DERIVED, false, &["Hue"], Meaning::Thing(6)),
+    (DERIVED, false, &["Base"], Meaning::Thing(3)),
+    (DERIVED, false, &["op"], Meaning::Other),
+    (DERIVED, false, &["size"], Meaning::Other),
+    (DERIVED, false, &["M"], Meaning::Other),
+    (DERIVED, false, &["limit"], Meaning::Enumerator(1_000, 1)),
+    (DERIVED, false, &["a"], Meaning::Enumerator(1_000, 1)),
+    ("", false, &["RED"], Meaning::Thing(7)),
+    ("", false, &["LIMIT"], Meaning::Enumerator(1_000, 1)),
+];
 
 #[test]
-fn a_name_is_looked_up_in_its_interface_then_in_bases_then_outwards(
-    rt: HostRuntime,
-) -> Result<(), Fail> {
-    let alloc = rt.alloc();
-    let names = some_names(alloc)?;
-    let derived = "IDL:M/Derived:1.0";
-    let rows: [(&str, Meaning); 11] = [
-        ("LIMIT", Meaning::Thing(4)),
-        ("RED", Meaning::Enumerator(0, 0)),
-        ("GREEN", Meaning::Enumerator(0, 1)),
-        ("Color", Meaning::Thing(0)),
-        ("Hue", Meaning::Thing(6)),
-        ("Base", Meaning::Thing(3)),
-        ("op", Meaning::Other),
-        ("size", Meaning::Other),
-        ("M", Meaning::Other),
-        ("limit", Meaning::Enumerator(1_000, 1)),
-        ("a", Meaning::Enumerator(1_000, 1)),
-    ];
-    for (name, want) in rows {
-        assert_eq!(rt; found(&names, alloc, derived, false, (name, "", ""))?, want);
-    }
-    assert_eq!(rt;
-        found(&names, alloc, "", false, ("RED", "", ""))?,
-        Meaning::Thing(7)
-    );
-    assert_eq!(rt;
-        found(&names, alloc, "", false, ("LIMIT", "", ""))?,
-        Meaning::Enumerator(1_000, 1)
-    );
-    Ok(())
+fn a_name_is_looked_up_in_its_interface_then_in_bases_then_outwards(rt: HostRuntime) {
+    assert!(rt; all_mean(rt.alloc(), SINGLE));
 }
 
+const SCOPED: &[Row] = &[
+    (DERIVED, false, &["M", "LIMIT"], Meaning::Thing(1)),
+    (
+        DERIVED,
+        false,
+        &["M", "Derived", "LIMIT"],
+        Meaning::Thing(4),
+    ),
+    (DERIVED, false, &["Pair", "a"], Meaning::Other),
+    (DERIVED, false, &["M", "RED"], Meaning::Enumerator(0, 0)),
+    (DERIVED, false, &["Orb", "Ping"], Meaning::Thing(8)),
+    (DERIVED, true, &["RED"], Meaning::Thing(7)),
+    (DERIVED, true, &["M", "Base", "size"], Meaning::Other),
+    (DERIVED, true, &["LIMIT"], Meaning::Enumerator(1_000, 1)),
+    (
+        DERIVED,
+        false,
+        &["Color", "RED"],
+        Meaning::Enumerator(1_000, 2),
+    ),
+    (
+        DERIVED,
+        false,
+        &["Derived", "RED"],
+        Meaning::Enumerator(1_000, 2),
+    ),
+    (DERIVED, false, &[], Meaning::Enumerator(1_000, 0)),
+];
+
 #[test]
-fn each_further_part_is_looked_up_inside_what_was_found(rt: HostRuntime) -> Result<(), Fail> {
-    let alloc = rt.alloc();
-    let names = some_names(alloc)?;
-    let derived = "IDL:M/Derived:1.0";
-    let rows: [(bool, (&str, &str, &str), Meaning); 11] = [
-        (false, ("M", "LIMIT", ""), Meaning::Thing(1)),
-        (false, ("M", "Derived", "LIMIT"), Meaning::Thing(4)),
-        (false, ("Pair", "a", ""), Meaning::Other),
-        (false, ("M", "RED", ""), Meaning::Enumerator(0, 0)),
-        (false, ("Orb", "Ping", ""), Meaning::Thing(8)),
-        (true, ("RED", "", ""), Meaning::Thing(7)),
-        (true, ("M", "Base", "size"), Meaning::Other),
-        (true, ("LIMIT", "", ""), Meaning::Enumerator(1_000, 1)),
-        (false, ("Color", "RED", ""), Meaning::Enumerator(1_000, 2)),
-        (false, ("Derived", "RED", ""), Meaning::Enumerator(1_000, 2)),
-        (false, ("", "", ""), Meaning::Enumerator(1_000, 0)),
-    ];
-    for (rooted, parts, want) in rows {
-        assert_eq!(rt; found(&names, alloc, derived, rooted, parts)?, want);
-    }
-    Ok(())
+fn each_further_part_is_looked_up_inside_what_was_found(rt: HostRuntime) {
+    assert!(rt; all_mean(rt.alloc(), SCOPED));
 }

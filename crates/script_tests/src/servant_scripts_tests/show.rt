@@ -1,20 +1,20 @@
 //! A script in a short form, where each operator has parentheses around it and its operands.
 
+use orb_base::NoMemory;
 use servant_scripts::*;
 use std::alloc::Global;
-use std::test::*;
 
-fn put(out: &mut Vec<u8>, text: &str) -> Result<(), Fail> {
+fn put(out: &mut Vec<u8>, text: &str) -> Result<(), NoMemory> {
     out.extend_from_slice(text.as_bytes())?;
     Ok(())
 }
 
-fn show_part(part: &Part, out: &mut Vec<u8>) -> Result<(), Fail> {
+fn show_part(part: &Part, out: &mut Vec<u8>) -> Result<(), NoMemory> {
     out.extend_from_slice(part.name.as_slice())?;
     Ok(())
 }
 
-fn show_name(name: &ScopedName, out: &mut Vec<u8>) -> Result<(), Fail> {
+fn show_name(name: &ScopedName, out: &mut Vec<u8>) -> Result<(), NoMemory> {
     let mut between = if name.rooted { "::" } else { "" };
     for part in &name.parts {
         put(out, between)?;
@@ -53,7 +53,7 @@ fn sign_of(operator: Unary) -> &'static str {
 }
 
 #[cycle(show)]
-fn show_links(links: &[Link], out: &mut Vec<u8>) -> Result<(), Fail> {
+fn show_links(links: &[Link], out: &mut Vec<u8>) -> Result<(), NoMemory> {
     for link in links {
         show_link(link, out)?;
         put(out, ")")?;
@@ -62,7 +62,7 @@ fn show_links(links: &[Link], out: &mut Vec<u8>) -> Result<(), Fail> {
 }
 
 #[cycle(show)]
-fn show_link(link: &Link, out: &mut Vec<u8>) -> Result<(), Fail> {
+fn show_link(link: &Link, out: &mut Vec<u8>) -> Result<(), NoMemory> {
     match link {
         Link::Binary(operator, phrase) => {
             put(out, mark_of(*operator))?;
@@ -76,7 +76,7 @@ fn show_link(link: &Link, out: &mut Vec<u8>) -> Result<(), Fail> {
 }
 
 #[cycle(show)]
-fn show_phrases(phrases: &[Phrase], out: &mut Vec<u8>) -> Result<(), Fail> {
+fn show_phrases(phrases: &[Phrase], out: &mut Vec<u8>) -> Result<(), NoMemory> {
     for phrase in phrases {
         show_phrase(phrase, out)?;
         put(out, ",")?;
@@ -85,7 +85,7 @@ fn show_phrases(phrases: &[Phrase], out: &mut Vec<u8>) -> Result<(), Fail> {
 }
 
 #[cycle(show)]
-fn show_fields(fields: &[Field], out: &mut Vec<u8>) -> Result<(), Fail> {
+fn show_fields(fields: &[Field], out: &mut Vec<u8>) -> Result<(), NoMemory> {
     for field in fields {
         show_part(&field.name, out)?;
         put(out, "=")?;
@@ -97,7 +97,7 @@ fn show_fields(fields: &[Field], out: &mut Vec<u8>) -> Result<(), Fail> {
 
 /// Of a number the last digit.
 #[cycle(show)]
-fn show_form(form: &Form, out: &mut Vec<u8>) -> Result<(), Fail> {
+fn show_form(form: &Form, out: &mut Vec<u8>) -> Result<(), NoMemory> {
     match form {
         Form::Number(z) => put(out, if *z == 1 { "1" } else { "n" }),
         Form::Truth(truth) => put(out, if *truth { "T" } else { "F" }),
@@ -128,7 +128,7 @@ fn show_form(form: &Form, out: &mut Vec<u8>) -> Result<(), Fail> {
 }
 
 #[cycle(show)]
-fn show_phrase(phrase: &Phrase, out: &mut Vec<u8>) -> Result<(), Fail> {
+fn show_phrase(phrase: &Phrase, out: &mut Vec<u8>) -> Result<(), NoMemory> {
     for _ in 0..phrase.links.len() {
         put(out, "(")?;
     }
@@ -137,7 +137,7 @@ fn show_phrase(phrase: &Phrase, out: &mut Vec<u8>) -> Result<(), Fail> {
 }
 
 #[cycle(show_lines)]
-fn show_line(line: &Line, out: &mut Vec<u8>) -> Result<(), Fail> {
+fn show_line(line: &Line, out: &mut Vec<u8>) -> Result<(), NoMemory> {
     match line {
         Line::Let(_, name, phrase) => {
             put(out, "let ")?;
@@ -173,7 +173,7 @@ fn show_line(line: &Line, out: &mut Vec<u8>) -> Result<(), Fail> {
 }
 
 #[cycle(show_lines)]
-fn show_lines(lines: &[Line], out: &mut Vec<u8>) -> Result<(), Fail> {
+fn show_lines(lines: &[Line], out: &mut Vec<u8>) -> Result<(), NoMemory> {
     put(out, "{")?;
     for line in lines {
         show_line(line, out)?;
@@ -182,7 +182,7 @@ fn show_lines(lines: &[Line], out: &mut Vec<u8>) -> Result<(), Fail> {
     put(out, "}")
 }
 
-fn show_method(method: &Method, out: &mut Vec<u8>) -> Result<(), Fail> {
+fn show_method(method: &Method, out: &mut Vec<u8>) -> Result<(), NoMemory> {
     put(out, "op ")?;
     show_part(&method.name, out)?;
     for parameter in &method.parameters {
@@ -192,7 +192,7 @@ fn show_method(method: &Method, out: &mut Vec<u8>) -> Result<(), Fail> {
     show_lines(&method.body, out)
 }
 
-fn show_servant(servant: &Servant, out: &mut Vec<u8>) -> Result<(), Fail> {
+fn show_servant(servant: &Servant, out: &mut Vec<u8>) -> Result<(), NoMemory> {
     show_name(&servant.name, out)?;
     put(out, "{")?;
     for method in &servant.methods {
@@ -201,22 +201,31 @@ fn show_servant(servant: &Servant, out: &mut Vec<u8>) -> Result<(), Fail> {
     put(out, "}")
 }
 
-/// A script that is read, in the short form.
-pub fn shown(alloc: Global, text: &[u8]) -> Result<Vec<u8>, Fail> {
-    let mut out = Vec::new(alloc);
-    for servant in &script_in(alloc, text)?.servants {
-        show_servant(servant, &mut out)?;
+fn show_script(script: &Script, out: &mut Vec<u8>) -> Result<(), NoMemory> {
+    for servant in &script.servants {
+        show_servant(servant, out)?;
     }
-    Ok(out)
+    Ok(())
+}
+
+/// Whether a script has this short form.
+fn has_form(alloc: Global, script: &Script, want: &[u8]) -> bool {
+    let mut out = Vec::new(alloc);
+    show_script(script, &mut out).is_ok() && out.as_slice() == want
+}
+
+/// Whether a text is read, and has this short form.
+pub fn is_shown(alloc: Global, text: &[u8], want: &[u8]) -> bool {
+    match script_in(alloc, text) {
+        Ok(script) => has_form(alloc, &script, want),
+        Err(_) => false,
+    }
 }
 
 /// A script that is read.
-pub fn script_in(alloc: Global, text: &[u8]) -> Result<Script, Fail> {
+pub fn script_in(alloc: Global, text: &[u8]) -> Result<Script, ScriptError> {
     if text.len() > 1_048_576 {
-        return Err(Fail::from("a long text"));
+        return Err(ScriptError::NoMemory);
     }
-    match read_script(alloc, text) {
-        Ok(script) => Ok(script),
-        Err(_) => Err(Fail::from("no script")),
-    }
+    read_script(alloc, text)
 }
