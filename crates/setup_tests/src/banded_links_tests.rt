@@ -1,85 +1,78 @@
 //! Binds by hand.
 
+use crate::priority_models_tests::{Ends, band, pool};
 use banded_links::*;
-use orb_base::{Band, LaneSpec, List, PoolSpec, Priority};
+use orb_base::{Band, PoolSpec};
 use std::alloc::Global;
-use std::process::Abort;
-use std::test::Fail;
+use std::test::*;
 
-fn priority(level: i16) -> Result<Priority, Fail> {
-    Ok(Priority::new(level).ok_or("a priority")?)
-}
+/// The band that a connection asks for which had bound the band of 10 alone; the answer, and the band that is bound then.
+type Row = (Ends, BindAnswer, Ends);
 
-fn band(low: i16, high: i16) -> Result<Band, Fail> {
-    Ok(Band::new(priority(low)?, priority(high)?).ok_or("a band")?)
-}
-
-/// A pool with lanes of these priorities.
-fn pool(alloc: Global, laned: bool, levels: &[i16]) -> Result<PoolSpec, Fail> {
-    let mut lanes = List::new(alloc);
-    for level in levels {
-        let lane = LaneSpec {
-            priority: priority(*level)?,
-            statics: 1,
-            dynamics: 0,
-        };
-        if lanes.push(lane).is_err() {
-            return Err(Fail::new("no memory"));
-        }
-    }
-    Ok(PoolSpec {
-        laned,
-        lanes,
-        borrowing: false,
-        buffering: false,
-        max_requests: 0,
-        max_bytes: 0,
-        run_calls: 100,
-        run_bytes: 1000,
-    })
-}
-
-/// A connection that had bound 1 to 2 asks for a band.
-fn asks(
-    rt: &impl Abort,
+fn binds(
     pool: &PoolSpec,
+    first: Option<Band>,
     range: Option<Band>,
     answer: BindAnswer,
     bound: Option<Band>,
-) -> Result<(), Fail> {
+) -> bool {
     let mut server = BindServer::new();
-    assert_eq!(rt; server.band(), None);
-    let first = band(10, 10)?;
-    assert_eq!(rt; server.bind(pool, Some(first)), BindAnswer::Bound);
-    assert_eq!(rt; server.bind(pool, range), answer);
-    assert_eq!(rt; server.band(), bound);
-    Ok(())
+    server.band().is_none()
+        && server.bind(pool, first) == BindAnswer::Bound
+        && server.bind(pool, range) == answer
+        && server.band() == bound
 }
 
-#[test]
-fn a_second_bind_replaces_the_first(rt: HostRuntime) -> Result<(), Fail> {
-    let lanes = pool(rt.alloc(), true, &[10, 20, 30])?;
-    let wide = Some(band(11, 20)?);
-    asks(&rt, &lanes, wide, BindAnswer::Bound, wide)?;
-    let low = Some(band(30, 32767)?);
-    asks(&rt, &lanes, low, BindAnswer::Bound, low)
+fn asks(pool: &PoolSpec, row: &Row) -> Option<bool> {
+    let (range, answer, bound) = row;
+    let first = band(Some((10, 10)))?;
+    Some(binds(pool, first, band(*range)?, *answer, band(*bound)?))
 }
 
-#[test]
-fn a_refused_bind_leaves_the_band(rt: HostRuntime) -> Result<(), Fail> {
-    let lanes = pool(rt.alloc(), true, &[10, 20, 30])?;
-    let first = Some(band(10, 10)?);
-    asks(&rt, &lanes, None, BindAnswer::Malformed, first)?;
-    let between = Some(band(21, 29)?);
-    asks(&rt, &lanes, between, BindAnswer::NoLane, first)?;
-    let above = Some(band(31, 32767)?);
-    asks(&rt, &lanes, above, BindAnswer::NoLane, first)
+fn asks_each(pool: &PoolSpec, rows: &[Row]) -> bool {
+    for row in rows {
+        if asks(pool, row) != Some(true) {
+            return false;
+        }
+    }
+    true
 }
 
+/// Whether a pool of these priorities answers each row so.
+fn all_are_answered(alloc: Global, laned: bool, levels: &[i16], rows: &[Row]) -> bool {
+    match pool(alloc, laned, levels) {
+        Some(pool) => asks_each(&pool, rows),
+        None => false,
+    }
+}
+
+const SECOND: &[Row] = &[
+    (Some((11, 20)), BindAnswer::Bound, Some((11, 20))),
+    (Some((30, 32767)), BindAnswer::Bound, Some((30, 32767))),
+];
+
 #[test]
-fn a_pool_without_lanes_takes_every_band(rt: HostRuntime) -> Result<(), Fail> {
-    let flat = pool(rt.alloc(), false, &[100])?;
-    let low = Some(band(0, 0)?);
-    asks(&rt, &flat, low, BindAnswer::Bound, low)?;
-    asks(&rt, &flat, None, BindAnswer::Malformed, Some(band(10, 10)?))
+fn a_second_bind_replaces_the_first(rt: HostRuntime) {
+    assert!(rt; all_are_answered(rt.alloc(), true, &[10, 20, 30], SECOND));
+}
+
+const REFUSED: &[Row] = &[
+    (None, BindAnswer::Malformed, Some((10, 10))),
+    (Some((21, 29)), BindAnswer::NoLane, Some((10, 10))),
+    (Some((31, 32767)), BindAnswer::NoLane, Some((10, 10))),
+];
+
+#[test]
+fn a_refused_bind_leaves_the_band(rt: HostRuntime) {
+    assert!(rt; all_are_answered(rt.alloc(), true, &[10, 20, 30], REFUSED));
+}
+
+const WITHOUT_LANES: &[Row] = &[
+    (Some((0, 0)), BindAnswer::Bound, Some((0, 0))),
+    (None, BindAnswer::Malformed, Some((10, 10))),
+];
+
+#[test]
+fn a_pool_without_lanes_takes_every_band(rt: HostRuntime) {
+    assert!(rt; all_are_answered(rt.alloc(), false, &[100], WITHOUT_LANES));
 }

@@ -1,8 +1,8 @@
 //! The lines of objects over memory, and what a missing or faulty configuration gives.
 
-use adapter_policies::ConfigCause;
+use adapter_policies::{ConfigCause, ConfigFault};
 use object_lines::*;
-use orb_base::{List, MemFile, MemFiles, MemSink, Octets, Text};
+use orb_base::{List, MemFile, MemFiles, MemSink, Text};
 use setup_servants::{ServingFault, TextRole};
 use std::alloc::Global;
 use std::test::*;
@@ -23,139 +23,236 @@ const UNSERVED: &str =
 const FILED: &str =
     "idl = \"m.idl\"\nscripts = \"m.srv\"\npool = { static = 1, dynamic = 0, default_priority = 1 }\nadapter = [{ name = \"a\", model = \"SERVER_DECLARED\", priority = 1 }]\nobject = [{ key = \"v\", adapter = \"a\", interface = \"IDL:M/V:1.0\" }]\n";
 
-fn text(alloc: Global, bytes: &[u8]) -> Result<Text, Fail> {
-    match Text::new(alloc, bytes) {
-        Ok(text) => Ok(text),
-        Err(_) => Err(Fail::new("a text")),
-    }
+/// How the lines are due to come out. A refused configuration, and an object without a servant, have a cause and a path.
+#[derive(Clone, Copy)]
+enum Due {
+    Done,
+    Refused(ConfigCause, &'static str),
+    Unfiled(TextRole),
+    Absent,
+    ReadFault,
+    WriteFault,
 }
 
-/// The address of a word.
-fn address(alloc: Global, word: &[u8]) -> Result<Address, Fail> {
-    match read_address(alloc, word)? {
-        Some(address) => Ok(address),
-        None => Err(Fail::new("an address")),
-    }
-}
-
-/// A store with this one file, whose reads fail as told.
-fn files(alloc: Global, name: &[u8], bytes: &str, failing: List<u64>) -> Result<MemFiles, Fail> {
-    let mut content = Octets::new(alloc);
-    content.append(bytes.as_bytes())?;
-    let mut files = List::new(alloc);
-    let file = MemFile {
-        name: text(alloc, name)?,
-        bytes: content,
-    };
-    match files.push(file) {
-        Ok(()) => Ok(MemFiles::new(files, failing)),
-        Err(_) => Err(Fail::new("a store")),
-    }
-}
-
-/// What comes of the file `c`, which holds this.
-fn ran(alloc: Global, config: &str, sink: &mut MemSink) -> Result<AtEnd, Fail> {
-    let mut files = files(alloc, b"c", config, List::new(alloc))?;
-    let name = text(alloc, b"c")?;
-    let at = address(alloc, b"127.0.0.1:2809")?;
-    Ok(at_run(alloc, &mut files, sink, Some(&name), &at))
-}
-
-/// A sink that cuts nothing and never fails.
-fn sink(alloc: Global) -> MemSink {
-    MemSink::new(alloc, List::new(alloc), List::new(alloc))
-}
-
-#[test]
-fn the_built_in_object_has_its_line(rt: HostRuntime) -> Result<(), Fail> {
-    let mut files = files(rt.alloc(), b"c", "", List::new(rt.alloc()))?;
-    let mut out = sink(rt.alloc());
-    let at = address(rt.alloc(), b"127.0.0.1:2809")?;
-    let end = at_run(rt.alloc(), &mut files, &mut out, None, &at);
-    assert!(rt; matches!(end, AtEnd::Done));
-    assert_eq!(rt; out.held(), PING);
-    Ok(())
-}
-
-#[test]
-fn a_configuration_gives_its_objects(rt: HostRuntime) -> Result<(), Fail> {
-    let mut out = sink(rt.alloc());
-    let end = ran(rt.alloc(), BUILT_IN, &mut out)?;
-    assert!(rt; matches!(end, AtEnd::Done));
-    assert_eq!(rt; out.held(), PING);
-    Ok(())
-}
-
-/// Whether a configuration is refused with this cause at this path.
-fn tells(end: AtEnd, cause: ConfigCause, path: &str) -> bool {
+/// Whether they came out so.
+fn is_due(end: &AtEnd, due: Due) -> bool {
     match end {
-        AtEnd::Refused(fault) | AtEnd::Unserved(ServingFault::Object(fault)) => fault.cause == cause
-            && fault.path.as_slice() == path.as_bytes(),
+        AtEnd::Done => matches!(due, Due::Done),
+        AtEnd::Refused(fault) => tells(fault, due),
+        AtEnd::Unserved(ServingFault::Object(fault)) => tells(fault, due),
+        AtEnd::Unserved(ServingFault::Absent(role)) => {
+            matches!(due, Due::Unfiled(want) if want == *role)
+        }
+        AtEnd::Absent => matches!(due, Due::Absent),
+        AtEnd::ReadFault => matches!(due, Due::ReadFault),
+        AtEnd::WriteFault => matches!(due, Due::WriteFault),
         _ => false,
     }
 }
 
-#[test]
-fn an_object_without_a_servant_is_told(rt: HostRuntime) -> Result<(), Fail> {
-    let mut out = sink(rt.alloc());
-    let end = ran(rt.alloc(), UNSERVED, &mut out)?;
-    assert!(rt; tells(end, ConfigCause::UnknownInterface, "object[1].interface"));
-    assert!(rt; out.held().is_empty());
-    Ok(())
+/// Whether a fault has the cause and the path that are due.
+fn tells(fault: &ConfigFault, due: Due) -> bool {
+    match due {
+        Due::Refused(cause, path) => {
+            fault.cause == cause && fault.path.as_slice() == path.as_bytes()
+        }
+        _ => false,
+    }
 }
 
-#[test]
-fn a_fault_of_the_configuration_is_told(rt: HostRuntime) -> Result<(), Fail> {
-    let mut out = sink(rt.alloc());
-    let end = ran(rt.alloc(), "pool = 1", &mut out)?;
-    assert!(rt; tells(end, ConfigCause::WrongKind, "pool"));
-    Ok(())
+/// One run: the configuration in the file `c`, the name of the one that is asked for, if any, the address, the reads of files that
+/// fail, how many bytes the writes take at most and which of them fail, how the lines come out, and what was written.
+struct Row {
+    config: &'static str,
+    name: Option<&'static [u8]>,
+    at: &'static [u8],
+    failed_reads: &'static [u64],
+    writes: &'static [usize],
+    failed_writes: &'static [u64],
+    due: Due,
+    held: &'static [u8],
 }
 
-#[test]
-fn interfaces_are_read_from_their_file(rt: HostRuntime) -> Result<(), Fail> {
-    let mut out = sink(rt.alloc());
-    let end = ran(rt.alloc(), FILED, &mut out)?;
-    assert!(rt; matches!(end, AtEnd::Unserved(ServingFault::Absent(TextRole::Idl))));
-    Ok(())
+fn file_of(alloc: Global, config: &str) -> Option<MemFile> {
+    let bytes = List::from_vec(Vec::from_slice(alloc, config.as_bytes()).ok()?);
+    match Text::new(alloc, b"c") {
+        Ok(name) => Some(MemFile { name, bytes }),
+        Err(_) => None,
+    }
 }
 
-#[test]
-fn a_file_that_is_not_there_is_absent(rt: HostRuntime) -> Result<(), Fail> {
-    let mut files = files(rt.alloc(), b"c", BUILT_IN, List::new(rt.alloc()))?;
-    let mut out = sink(rt.alloc());
-    let name = text(rt.alloc(), b"d")?;
-    let at = address(rt.alloc(), b"h:1")?;
-    let end = at_run(rt.alloc(), &mut files, &mut out, Some(&name), &at);
-    assert!(rt; matches!(end, AtEnd::Absent));
-    Ok(())
+/// The store of a row's one file.
+fn store_of(alloc: Global, row: &Row) -> Option<MemFiles> {
+    let failing = List::from_vec(Vec::from_slice(alloc, row.failed_reads).ok()?);
+    let file = file_of(alloc, row.config)?;
+    let mut files = List::new(alloc);
+    match files.push(file) {
+        Ok(()) => Some(MemFiles::new(files, failing)),
+        Err(_) => None,
+    }
 }
 
-#[test]
-fn a_store_that_fails_is_told(rt: HostRuntime) -> Result<(), Fail> {
-    let failing = List::from_vec(Vec::from_slice(rt.alloc(), &[0])?);
-    let mut files = files(rt.alloc(), b"c", BUILT_IN, failing)?;
-    let mut out = sink(rt.alloc());
-    let name = text(rt.alloc(), b"c")?;
-    let at = address(rt.alloc(), b"h:1")?;
-    let end = at_run(rt.alloc(), &mut files, &mut out, Some(&name), &at);
-    assert!(rt; matches!(end, AtEnd::ReadFault));
-    Ok(())
+fn sink_of(alloc: Global, row: &Row) -> Option<MemSink> {
+    let cuts = Vec::from_slice(alloc, row.writes).ok()?;
+    match Vec::from_slice(alloc, row.failed_writes) {
+        Ok(failing) => Some(MemSink::new(alloc, List::from_vec(cuts), List::from_vec(failing))),
+        Err(_) => None,
+    }
 }
 
+/// Whether the lines of the configuration of a name come out as is due.
+fn comes(
+    alloc: Global,
+    files: &mut MemFiles,
+    name: Option<&Text>,
+    at: &Address,
+    row: &Row,
+) -> bool {
+    let Some(mut sink) = sink_of(alloc, row) else {
+        return false;
+    };
+    let end = at_run(alloc, files, &mut sink, name, at);
+    is_due(&end, row.due) && sink.held() == row.held
+}
+
+fn comes_at(alloc: Global, files: &mut MemFiles, at: &Address, row: &Row) -> bool {
+    let Some(name) = row.name else {
+        return comes(alloc, files, None, at, row);
+    };
+    match Text::new(alloc, name) {
+        Ok(name) => comes(alloc, files, Some(&name), at, row),
+        Err(_) => false,
+    }
+}
+
+fn row_comes(alloc: Global, row: &Row) -> bool {
+    let Ok(Some(at)) = read_address(alloc, row.at) else {
+        return false;
+    };
+    match store_of(alloc, row) {
+        Some(mut files) => comes_at(alloc, &mut files, &at, row),
+        None => false,
+    }
+}
+
+fn all_come(alloc: Global, rows: &[Row]) -> bool {
+    for row in rows {
+        if !row_comes(alloc, row) {
+            return false;
+        }
+    }
+    true
+}
+
+/// Without a configuration, and by one.
+const WRITTEN: &[Row] = &[
+    Row {
+        config: "",
+        name: None,
+        at: b"127.0.0.1:2809",
+        failed_reads: &[],
+        writes: &[],
+        failed_writes: &[],
+        due: Due::Done,
+        held: PING,
+    },
+    Row {
+        config: BUILT_IN,
+        name: Some(b"c"),
+        at: b"127.0.0.1:2809",
+        failed_reads: &[],
+        writes: &[],
+        failed_writes: &[],
+        due: Due::Done,
+        held: PING,
+    },
+];
+
 #[test]
-fn a_write_that_fails_leaves_a_front(rt: HostRuntime) -> Result<(), Fail> {
-    let cuts = List::from_vec(Vec::from_slice(rt.alloc(), &[4])?);
-    let failing = List::from_vec(Vec::from_slice(rt.alloc(), &[1])?);
-    let mut out = MemSink::new(rt.alloc(), cuts, failing);
-    let end = ran(rt.alloc(), BUILT_IN, &mut out)?;
-    assert!(rt; matches!(end, AtEnd::WriteFault));
-    assert_eq!(rt; out.held(), b"ping".as_slice());
-    Ok(())
+fn the_built_in_object_and_that_of_a_configuration_have_their_line(rt: HostRuntime) {
+    assert!(rt; all_come(rt.alloc(), WRITTEN));
+}
+
+/// An object without a servant, a fault of the configuration, and a file of interfaces that is not there.
+const REFUSED: &[Row] = &[
+    Row {
+        config: UNSERVED,
+        name: Some(b"c"),
+        at: b"127.0.0.1:2809",
+        failed_reads: &[],
+        writes: &[],
+        failed_writes: &[],
+        due: Due::Refused(ConfigCause::UnknownInterface, "object[1].interface"),
+        held: b"",
+    },
+    Row {
+        config: "pool = 1",
+        name: Some(b"c"),
+        at: b"127.0.0.1:2809",
+        failed_reads: &[],
+        writes: &[],
+        failed_writes: &[],
+        due: Due::Refused(ConfigCause::WrongKind, "pool"),
+        held: b"",
+    },
+    Row {
+        config: FILED,
+        name: Some(b"c"),
+        at: b"127.0.0.1:2809",
+        failed_reads: &[],
+        writes: &[],
+        failed_writes: &[],
+        due: Due::Unfiled(TextRole::Idl),
+        held: b"",
+    },
+];
+
+#[test]
+fn what_is_wrong_with_a_configuration_is_told(rt: HostRuntime) {
+    assert!(rt; all_come(rt.alloc(), REFUSED));
+}
+
+/// A name that no file has, a store that fails, and a sink that fails at its second write.
+const FAILED: &[Row] = &[
+    Row {
+        config: BUILT_IN,
+        name: Some(b"d"),
+        at: b"h:1",
+        failed_reads: &[],
+        writes: &[],
+        failed_writes: &[],
+        due: Due::Absent,
+        held: b"",
+    },
+    Row {
+        config: BUILT_IN,
+        name: Some(b"c"),
+        at: b"h:1",
+        failed_reads: &[0],
+        writes: &[],
+        failed_writes: &[],
+        due: Due::ReadFault,
+        held: b"",
+    },
+    Row {
+        config: BUILT_IN,
+        name: Some(b"c"),
+        at: b"127.0.0.1:2809",
+        failed_reads: &[],
+        writes: &[4],
+        failed_writes: &[1],
+        due: Due::WriteFault,
+        held: b"ping",
+    },
+];
+
+#[test]
+fn a_file_that_is_absent_and_a_device_that_fails_are_told(rt: HostRuntime) {
+    assert!(rt; all_come(rt.alloc(), FAILED));
 }
 
 /// Words that are no address.
-const NO_ADDRESSES: [&[u8]; 10] = [
+const NO_ADDRESSES: &[&[u8]] = &[
     b"",
     b"h",
     b":1",
@@ -168,13 +265,24 @@ const NO_ADDRESSES: [&[u8]; 10] = [
     b"a\0b:1",
 ];
 
-#[test]
-fn an_address_has_a_host_and_a_port(rt: HostRuntime) -> Result<(), Fail> {
+fn none_is_an_address(alloc: Global) -> bool {
     for word in NO_ADDRESSES {
-        assert!(rt; read_address(rt.alloc(), word)?.is_none());
+        if !matches!(read_address(alloc, word), Ok(None)) {
+            return false;
+        }
     }
-    let at = address(rt.alloc(), b"localhost:0000065535")?;
-    assert_eq!(rt; at.host.as_slice(), b"localhost".as_slice());
-    assert_eq!(rt; at.port, 65_535);
-    Ok(())
+    true
+}
+
+fn is_address(alloc: Global, word: &[u8], host: &[u8], port: u16) -> bool {
+    match read_address(alloc, word) {
+        Ok(Some(at)) => at.host.as_slice() == host && at.port == port,
+        _ => false,
+    }
+}
+
+#[test]
+fn an_address_has_a_host_and_a_port(rt: HostRuntime) {
+    assert!(rt; none_is_an_address(rt.alloc()));
+    assert!(rt; is_address(rt.alloc(), b"localhost:0000065535", b"localhost", 65_535));
 }

@@ -5,183 +5,333 @@ use priority_maps::*;
 use std::alloc::Global;
 use std::test::*;
 
-fn priority(level: i16) -> Result<Priority, Fail> {
-    Ok(Priority::new(level).ok_or("a priority")?)
+/// Priorities, and the natives that a map gives them.
+type Ups = &'static [(i16, Option<i32>)];
+
+/// Natives, and the priorities that a map gives them.
+type Downs = &'static [(i32, Option<i16>)];
+
+/// A linear map: the ends of its band, those of its natives, and what it gives.
+struct LinearMap {
+    band: (i16, i16),
+    natives: (i32, i32),
+    ups: Ups,
+    downs: Downs,
 }
 
-fn band(low: i16, high: i16) -> Result<Band, Fail> {
-    Ok(Band::new(priority(low)?, priority(high)?).ok_or("a band")?)
+fn band(low: i16, high: i16) -> Option<Band> {
+    Band::new(Priority::new(low)?, Priority::new(high)?)
 }
 
-fn linear(low: i16, high: i16, native_low: i32, native_high: i32) -> Result<Map, Fail> {
-    Ok(Map::linear(band(low, high)?, native_low, native_high).ok_or("a map")?)
+fn linear(row: &LinearMap) -> Option<Map> {
+    let (low, high) = row.band;
+    let (native_low, native_high) = row.natives;
+    Map::linear(band(low, high)?, native_low, native_high)
 }
 
-fn rows(alloc: Global, all: &[(i16, i16, i32)]) -> Result<List<MapRow>, Fail> {
-    let mut list = List::new(alloc);
-    for (low, high, native) in all {
-        let row = MapRow {
-            band: band(*low, *high)?,
-            native: *native,
-        };
-        if list.push(row).is_err() {
-            return Err(Fail::new("no memory"));
+/// The native of a priority, or None where there is no such priority.
+fn native(map: &Map, level: i16) -> Option<Option<i32>> {
+    Some(map.to_native(Priority::new(level)?))
+}
+
+fn rises(map: &Map, ups: Ups) -> bool {
+    for (level, want) in ups {
+        if native(map, *level) != Some(*want) {
+            return false;
         }
     }
-    Ok(list)
+    true
 }
 
-fn native(map: &Map, level: i16) -> Result<Option<i32>, Fail> {
-    Ok(map.to_native(priority(level)?))
+fn corba(map: &Map, native: i32) -> Option<i16> {
+    Some(map.to_corba(native)?.get())
 }
 
-fn corba(map: &Map, n: i32) -> Option<i16> {
-    map.to_corba(n).map(|p| p.get())
-}
-
-#[test]
-fn a_linear_map_has_ten_shares_of_101(rt: HostRuntime) -> Result<(), Fail> {
-    let map = linear(0, 100, 1, 10)?;
-    for (level, expected) in [(0, 1), (10, 1), (11, 2), (50, 5), (100, 10)] {
-        assert_eq!(rt; native(&map, level)?, Some(expected));
+fn falls(map: &Map, downs: Downs) -> bool {
+    for (native, level) in downs {
+        if corba(map, *native) != *level {
+            return false;
+        }
     }
-    assert_eq!(rt; native(&map, 101)?, None);
-    for (n, expected) in [
+    true
+}
+
+fn agrees(map: Option<Map>, ups: Ups, downs: Downs) -> bool {
+    match map {
+        Some(map) => rises(&map, ups) && falls(&map, downs),
+        None => false,
+    }
+}
+
+/// Whether a linear map gives what its row says.
+fn holds(row: &LinearMap) -> bool {
+    agrees(linear(row), row.ups, row.downs)
+}
+
+const TEN_SHARES: LinearMap = LinearMap {
+    band: (0, 100),
+    natives: (1, 10),
+    ups: &[
+        (0, Some(1)),
+        (10, Some(1)),
+        (11, Some(2)),
+        (50, Some(5)),
+        (100, Some(10)),
+        (101, None),
+    ],
+    downs: &[
         (1, Some(0)),
         (5, Some(41)),
         (10, Some(91)),
         (0, None),
         (11, None),
-    ] {
-        assert_eq!(rt; corba(&map, n), expected);
+    ],
+};
+
+#[test]
+fn a_linear_map_has_ten_shares_of_101(rt: HostRuntime) {
+    assert!(rt; holds(&TEN_SHARES));
+}
+
+const BAND_OF_ONE: LinearMap = LinearMap {
+    band: (7, 7),
+    natives: (-3, 3),
+    ups: &[(6, None), (7, Some(-3)), (8, None)],
+    downs: &[(-3, Some(7)), (-2, None), (3, None)],
+};
+
+#[test]
+fn a_band_of_one_has_the_low_native(rt: HostRuntime) {
+    assert!(rt; holds(&BAND_OF_ONE));
+}
+
+const BELOW_ZERO: LinearMap = LinearMap {
+    band: (0, 32767),
+    natives: (-20, -1),
+    ups: &[(0, Some(-20)), (32767, Some(-1))],
+    downs: &[(-20, Some(0)), (-1, Some(31130)), (0, None)],
+};
+
+#[test]
+fn natives_lie_below_zero(rt: HostRuntime) {
+    assert!(rt; holds(&BELOW_ZERO));
+}
+
+const GAPS: LinearMap = LinearMap {
+    band: (10, 12),
+    natives: (0, 99),
+    ups: &[(10, Some(0)), (11, Some(33)), (12, Some(66))],
+    downs: &[
+        (0, Some(10)),
+        (33, Some(11)),
+        (66, Some(12)),
+        (1, None),
+        (34, None),
+        (67, None),
+        (99, None),
+    ],
+};
+
+#[test]
+fn more_natives_than_priorities_leave_gaps(rt: HostRuntime) {
+    assert!(rt; holds(&GAPS));
+}
+
+const SHARED: LinearMap = LinearMap {
+    band: (0, 9),
+    natives: (0, 2),
+    ups: &[
+        (0, Some(0)),
+        (3, Some(0)),
+        (4, Some(1)),
+        (6, Some(1)),
+        (7, Some(2)),
+        (9, Some(2)),
+    ],
+    downs: &[(0, Some(0)), (1, Some(4)), (2, Some(7))],
+};
+
+fn back(map: &Map, level: i16) -> Option<i16> {
+    Some(there_and_back(map, Priority::new(level)?)?.get())
+}
+
+/// Whether a priority goes to a native and comes back as this one.
+fn comes_back(row: &LinearMap, level: i16, want: i16) -> bool {
+    match linear(row) {
+        Some(map) => back(&map, level) == Some(want),
+        None => false,
     }
-    Ok(())
+}
+
+fn are_shared() -> bool {
+    holds(&SHARED) && comes_back(&SHARED, 9, 7)
 }
 
 #[test]
-fn a_band_of_one_has_the_low_native(rt: HostRuntime) -> Result<(), Fail> {
-    let map = linear(7, 7, -3, 3)?;
-    assert_eq!(rt;
-        [native(&map, 6)?, native(&map, 7)?, native(&map, 8)?],
-        [None, Some(-3), None]
-    );
-    assert_eq!(rt;
-        [corba(&map, -3), corba(&map, -2), corba(&map, 3)],
-        [Some(7), None, None]
-    );
-    Ok(())
+fn fewer_natives_share_their_priorities(rt: HostRuntime) {
+    assert!(rt; are_shared());
 }
 
-#[test]
-fn natives_lie_below_zero(rt: HostRuntime) -> Result<(), Fail> {
-    let map = linear(0, 32767, -20, -1)?;
-    assert_eq!(rt;
-        [native(&map, 0)?, native(&map, 32767)?],
-        [Some(-20), Some(-1)]
-    );
-    assert_eq!(rt;
-        [corba(&map, -20), corba(&map, -1), corba(&map, 0)],
-        [Some(0), Some(31130), None]
-    );
-    Ok(())
-}
+const ALL_OF_32_BITS: LinearMap = LinearMap {
+    band: (0, 32767),
+    natives: (i32::MIN, i32::MAX),
+    ups: &[
+        (0, Some(i32::MIN)),
+        (1, Some(-2_147_352_576)),
+        (32767, Some(2_147_352_576)),
+    ],
+    downs: &[
+        (i32::MIN, Some(0)),
+        (-2_147_352_576, Some(1)),
+        (2_147_352_576, Some(32767)),
+        (i32::MAX, None),
+        (i32::MIN + 1, None),
+    ],
+};
 
 #[test]
-fn more_natives_than_priorities_leave_gaps(rt: HostRuntime) -> Result<(), Fail> {
-    let map = linear(10, 12, 0, 99)?;
-    for (level, expected) in [(10, 0), (11, 33), (12, 66)] {
-        assert_eq!(rt; native(&map, level)?, Some(expected));
-        assert_eq!(rt; corba(&map, expected), Some(level));
-        assert_eq!(rt; corba(&map, expected + 1), None);
+fn all_of_32_bits_are_spanned(rt: HostRuntime) {
+    assert!(rt; holds(&ALL_OF_32_BITS));
+}
+
+/// Whether these natives are a range for a map.
+fn is_range(native_low: i32, native_high: i32) -> Option<bool> {
+    Some(Map::linear(band(0, 9)?, native_low, native_high).is_some())
+}
+
+/// Natives, from the low one to the high one, and whether they are a range.
+const RANGES: &[(i32, i32, bool)] = &[(5, 4, false), (5, 5, true)];
+
+fn are_ranges() -> bool {
+    for (low, high, want) in RANGES {
+        if is_range(*low, *high) != Some(*want) {
+            return false;
+        }
     }
-    assert_eq!(rt; corba(&map, 99), None);
-    Ok(())
+    true
 }
 
 #[test]
-fn fewer_natives_share_their_priorities(rt: HostRuntime) -> Result<(), Fail> {
-    let map = linear(0, 9, 0, 2)?;
-    for (level, expected) in [(0, 0), (3, 0), (4, 1), (6, 1), (7, 2), (9, 2)] {
-        assert_eq!(rt; native(&map, level)?, Some(expected));
+fn natives_in_wrong_order_are_no_range(rt: HostRuntime) {
+    assert!(rt; are_ranges());
+}
+
+const ITSELF: Ups = &[
+    (0, Some(0)),
+    (1, Some(1)),
+    (100, Some(100)),
+    (32767, Some(32767)),
+];
+
+const BACK: Downs = &[
+    (0, Some(0)),
+    (1, Some(1)),
+    (100, Some(100)),
+    (32767, Some(32767)),
+    (-1, None),
+    (32768, None),
+];
+
+#[test]
+fn the_identity_gives_each_priority_itself(rt: HostRuntime) {
+    assert!(rt; agrees(Some(Map::identity()), ITSELF, BACK));
+}
+
+/// The rows of a table: the ends of a band and its native.
+type Rows = &'static [(i16, i16, i32)];
+
+fn list(alloc: Global, rows: Rows) -> Option<List<MapRow>> {
+    let mut list = List::new(alloc);
+    for (low, high, native) in rows {
+        let row = MapRow {
+            band: band(*low, *high)?,
+            native: *native,
+        };
+        if list.push(row).is_err() {
+            return None;
+        }
     }
-    assert_eq!(rt;
-        [corba(&map, 0), corba(&map, 1), corba(&map, 2)],
-        [Some(0), Some(4), Some(7)]
-    );
-    let back = there_and_back(&map, priority(9)?);
-    assert_eq!(rt; back.map(|p| p.get()), Some(7));
-    Ok(())
+    Some(list)
 }
 
-#[test]
-fn all_of_32_bits_are_spanned(rt: HostRuntime) -> Result<(), Fail> {
-    let map = linear(0, 32767, i32::MIN, i32::MAX)?;
-    for (level, expected) in [(0, i32::MIN), (1, -2_147_352_576), (32767, 2_147_352_576)] {
-        assert_eq!(rt; native(&map, level)?, Some(expected));
-        assert_eq!(rt; corba(&map, expected), Some(level));
+/// The map of these rows, or None where they are no table.
+fn table(alloc: Global, rows: Rows) -> Option<Option<Map>> {
+    match Map::table(alloc, list(alloc, rows)?) {
+        Ok(map) => Some(map),
+        Err(_) => None,
     }
-    assert_eq!(rt; corba(&map, i32::MAX), None);
-    assert_eq!(rt; corba(&map, i32::MIN + 1), None);
-    Ok(())
 }
 
-#[test]
-fn natives_in_wrong_order_are_no_range(rt: HostRuntime) -> Result<(), Fail> {
-    assert!(rt; Map::linear(band(0, 9)?, 5, 4).is_none());
-    assert!(rt; Map::linear(band(0, 9)?, 5, 5).is_some());
-    Ok(())
-}
-
-#[test]
-fn the_identity_gives_each_priority_itself(rt: HostRuntime) -> Result<(), Fail> {
-    let map = Map::identity();
-    for level in [0, 1, 100, 32767] {
-        assert_eq!(rt; native(&map, level)?, Some(i32::from(level)));
-        assert_eq!(rt; corba(&map, i32::from(level)), Some(level));
+/// Whether these rows are a table that gives this.
+fn tables(alloc: Global, rows: Rows, ups: Ups, downs: Downs) -> bool {
+    match table(alloc, rows) {
+        Some(map) => agrees(map, ups, downs),
+        None => false,
     }
-    assert_eq!(rt; [corba(&map, -1), corba(&map, 32768)], [None, None]);
-    Ok(())
+}
+
+const WITH_GAPS: Rows = &[(10, 19, 5), (30, 30, -7), (40, 50, 5)];
+
+const GAPS_UP: Ups = &[
+    (10, Some(5)),
+    (19, Some(5)),
+    (30, Some(-7)),
+    (40, Some(5)),
+    (50, Some(5)),
+    (0, None),
+    (9, None),
+    (20, None),
+    (29, None),
+    (31, None),
+    (39, None),
+    (51, None),
+    (32767, None),
+];
+
+const GAPS_DOWN: Downs = &[(5, Some(10)), (-7, Some(30)), (6, None)];
+
+#[test]
+fn a_table_has_gaps_and_a_native_twice(rt: HostRuntime) {
+    assert!(rt; tables(rt.alloc(), WITH_GAPS, GAPS_UP, GAPS_DOWN));
+}
+
+const LAST: Rows = &[(32767, 32767, 1)];
+
+const LAST_UP: Ups = &[(32766, None), (32767, Some(1))];
+
+const LAST_DOWN: Downs = &[(1, Some(32767))];
+
+fn may_be_short(alloc: Global) -> bool {
+    tables(alloc, &[], &[(0, None)], &[(0, None)]) && tables(alloc, LAST, LAST_UP, LAST_DOWN)
 }
 
 #[test]
-fn a_table_has_gaps_and_a_native_twice(rt: HostRuntime) -> Result<(), Fail> {
-    let list = rows(rt.alloc(), &[(10, 19, 5), (30, 30, -7), (40, 50, 5)])?;
-    let map = Map::table(rt.alloc(), list)?.ok_or("a map")?;
-    for (level, expected) in [(10, 5), (19, 5), (30, -7), (40, 5), (50, 5)] {
-        assert_eq!(rt; native(&map, level)?, Some(expected));
+fn a_table_may_be_empty_or_have_the_last_priority_alone(rt: HostRuntime) {
+    assert!(rt; may_be_short(rt.alloc()));
+}
+
+/// Rows, and whether they are a table.
+const TABLES: &[(Rows, bool)] = &[
+    (&[(0, 10, 1), (10, 20, 2)], false),
+    (&[(20, 30, 1), (0, 10, 2)], false),
+    (&[(0, 10, 1), (11, 20, 2)], true),
+];
+
+/// Whether these rows are a table.
+fn is_table(alloc: Global, rows: Rows) -> Option<bool> {
+    Some(table(alloc, rows)?.is_some())
+}
+
+fn are_tables(alloc: Global) -> bool {
+    for (rows, want) in TABLES {
+        if is_table(alloc, rows) != Some(*want) {
+            return false;
+        }
     }
-    for level in [0, 9, 20, 29, 31, 39, 51, 32767] {
-        assert_eq!(rt; native(&map, level)?, None);
-    }
-    assert_eq!(rt;
-        [corba(&map, 5), corba(&map, -7), corba(&map, 6)],
-        [Some(10), Some(30), None]
-    );
-    Ok(())
+    true
 }
 
 #[test]
-fn a_table_may_be_empty_or_have_the_last_priority_alone(rt: HostRuntime) -> Result<(), Fail> {
-    let empty = Map::table(rt.alloc(), List::new(rt.alloc()))?.ok_or("a map")?;
-    assert_eq!(rt; native(&empty, 0)?, None);
-    assert_eq!(rt; corba(&empty, 0), None);
-    let list = rows(rt.alloc(), &[(32767, 32767, 1)])?;
-    let last = Map::table(rt.alloc(), list)?.ok_or("a map")?;
-    assert_eq!(rt;
-        [native(&last, 32766)?, native(&last, 32767)?],
-        [None, Some(1)]
-    );
-    assert_eq!(rt; corba(&last, 1), Some(32767));
-    Ok(())
-}
-
-#[test]
-fn rows_that_touch_or_fall_are_no_table(rt: HostRuntime) -> Result<(), Fail> {
-    let touching = rows(rt.alloc(), &[(0, 10, 1), (10, 20, 2)])?;
-    assert!(rt; Map::table(rt.alloc(), touching)?.is_none());
-    let falling = rows(rt.alloc(), &[(20, 30, 1), (0, 10, 2)])?;
-    assert!(rt; Map::table(rt.alloc(), falling)?.is_none());
-    let rising = rows(rt.alloc(), &[(0, 10, 1), (11, 20, 2)])?;
-    assert!(rt; Map::table(rt.alloc(), rising)?.is_some());
-    Ok(())
+fn rows_that_touch_or_fall_are_no_table(rt: HostRuntime) {
+    assert!(rt; are_tables(rt.alloc()));
 }

@@ -3,7 +3,7 @@
 use adapter_policies::{Setup, read_setup};
 use dynamic_servants::Servants;
 use idl_grammar::{IdlCause, IdlFault};
-use orb_base::{List, MemFile, MemFiles, Octets, Text};
+use orb_base::{List, MemFile, MemFiles, Text};
 use script_checks::{CheckCause, CheckFault};
 use servant_scripts::ScriptFault;
 use setup_servants::*;
@@ -42,105 +42,63 @@ const V: &str = "IDL:M/V:1.0";
 
 const W: &str = "IDL:M/W:1.0";
 
-fn text(alloc: Global, bytes: &str) -> Result<Text, Fail> {
-    match Text::new(alloc, bytes.as_bytes()) {
-        Ok(text) => Ok(text),
-        Err(_) => Err(Fail::new("a text")),
-    }
-}
-
-/// Puts a file behind the others, where it has content.
-fn put(
-    alloc: Global,
-    files: &mut List<MemFile>,
-    name: &str,
-    content: Option<&[u8]>,
-) -> Result<(), Fail> {
-    let Some(content) = content else {
-        return Ok(());
-    };
-    let mut bytes = Octets::new(alloc);
-    bytes.append(content)?;
-    let file = MemFile {
-        name: text(alloc, name)?,
-        bytes,
-    };
-    match files.push(file) {
-        Ok(()) => Ok(()),
-        Err(_) => Err(Fail::new("a file")),
-    }
-}
-
-/// What is in the store: the two files, where they are there, and the numbers of the reads that fail.
+/// The content of a file, if it is there: these bytes, or so many spaces.
 #[derive(Clone, Copy)]
-struct Stored<'a> {
-    idl: Option<&'a [u8]>,
-    scripts: Option<&'a [u8]>,
-    failing: &'a [u64],
+enum Content {
+    Absent,
+    Bytes(&'static [u8]),
+    Spaces(usize),
 }
 
-const EMPTY: Stored<'static> = Stored {
-    idl: None,
-    scripts: None,
-    failing: &[],
-};
+/// What is in the store: the two files, and the numbers of the reads that fail.
+#[derive(Clone, Copy)]
+struct Stored {
+    idl: Content,
+    scripts: Content,
+    failing: &'static [u64],
+}
 
-/// A store of both files.
-fn both<'a>(idl: &'a [u8], scripts: &'a [u8]) -> Stored<'a> {
-    Stored {
-        idl: Some(idl),
-        scripts: Some(scripts),
-        failing: &[],
+fn bytes_of(alloc: Global, content: Content) -> Option<Vec<u8>> {
+    match content {
+        Content::Absent => None,
+        Content::Bytes(bytes) => Vec::from_slice(alloc, bytes).ok(),
+        Content::Spaces(count) => vec![in alloc; b' '; count].ok(),
     }
 }
 
-/// What serves the setup of a configuration.
-fn served(
-    alloc: Global,
-    config: &str,
-    stored: Stored<'_>,
-) -> Result<Result<Servants, ServingFault>, Fail> {
+fn file_of(alloc: Global, name: &str, content: Content) -> Option<MemFile> {
+    let bytes = List::from_vec(bytes_of(alloc, content)?);
+    match Text::new(alloc, name.as_bytes()) {
+        Ok(name) => Some(MemFile { name, bytes }),
+        Err(_) => None,
+    }
+}
+
+/// Puts a file behind the others, where it has content. Whether there was memory.
+fn puts(alloc: Global, files: &mut List<MemFile>, name: &str, content: Content) -> bool {
+    match file_of(alloc, name, content) {
+        Some(file) => files.push(file).is_ok(),
+        None => matches!(content, Content::Absent),
+    }
+}
+
+fn store_of(alloc: Global, stored: Stored) -> Option<MemFiles> {
     let mut files = List::new(alloc);
-    put(alloc, &mut files, "m.idl", stored.idl)?;
-    put(alloc, &mut files, "m.srv", stored.scripts)?;
-    let failing = List::from_vec(Vec::from_slice(alloc, stored.failing)?);
-    let mut store = MemFiles::new(files, failing);
-    match read_setup(alloc, config.as_bytes()) {
-        Ok(setup) => Ok(servants_of(alloc, &mut store, &setup)),
-        Err(_) => Err(Fail::new("a setup")),
+    if !puts(alloc, &mut files, "m.idl", stored.idl)
+        || !puts(alloc, &mut files, "m.srv", stored.scripts)
+    {
+        return None;
+    }
+    match Vec::from_slice(alloc, stored.failing) {
+        Ok(failing) => Some(MemFiles::new(files, List::from_vec(failing))),
+        Err(_) => None,
     }
 }
 
-#[test]
-fn without_files_the_built_in_interface_is_served(rt: HostRuntime) -> Result<(), Fail> {
-    let mut store = MemFiles::new(List::new(rt.alloc()), List::new(rt.alloc()));
-    let setup = Setup::built_in(rt.alloc())?;
-    match servants_of(rt.alloc(), &mut store, &setup) {
-        Ok(servants) => {
-            assert!(rt; servants.serves(PING.as_bytes()));
-            assert!(rt; !servants.serves(V.as_bytes()));
-            Ok(())
-        }
-        Err(_) => Err(Fail::new("servants")),
-    }
-}
-
-#[test]
-fn scripts_serve_the_interfaces_of_a_file(rt: HostRuntime) -> Result<(), Fail> {
-    match served(rt.alloc(), FILED, both(IDL, SCRIPT))? {
-        Ok(servants) => {
-            assert!(rt; servants.serves(PING.as_bytes()));
-            assert!(rt; servants.serves(V.as_bytes()));
-            assert!(rt; !servants.serves(W.as_bytes()));
-            Ok(())
-        }
-        Err(_) => Err(Fail::new("servants")),
-    }
-}
-
-/// The fault that is due.
+/// What is due: servants, with interfaces and whether they serve them, or a fault.
 #[derive(Clone, Copy)]
 enum Due {
+    Serves(&'static [(&'static str, bool)]),
     Idl(IdlFault),
     Script(ScriptFault),
     Check(CheckFault),
@@ -150,21 +108,101 @@ enum Due {
     Unread,
 }
 
-/// Whether this fault is told.
-fn tells(answer: Result<Servants, ServingFault>, due: Due) -> bool {
-    match answer {
-        Ok(_) => false,
-        Err(ServingFault::Idl(fault)) => matches!(due, Due::Idl(due) if due == fault),
-        Err(ServingFault::Script(fault)) => matches!(due, Due::Script(due) if due == fault),
-        Err(ServingFault::Check(fault)) => matches!(due, Due::Check(due) if due == fault),
-        Err(ServingFault::Object(fault)) => {
-            matches!(due, Due::Object(path) if fault.path.as_slice() == path.as_bytes())
+/// Whether these servants are due.
+fn serves(servants: &Servants, due: Due) -> bool {
+    let Due::Serves(interfaces) = due else {
+        return false;
+    };
+    for (interface, want) in interfaces {
+        if servants.serves(interface.as_bytes()) != *want {
+            return false;
         }
-        Err(ServingFault::Absent(role)) => matches!(due, Due::Absent(due) if due == role),
-        Err(ServingFault::TooLong(role)) => matches!(due, Due::TooLong(due) if due == role),
-        Err(ServingFault::ReadFault) => matches!(due, Due::Unread),
-        Err(ServingFault::NoMemory) => false,
     }
+    true
+}
+
+/// Whether this fault is due.
+fn tells(fault: &ServingFault, due: Due) -> bool {
+    match due {
+        Due::Serves(_) => false,
+        Due::Idl(want) => matches!(fault, ServingFault::Idl(got) if *got == want),
+        Due::Script(want) => matches!(fault, ServingFault::Script(got) if *got == want),
+        Due::Check(want) => matches!(fault, ServingFault::Check(got) if *got == want),
+        Due::Object(path) => {
+            matches!(fault, ServingFault::Object(got) if got.path.as_slice() == path.as_bytes())
+        }
+        Due::Absent(want) => matches!(fault, ServingFault::Absent(got) if *got == want),
+        Due::TooLong(want) => matches!(fault, ServingFault::TooLong(got) if *got == want),
+        Due::Unread => matches!(fault, ServingFault::ReadFault),
+    }
+}
+
+/// Whether this comes of a setup over a store.
+fn comes(alloc: Global, setup: &Setup, stored: Stored, due: Due) -> bool {
+    let Some(mut store) = store_of(alloc, stored) else {
+        return false;
+    };
+    match servants_of(alloc, &mut store, setup) {
+        Ok(servants) => serves(&servants, due),
+        Err(fault) => tells(&fault, due),
+    }
+}
+
+/// Whether this comes of a configuration over a store.
+fn is_due(alloc: Global, config: &str, stored: Stored, due: Due) -> bool {
+    match read_setup(alloc, config.as_bytes()) {
+        Ok(setup) => comes(alloc, &setup, stored, due),
+        Err(_) => false,
+    }
+}
+
+const EMPTY: Stored = Stored {
+    idl: Content::Absent,
+    scripts: Content::Absent,
+    failing: &[],
+};
+
+/// Whether servants of these interfaces come of the built-in setup, without files.
+fn built_in_serves(alloc: Global, interfaces: &'static [(&'static str, bool)]) -> bool {
+    match Setup::built_in(alloc) {
+        Ok(setup) => comes(alloc, &setup, EMPTY, Due::Serves(interfaces)),
+        Err(_) => false,
+    }
+}
+
+const BUILT_IN: &[(&str, bool)] = &[(PING, true), (V, false)];
+
+#[test]
+fn without_files_the_built_in_interface_is_served(rt: HostRuntime) {
+    assert!(rt; built_in_serves(rt.alloc(), BUILT_IN));
+}
+
+/// Whether this comes of each configuration over a store of both files.
+fn all_due(alloc: Global, rows: &[(&'static [u8], &'static [u8], &str, Due)]) -> bool {
+    for (idl, scripts, config, due) in rows {
+        let stored = Stored {
+            idl: Content::Bytes(idl),
+            scripts: Content::Bytes(scripts),
+            failing: &[],
+        };
+        if !is_due(alloc, config, stored, *due) {
+            return false;
+        }
+    }
+    true
+}
+
+/// Texts of interfaces and of scripts, a configuration, and what comes of them.
+const SERVED: &[(&[u8], &[u8], &str, Due)] = &[(
+    IDL,
+    SCRIPT,
+    FILED,
+    Due::Serves(&[(PING, true), (V, true), (W, false)]),
+)];
+
+#[test]
+fn scripts_serve_the_interfaces_of_a_file(rt: HostRuntime) {
+    assert!(rt; all_due(rt.alloc(), SERVED));
 }
 
 const GONE: Due = Due::Idl(IdlFault {
@@ -184,67 +222,90 @@ const OTHER_NAME: Due = Due::Check(CheckFault {
     column: 25,
 });
 
+/// The same, with the first fault of each.
+const FAULTS: &[(&[u8], &[u8], &str, Due)] = &[
+    (BAD_IDL, SCRIPT, FILED, GONE),
+    (BAD_IDL, BAD_SCRIPT, FILED, GONE),
+    (IDL, BAD_SCRIPT, FILED, NO_OPERAND),
+    (IDL, BAD_SCRIPT, UNSERVED, NO_OPERAND),
+    (IDL, UNCHECKED, FILED, OTHER_NAME),
+    (IDL, UNCHECKED, UNSERVED, OTHER_NAME),
+    (IDL, SCRIPT, UNSERVED, Due::Object("object[2].interface")),
+    (IDL, b"", FILED, Due::Object("object[1].interface")),
+    (IDL, SCRIPT, UNFILED, Due::Object("object[0].interface")),
+];
+
 #[test]
-fn the_first_fault_is_told(rt: HostRuntime) -> Result<(), Fail> {
-    for (idl, scripts, config, due) in [
-        (BAD_IDL, SCRIPT, FILED, GONE),
-        (BAD_IDL, BAD_SCRIPT, FILED, GONE),
-        (IDL, BAD_SCRIPT, FILED, NO_OPERAND),
-        (IDL, BAD_SCRIPT, UNSERVED, NO_OPERAND),
-        (IDL, UNCHECKED, FILED, OTHER_NAME),
-        (IDL, UNCHECKED, UNSERVED, OTHER_NAME),
-        (IDL, SCRIPT, UNSERVED, Due::Object("object[2].interface")),
-        (
-            IDL,
-            b"".as_slice(),
-            FILED,
-            Due::Object("object[1].interface"),
-        ),
-        (IDL, SCRIPT, UNFILED, Due::Object("object[0].interface")),
-    ] {
-        let answer = served(rt.alloc(), config, both(idl, scripts))?;
-        assert!(rt; tells(answer, due));
+fn the_first_fault_is_told(rt: HostRuntime) {
+    assert!(rt; all_due(rt.alloc(), FAULTS));
+}
+
+/// One byte more than a text may have.
+const LONG: Content = Content::Spaces(1_048_577);
+
+/// What is stored for `UNSERVED`: the texts of interfaces and of scripts and the reads that fail, with what is told.
+const UNREAD: &[(Content, Content, &[u64], Due)] = &[
+    (
+        Content::Absent,
+        Content::Bytes(SCRIPT),
+        &[],
+        Due::Absent(TextRole::Idl),
+    ),
+    (
+        Content::Absent,
+        Content::Absent,
+        &[],
+        Due::Absent(TextRole::Idl),
+    ),
+    (
+        Content::Bytes(IDL),
+        Content::Absent,
+        &[],
+        Due::Absent(TextRole::Scripts),
+    ),
+    (Content::Bytes(BAD_IDL), Content::Absent, &[], GONE),
+    (
+        LONG,
+        Content::Bytes(BAD_SCRIPT),
+        &[],
+        Due::TooLong(TextRole::Idl),
+    ),
+    (
+        Content::Bytes(IDL),
+        LONG,
+        &[],
+        Due::TooLong(TextRole::Scripts),
+    ),
+    (Content::Bytes(BAD_IDL), LONG, &[], GONE),
+    (
+        Content::Bytes(IDL),
+        Content::Bytes(SCRIPT),
+        &[0],
+        Due::Unread,
+    ),
+    (
+        Content::Bytes(IDL),
+        Content::Bytes(SCRIPT),
+        &[1],
+        Due::Unread,
+    ),
+];
+
+fn all_unread(alloc: Global) -> bool {
+    for (idl, scripts, failing, due) in UNREAD {
+        let stored = Stored {
+            idl: *idl,
+            scripts: *scripts,
+            failing,
+        };
+        if !is_due(alloc, UNSERVED, stored, *due) {
+            return false;
+        }
     }
-    Ok(())
+    true
 }
 
 #[test]
-fn a_text_that_is_not_read_is_told(rt: HostRuntime) -> Result<(), Fail> {
-    let spaces = vec![in rt.alloc(); b' '; 1_048_577]?;
-    let long = spaces.as_slice();
-    let no_scripts = Stored {
-        idl: Some(IDL),
-        ..EMPTY
-    };
-    let bad_idl_alone = Stored {
-        idl: Some(BAD_IDL),
-        ..EMPTY
-    };
-    let no_idl = Stored {
-        scripts: Some(SCRIPT),
-        ..EMPTY
-    };
-    let first_fails = Stored {
-        failing: &[0],
-        ..both(IDL, SCRIPT)
-    };
-    let second_fails = Stored {
-        failing: &[1],
-        ..both(IDL, SCRIPT)
-    };
-    for (stored, due) in [
-        (no_idl, Due::Absent(TextRole::Idl)),
-        (EMPTY, Due::Absent(TextRole::Idl)),
-        (no_scripts, Due::Absent(TextRole::Scripts)),
-        (bad_idl_alone, GONE),
-        (both(long, BAD_SCRIPT), Due::TooLong(TextRole::Idl)),
-        (both(IDL, long), Due::TooLong(TextRole::Scripts)),
-        (both(BAD_IDL, long), GONE),
-        (first_fails, Due::Unread),
-        (second_fails, Due::Unread),
-    ] {
-        let answer = served(rt.alloc(), UNSERVED, stored)?;
-        assert!(rt; tells(answer, due));
-    }
-    Ok(())
+fn a_text_that_is_not_read_is_told(rt: HostRuntime) {
+    assert!(rt; all_unread(rt.alloc()));
 }

@@ -13,7 +13,7 @@ const LANES: &str =
     "pool = { lanes = [{ priority = 1, static = 1, dynamic = 0 }, { priority = 5, static = 1, dynamic = 0 }] }\n";
 
 /// Faults of the pool, the server and the map, each with the fault of a later cause beside it.
-const PARTS: [(&str, ConfigCause, &str); 6] = [
+const PARTS: &[(&str, ConfigCause, &str)] = &[
     (
         "pool = { odd = 1, static = 65 }\nserver = { even = 1 }",
         ConfigCause::UnknownKey,
@@ -48,7 +48,7 @@ const PARTS: [(&str, ConfigCause, &str); 6] = [
 
 /// Faults of adapters and objects, each with the fault of a later cause beside it; the last three have no native priority, of the
 /// pool, of an adapter, of an object.
-const LINKS: [(&str, ConfigCause, &str); 7] = [
+const LINKS: &[(&str, ConfigCause, &str)] = &[
     (
         "adapter = [{ name = \"a\", model = \"SERVER_DECLARED\", priority = 1, bands = [{ low = 1, high = 5 }, { low = 5, high = 9 }] }, { name = \"a\", model = \"SERVER_DECLARED\", priority = 1, bands = [{ low = 2, high = 1 }] }]\nobject = [{ key = \"k\", adapter = \"a\", interface = \"i\" }]",
         ConfigCause::BandEmpty,
@@ -87,7 +87,7 @@ const LINKS: [(&str, ConfigCause, &str); 7] = [
 ];
 
 /// Faults of priorities, lanes and the map, behind lanes 1 and 5, each with a fault that comes later beside it.
-const LEVELS: [(&str, ConfigCause, &str); 4] = [
+const LEVELS: &[(&str, ConfigCause, &str)] = &[
     (
         "adapter = [{ name = \"a\", model = \"CLIENT_PROPAGATED\", priority = 1 }, { name = \"b\", model = \"SERVER_DECLARED\", priority = 2 }]\nobject = [{ key = \"k\", adapter = \"b\", interface = \"i\", priority = 3 }, { key = \"l\", adapter = \"a\", interface = \"i\", priority = 5 }]",
         ConfigCause::PriorityNotAllowed,
@@ -112,15 +112,15 @@ const LEVELS: [(&str, ConfigCause, &str); 4] = [
 
 #[test]
 fn the_first_fault_of_a_part_is_told(rt: HostRuntime) {
-    assert!(rt; all_refused(rt.alloc(), "", OBJECT, PARTS.as_slice()));
+    assert!(rt; all_refused(rt.alloc(), "", OBJECT, PARTS));
 }
 
 #[test]
 fn the_first_fault_between_names_is_told(rt: HostRuntime) {
-    assert!(rt; all_refused(rt.alloc(), POOL, "", LINKS.as_slice()));
+    assert!(rt; all_refused(rt.alloc(), POOL, "", LINKS));
 }
 
 #[test]
 fn the_first_fault_of_a_priority_is_told(rt: HostRuntime) {
-    assert!(rt; all_refused(rt.alloc(), LANES, "", LEVELS.as_slice()));
+    assert!(rt; all_refused(rt.alloc(), LANES, "", LEVELS));
 }

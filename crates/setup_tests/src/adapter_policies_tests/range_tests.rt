@@ -13,7 +13,7 @@ const OBJECT: &str =
     "pool = { static = 1, dynamic = 0, default_priority = 1 }\nadapter = [{ name = \"main\", model = \"SERVER_DECLARED\", priority = 1 }]\nobject = [{ adapter = \"main\", interface = \"i\", ";
 
 /// Pools with a number at an end of its range.
-const POOLS: [&str; 5] = [
+const POOLS: &[&str] = &[
     "pool = { static = 0, dynamic = 64, default_priority = 0 }",
     "pool = { static = 64, dynamic = 0, default_priority = 32767 }",
     "pool = { static = 1, dynamic = 0, default_priority = 1, buffering = true, max_buffered_requests = 1, max_request_buffer_size = 1 }",
@@ -22,7 +22,7 @@ const POOLS: [&str; 5] = [
 ];
 
 /// Pools with a number one past an end of its range.
-const POOLS_PAST: [(&str, ConfigCause, &str); 8] = [
+const POOLS_PAST: &[(&str, ConfigCause, &str)] = &[
     (
         "pool = { static = -1 }",
         ConfigCause::OutOfRange,
@@ -66,7 +66,7 @@ const POOLS_PAST: [(&str, ConfigCause, &str); 8] = [
 ];
 
 /// Servers and maps with numbers at an end of their ranges.
-const HEADS: [&str; 6] = [
+const HEADS: &[&str] = &[
     "server = { slots = 1, per_slot = 128 }",
     "server = { slots = 16, per_slot = 1 }",
     "server = { max_calls = 1, max_bytes = 1 }",
@@ -76,7 +76,7 @@ const HEADS: [&str; 6] = [
 ];
 
 /// Servers and maps with a number one past an end of its range.
-const HEADS_PAST: [(&str, ConfigCause, &str); 8] = [
+const HEADS_PAST: &[(&str, ConfigCause, &str)] = &[
     (
         "server = { slots = 0 }",
         ConfigCause::OutOfRange,
@@ -120,7 +120,7 @@ const HEADS_PAST: [(&str, ConfigCause, &str); 8] = [
 ];
 
 /// What an object says of its key and priority, at an end of a range: keys have 1 to 64 bytes.
-const OBJECTS: [&str; 4] = [
+const OBJECTS: &[&str] = &[
     "key = \"k\", priority = 0 }]",
     "key = \"k\", priority = 32767 }]",
     "key = \"0123456789abcdef0123456789abcdef0123456789abcdef0123456789abcdef\" }]",
@@ -128,7 +128,7 @@ const OBJECTS: [&str; 4] = [
 ];
 
 /// The same, one past an end.
-const OBJECTS_PAST: [(&str, ConfigCause, &str); 5] = [
+const OBJECTS_PAST: &[(&str, ConfigCause, &str)] = &[
     ("key = \"\" }]", ConfigCause::OutOfRange, "object[0].key"),
     (
         "key = \"0123456789abcdef0123456789abcdef0123456789abcdef0123456789abcdefg\" }]",
@@ -154,30 +154,30 @@ const OBJECTS_PAST: [(&str, ConfigCause, &str); 5] = [
 
 #[test]
 fn pools_hold_up_to_both_ends(rt: HostRuntime) {
-    assert!(rt; all_accepted(rt.alloc(), "", SERVED, POOLS.as_slice()));
+    assert!(rt; all_accepted(rt.alloc(), "", SERVED, POOLS));
 }
 
 #[test]
 fn pools_end_one_past(rt: HostRuntime) {
-    assert!(rt; all_refused(rt.alloc(), "", SERVED, POOLS_PAST.as_slice()));
+    assert!(rt; all_refused(rt.alloc(), "", SERVED, POOLS_PAST));
 }
 
 #[test]
 fn servers_and_maps_hold_up_to_both_ends(rt: HostRuntime) {
-    assert!(rt; all_accepted(rt.alloc(), POOL, SERVED, HEADS.as_slice()));
+    assert!(rt; all_accepted(rt.alloc(), POOL, SERVED, HEADS));
 }
 
 #[test]
 fn servers_and_maps_end_one_past(rt: HostRuntime) {
-    assert!(rt; all_refused(rt.alloc(), POOL, SERVED, HEADS_PAST.as_slice()));
+    assert!(rt; all_refused(rt.alloc(), POOL, SERVED, HEADS_PAST));
 }
 
 #[test]
 fn objects_hold_up_to_both_ends(rt: HostRuntime) {
-    assert!(rt; all_accepted(rt.alloc(), OBJECT, "", OBJECTS.as_slice()));
+    assert!(rt; all_accepted(rt.alloc(), OBJECT, "", OBJECTS));
 }
 
 #[test]
 fn objects_end_one_past(rt: HostRuntime) {
-    assert!(rt; all_refused(rt.alloc(), OBJECT, "", OBJECTS_PAST.as_slice()));
+    assert!(rt; all_refused(rt.alloc(), OBJECT, "", OBJECTS_PAST));
 }

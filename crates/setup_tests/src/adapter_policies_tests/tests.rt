@@ -1,5 +1,6 @@
 //! Configurations, each judged by hand from the rules of its keys and relations.
 
+use super::reference_tests::{Published, is_published};
 use adapter_policies::*;
 use orb_base::{Priority, PriorityModel};
 use std::alloc::Global;
@@ -16,7 +17,7 @@ const LANES: &str =
 const FIRST: &str = "[[object]]\nkey = \"a\"\nadapter = \"low\"\ninterface = \"i\"\n";
 
 /// Texts that are refused by the keys of the document or of its tables.
-const DOCUMENTS: [(&str, ConfigCause, &str); 10] = [
+const DOCUMENTS: &[(&str, ConfigCause, &str)] = &[
     ("pool = ", ConfigCause::NotToml, ""),
     ("a = 1\na = 1", ConfigCause::NotToml, ""),
     (
@@ -50,7 +51,7 @@ const DOCUMENTS: [(&str, ConfigCause, &str); 10] = [
 ];
 
 /// Pools that are refused, before an adapter and an object.
-const POOLS: [(&str, ConfigCause, &str); 12] = [
+const POOLS: &[(&str, ConfigCause, &str)] = &[
     ("lanes = []", ConfigCause::OutOfRange, "pool.lanes"),
     (
         "static = 1\ndynamic = 65",
@@ -106,7 +107,7 @@ const POOLS: [(&str, ConfigCause, &str); 12] = [
 ];
 
 /// Servers and maps that are refused, behind a pool.
-const HEADS: [(&str, ConfigCause, &str); 9] = [
+const HEADS: &[(&str, ConfigCause, &str)] = &[
     (
         "server = { slots = 2, per_slot = 65 }",
         ConfigCause::SlotLimit,
@@ -155,7 +156,7 @@ const HEADS: [(&str, ConfigCause, &str); 9] = [
 ];
 
 /// A second adapter and a first object, which are refused between an adapter and an object.
-const PAIRS: [(&str, ConfigCause, &str); 11] = [
+const PAIRS: &[(&str, ConfigCause, &str)] = &[
     (
         "[[adapter]]\nname = \"high\"\nmodel = \"CLIENT\"\npriority = 20\n[[object]]\nkey = \"b\"\nadapter = \"high\"\ninterface = \"i\"\n",
         ConfigCause::OutOfRange,
@@ -213,21 +214,59 @@ const PAIRS: [(&str, ConfigCause, &str); 11] = [
     ),
 ];
 
-/// Whether an answer is a refusal with this cause at this path.
-pub fn tells(answer: Result<Setup, SetupError>, cause: ConfigCause, path: &str) -> bool {
-    match answer {
-        Err(SetupError::Refused(fault)) => {
+/// What is due of a configuration.
+#[derive(Clone, Copy)]
+pub enum Due {
+    /// It is refused with this cause at this path.
+    Refused(ConfigCause, &'static str),
+    /// It is a setup.
+    Accepted,
+    /// In its setup the object of this key has this number.
+    Numbered(&'static [u8], u16),
+    /// Its setup has the pool, the limits, the objects, the adapters and the map of the configuration with each table.
+    Whole,
+    /// Its setup is the built-in one.
+    BuiltIn,
+    /// Its setup has this object with its reference.
+    Published(Published),
+}
+
+/// Whether this fault is due.
+fn tells(error: &SetupError, due: Due) -> bool {
+    match (error, due) {
+        (SetupError::Refused(fault), Due::Refused(cause, path)) => {
             fault.cause == cause && fault.path.as_slice() == path.as_bytes()
         }
         _ => false,
     }
 }
 
-/// Whether a text between two others is refused with this cause at this path.
-fn is_refused(alloc: Global, before: &str, behind: &str, row: &(&str, ConfigCause, &str)) -> bool {
-    let text = row.0;
+/// Whether this setup is due.
+fn holds(alloc: Global, setup: &Setup, due: Due) -> bool {
+    match due {
+        Due::Refused(..) => false,
+        Due::Accepted => true,
+        Due::Numbered(key, number) => setup.find(key) == Some(number),
+        Due::Whole => {
+            has_limits(setup) && has_objects(setup) && has_adapters(setup) && has_map(setup)
+        }
+        Due::BuiltIn => is_built_in(setup),
+        Due::Published(row) => is_published(alloc, setup, row),
+    }
+}
+
+/// Whether this comes of a configuration.
+pub fn comes(alloc: Global, text: &[u8], due: Due) -> bool {
+    match read_setup(alloc, text) {
+        Ok(setup) => holds(alloc, &setup, due),
+        Err(error) => tells(&error, due),
+    }
+}
+
+/// Whether this comes of a text between two others.
+fn comes_between(alloc: Global, before: &str, text: &str, behind: &str, due: Due) -> bool {
     match format!(in alloc; "{before}{text}{behind}") {
-        Ok(text) => tells(read_setup(alloc, text.as_bytes()), row.1, row.2),
+        Ok(text) => comes(alloc, text.as_bytes(), due),
         Err(_) => false,
     }
 }
@@ -237,45 +276,44 @@ pub fn all_refused(
     alloc: Global,
     before: &str,
     behind: &str,
-    rows: &[(&str, ConfigCause, &str)],
+    rows: &[(&str, ConfigCause, &'static str)],
 ) -> bool {
-    rows.iter()
-        .all(|row| is_refused(alloc, before, behind, row))
-}
-
-/// Whether a text between two others is a configuration.
-fn is_accepted(alloc: Global, before: &str, behind: &str, text: &str) -> bool {
-    match format!(in alloc; "{before}{text}{behind}") {
-        Ok(text) => read_setup(alloc, text.as_bytes()).is_ok(),
-        Err(_) => false,
+    for (text, cause, path) in rows {
+        if !comes_between(alloc, before, text, behind, Due::Refused(*cause, path)) {
+            return false;
+        }
     }
+    true
 }
 
 /// Whether each text between two others is a configuration.
 pub fn all_accepted(alloc: Global, before: &str, behind: &str, texts: &[&str]) -> bool {
-    texts
-        .iter()
-        .all(|text| is_accepted(alloc, before, behind, text))
+    for text in texts {
+        if !comes_between(alloc, before, text, behind, Due::Accepted) {
+            return false;
+        }
+    }
+    true
 }
 
 #[test]
 fn a_document_is_judged_key_by_key(rt: HostRuntime) {
-    assert!(rt; all_refused(rt.alloc(), "", "", DOCUMENTS.as_slice()));
+    assert!(rt; all_refused(rt.alloc(), "", "", DOCUMENTS));
 }
 
 #[test]
 fn a_pool_is_judged_key_by_key(rt: HostRuntime) {
-    assert!(rt; all_refused(rt.alloc(), "[pool]\n", SERVED, POOLS.as_slice()));
+    assert!(rt; all_refused(rt.alloc(), "[pool]\n", SERVED, POOLS));
 }
 
 #[test]
 fn a_pool_a_server_and_a_map_hold_together(rt: HostRuntime) {
-    assert!(rt; all_refused(rt.alloc(), POOL, SERVED, HEADS.as_slice()));
+    assert!(rt; all_refused(rt.alloc(), POOL, SERVED, HEADS));
 }
 
 #[test]
 fn adapters_and_objects_fit_together(rt: HostRuntime) {
-    assert!(rt; all_refused(rt.alloc(), LANES, FIRST, PAIRS.as_slice()));
+    assert!(rt; all_refused(rt.alloc(), LANES, FIRST, PAIRS));
 }
 
 const FILES: &str = "idl = \"m.idl\"\nscripts = \"m.srv\"\n";
@@ -283,72 +321,88 @@ const FILES: &str = "idl = \"m.idl\"\nscripts = \"m.srv\"\n";
 const REST: &str =
     "[server]\nslots = 3\nmax_calls = 7\n[map]\nkind = \"linear\"\ncorba_low = 0\ncorba_high = 99\nnative_low = -10\nnative_high = -1\n[[adapter]]\nname = \"high\"\nmodel = \"SERVER_DECLARED\"\npriority = 20\nbands = [{ low = 0, high = 10 }]\n[[object]]\nkey = \"a\"\nadapter = \"high\"\ninterface = \"i\"\n[[object]]\nkey = \"b\"\nadapter = \"high\"\ninterface = \"j\"\npriority = 10\n";
 
-/// A setup with each table.
-pub fn whole(alloc: Global) -> Result<Setup, Fail> {
-    let text = format!(in alloc; "{FILES}{LANES}{REST}")?;
-    match read_setup(alloc, text.as_bytes()) {
-        Ok(setup) => Ok(setup),
-        Err(_) => Err(Fail::new("a setup")),
+/// Whether this comes of the configuration with each table.
+pub fn whole_comes(alloc: Global, due: Due) -> bool {
+    comes_between(alloc, FILES, LANES, REST, due)
+}
+
+/// Whether this comes of no configuration.
+pub fn built_in_comes(alloc: Global, due: Due) -> bool {
+    match Setup::built_in(alloc) {
+        Ok(setup) => holds(alloc, &setup, due),
+        Err(_) => false,
+    }
+}
+
+/// Whether there is an object at a place, of this adapter and priority.
+fn is_served(setup: &Setup, place: u16, adapter: u8, priority: i16) -> bool {
+    match setup.object(place) {
+        Some(object) => object.adapter == adapter && object.priority.get() == priority,
+        None => false,
+    }
+}
+
+/// Whether the setup with each table has its pool, its limits and its files.
+fn has_limits(setup: &Setup) -> bool {
+    let pool = setup.pool();
+    pool.laned
+        && pool.borrowing
+        && pool.buffering
+        && pool.lanes.len() == 2
+        && pool.max_requests == 3
+        && pool.max_bytes == 120
+        && pool.run_calls == 7
+        && pool.run_bytes == 67_108_864
+        && setup.slots() == 3
+        && setup.per_slot() == 42
+        && setup.idl().is_some()
+        && setup.scripts().is_some()
+}
+
+/// Whether that setup has its two objects, and no third.
+fn has_objects(setup: &Setup) -> bool {
+    setup.find(b"b") == Some(1)
+        && setup.find(b"c") == None
+        && is_served(setup, 0, 1, 20)
+        && is_served(setup, 1, 1, 10)
+        && setup.object(2).is_none()
+}
+
+/// Whether its second adapter is the last, and has its model and a band.
+fn has_adapters(setup: &Setup) -> bool {
+    match setup.adapter(1) {
+        Some(adapter) => {
+            adapter.model == PriorityModel::ServerDeclared
+                && adapter.bands.len() == 1
+                && setup.adapter(2).is_none()
+        }
+        None => false,
+    }
+}
+
+/// Whether its map takes 20 to -8.
+fn has_map(setup: &Setup) -> bool {
+    match Priority::new(20) {
+        Some(priority) => setup.map().to_native(priority) == Some(-8),
+        None => false,
     }
 }
 
 #[test]
-fn a_setup_has_its_pool_and_limits(rt: HostRuntime) -> Result<(), Fail> {
-    let setup = whole(rt.alloc())?;
-    let pool = setup.pool();
-    assert!(rt; pool.laned && pool.borrowing && pool.buffering && pool.lanes.len() == 2);
-    assert_eq!(rt; (pool.max_requests, pool.max_bytes), (3, 120));
-    assert_eq!(rt; (pool.run_calls, pool.run_bytes), (7, 67_108_864));
-    assert_eq!(rt; (setup.slots(), setup.per_slot()), (3, 42));
-    assert!(rt; setup.idl().is_some() && setup.scripts().is_some());
-    Ok(())
+fn a_setup_has_its_pool_limits_objects_adapters_and_map(rt: HostRuntime) {
+    assert!(rt; whole_comes(rt.alloc(), Due::Whole));
 }
 
-/// The adapter and the priority of an object.
-fn served(object: Option<&ObjectSpec>) -> Option<(u8, i16)> {
-    let object = object?;
-    Some((object.adapter, object.priority.get()))
-}
-
-/// The model of an adapter, and how many bands it has.
-fn declared(adapter: Option<&AdapterSpec>) -> Option<(PriorityModel, usize)> {
-    let adapter = adapter?;
-    Some((adapter.model, adapter.bands.len()))
+/// Whether a setup has one lane, the limits where none are said, and an object `ping`.
+fn is_built_in(setup: &Setup) -> bool {
+    setup.find(b"ping") == Some(0)
+        && setup.pool().lanes.len() == 1
+        && setup.slots() == 1
+        && setup.per_slot() == 128
+        && is_served(setup, 0, 0, 100)
 }
 
 #[test]
-fn a_setup_has_its_objects_and_adapters(rt: HostRuntime) -> Result<(), Fail> {
-    let setup = whole(rt.alloc())?;
-    assert_eq!(rt; setup.find(b"b"), Some(1));
-    assert_eq!(rt; setup.find(b"c"), None);
-    assert_eq!(rt; served(setup.object(0)), Some((1, 20)));
-    assert_eq!(rt; served(setup.object(1)), Some((1, 10)));
-    assert_eq!(rt;
-        declared(setup.adapter(1)),
-        Some((PriorityModel::ServerDeclared, 1))
-    );
-    assert!(rt; setup.object(2).is_none() && setup.adapter(2).is_none());
-    Ok(())
-}
-
-#[test]
-fn a_setup_has_its_map(rt: HostRuntime) -> Result<(), Fail> {
-    let setup = whole(rt.alloc())?;
-    let Some(p) = Priority::new(20) else {
-        return Err(Fail::new("a priority"));
-    };
-    assert_eq!(rt; setup.map().to_native(p), Some(-8));
-    Ok(())
-}
-
-#[test]
-fn the_built_in_setup_has_ping(rt: HostRuntime) -> Result<(), Fail> {
-    let Ok(setup) = Setup::built_in(rt.alloc()) else {
-        return Err(Fail::new("a setup"));
-    };
-    assert_eq!(rt; setup.find(b"ping"), Some(0));
-    assert_eq!(rt; setup.pool().lanes.len(), 1);
-    assert_eq!(rt; (setup.slots(), setup.per_slot()), (1, 128));
-    assert_eq!(rt; served(setup.object(0)), Some((0, 100)));
-    Ok(())
+fn the_built_in_setup_has_ping(rt: HostRuntime) {
+    assert!(rt; built_in_comes(rt.alloc(), Due::BuiltIn));
 }

@@ -1,8 +1,9 @@
 //! Texts and lists of a configuration: what is no TOML, values of other kinds, and the greatest counts.
 
-use super::tests::{all_accepted, all_refused, tells};
+use super::tests::{Due, all_accepted, all_refused, comes};
 use adapter_policies::*;
-use std::alloc::{AllocError, Global};
+use std::alloc::Global;
+use std::fmt::Write;
 use std::test::*;
 
 const SERVED: &str =
@@ -11,7 +12,7 @@ const SERVED: &str =
 const POOL: &str = "pool = { static = 1, dynamic = 0, default_priority = 1 }\n";
 
 /// Texts that are no TOML, before an adapter and an object.
-const NO_TOML: [(&str, ConfigCause, &str); 4] = [
+const NO_TOML: &[(&str, ConfigCause, &str)] = &[
     (
         "pool = { static = 1, static = 1 }",
         ConfigCause::NotToml,
@@ -27,7 +28,7 @@ const NO_TOML: [(&str, ConfigCause, &str); 4] = [
 ];
 
 /// Values of another kind than their key's, behind a pool and before an adapter and an object.
-const KINDS: [(&str, ConfigCause, &str); 6] = [
+const KINDS: &[(&str, ConfigCause, &str)] = &[
     ("server = 1979-05-27", ConfigCause::WrongKind, "server"),
     (
         "server = { slots = 1979-05-27T07:32:00Z }",
@@ -56,66 +57,97 @@ const KINDS: [(&str, ConfigCause, &str); 6] = [
     ),
 ];
 
-/// A byte order mark is no part of the text.
-const MARKED: [&str; 2] = ["\u{feff}", "\u{feff}# a configuration\r\n"];
+/// Bytes that are no text, so no TOML.
+const NO_TEXT: &[&[u8]] = &[b"# \xff\n", b"\xc0\x80"];
+
+/// A byte order mark is no part of the text, before a pool.
+const MARKED: &[&str] = &["\u{feff}", "\u{feff}# a configuration\r\n"];
 
 #[test]
 fn what_is_no_toml_is_told_so(rt: HostRuntime) {
-    assert!(rt; all_refused(rt.alloc(), "", SERVED, NO_TOML.as_slice()));
+    assert!(rt; all_refused(rt.alloc(), "", SERVED, NO_TOML));
+}
+
+fn all_broken(alloc: Global) -> bool {
+    for bytes in NO_TEXT {
+        if !comes(alloc, bytes, Due::Refused(ConfigCause::NotToml, "")) {
+            return false;
+        }
+    }
+    true
 }
 
 #[test]
 fn bytes_that_are_no_text_are_no_toml(rt: HostRuntime) {
-    let broken = read_setup(rt.alloc(), b"# \xff\n");
-    assert!(rt; tells(broken, ConfigCause::NotToml, ""));
-    let overlong = read_setup(rt.alloc(), b"\xc0\x80");
-    assert!(rt; tells(overlong, ConfigCause::NotToml, ""));
+    assert!(rt; all_broken(rt.alloc()));
 }
 
 #[test]
 fn a_value_has_its_keys_kind(rt: HostRuntime) {
-    assert!(rt; all_refused(rt.alloc(), POOL, SERVED, KINDS.as_slice()));
+    assert!(rt; all_refused(rt.alloc(), POOL, SERVED, KINDS));
+}
+
+fn all_marked(alloc: Global) -> bool {
+    for mark in MARKED {
+        if !all_accepted(alloc, mark, SERVED, &[POOL]) {
+            return false;
+        }
+    }
+    true
 }
 
 #[test]
-fn a_byte_order_mark_is_passed_over(rt: HostRuntime) -> Result<(), Fail> {
-    let rest = format!(in rt.alloc(); "{POOL}{SERVED}")?;
-    assert!(rt; all_accepted(rt.alloc(), "", rest.as_str(), MARKED.as_slice()));
-    Ok(())
+fn a_byte_order_mark_is_passed_over(rt: HostRuntime) {
+    assert!(rt; all_marked(rt.alloc()));
 }
 
-/// So many entries, each its number between two texts.
-fn entries(alloc: Global, count: u32, before: &str, behind: &str) -> Result<String, AllocError> {
-    let mut text = String::new(alloc);
+/// What stands before the objects.
+const LISTED: &str =
+    "pool = { static = 1, dynamic = 0, default_priority = 1 }\nadapter = [{ name = \"main\", model = \"CLIENT_PROPAGATED\", priority = 1 }]\nobject = [";
+
+/// Puts so many objects behind a text. Whether there was memory.
+fn puts_objects(text: &mut String, count: u32) -> bool {
     for n in 0..count {
-        let entry = format!(in alloc; "{before}{n}{behind}")?;
-        text.push_str(entry.as_str())?;
+        let done = write!(
+            text,
+            "{{ key = \"k{n}\", adapter = \"main\", interface = \"i\" }},"
+        );
+        if done.is_err() {
+            return false;
+        }
     }
-    Ok(text)
+    true
 }
 
 /// A configuration of so many objects.
-fn objects(alloc: Global, count: u32) -> Result<String, AllocError> {
-    let list = entries(
-        alloc,
-        count,
-        "{ key = \"k",
-        "\", adapter = \"main\", interface = \"i\" },",
-    )?;
-    format!(in alloc;
-        "{POOL}adapter = [{{ name = \"main\", model = \"CLIENT_PROPAGATED\", priority = 1 }}]\nobject = [{list}]\n"
-    )
+fn objects(alloc: Global, count: u32) -> Option<String> {
+    let mut text = String::new(alloc);
+    if text.push_str(LISTED).is_ok()
+        && puts_objects(&mut text, count)
+        && text.push_str("]\n").is_ok()
+    {
+        Some(text)
+    } else {
+        None
+    }
+}
+
+/// Whether this comes of a configuration of so many objects.
+fn comes_of_many(alloc: Global, count: u32, due: Due) -> bool {
+    match objects(alloc, count) {
+        Some(text) => comes(alloc, text.as_bytes(), due),
+        None => false,
+    }
 }
 
 #[test]
-fn there_are_up_to_1024_objects(rt: HostRuntime) -> Result<(), Fail> {
-    let text = objects(rt.alloc(), 1024)?;
-    match read_setup(rt.alloc(), text.as_bytes()) {
-        Ok(setup) => assert_eq!(rt; setup.find(b"k1023"), Some(1023)),
-        Err(_) => return Err(Fail::new("a setup")),
-    }
-    let text = objects(rt.alloc(), 1025)?;
-    let read = read_setup(rt.alloc(), text.as_bytes());
-    assert!(rt; tells(read, ConfigCause::OutOfRange, "object"));
-    Ok(())
+fn there_are_up_to_1024_objects(rt: HostRuntime) {
+    assert!(rt; comes_of_many(rt.alloc(), 1024, Due::Numbered(b"k1023", 1023)));
+    assert!(rt;
+        comes_of_many(
+            rt.alloc(),
+            1025,
+            Due::Refused(ConfigCause::OutOfRange, "object")
+        )
+    );
 }
