@@ -12,7 +12,6 @@ use orb_base::{
 };
 use std::alloc::Global;
 use std::sync::Wait;
-use std::test::Fail;
 use std::thread;
 
 mod closing;
@@ -21,14 +20,14 @@ mod fates;
 mod storm;
 
 /// A pool without lanes, of so many static threads; as many requests may wait.
-fn pool_of(alloc: Global, threads: u8, run_calls: u32) -> Result<PoolSpec, Fail> {
-    let mut lanes = Vec::new(alloc);
-    lanes.push(LaneSpec {
-        priority: Priority::new(0).ok_or("a priority")?,
+fn pool_of(alloc: Global, threads: u8, run_calls: u32) -> Option<PoolSpec> {
+    let lane = LaneSpec {
+        priority: Priority::new(0)?,
         statics: threads,
         dynamics: 0,
-    })?;
-    Ok(PoolSpec {
+    };
+    let lanes = Vec::from_slice(alloc, &[lane]).ok()?;
+    Some(PoolSpec {
         laned: false,
         lanes: List::from_vec(lanes),
         borrowing: false,

@@ -2,124 +2,211 @@
 use orb_base::{Arc, ConnId, Due, Job, List, Order, Priority, Text};
 use request_buffer::*;
 use std::alloc::Global;
-use std::process::Abort;
-use std::test::Fail;
 
 const CONN: ConnId = ConnId { slot: 0, nth: 3 };
 
 const OTHER: ConnId = ConnId { slot: 0, nth: 4 };
 
-#[test]
-fn both_limits_are_met_and_passed_by_one(rt: HostRuntime) -> Result<(), Fail> {
-    let alloc = rt.alloc();
-    // The limits, the requests that wait, the bytes of one more, and whether it fits.
-    let rows: [(u32, u32, &[u32], u32, bool); 8] = [
-        (2, 100, &[], 100, true),
-        (2, 100, &[], 101, false),
-        (2, 100, &[40], 60, true),
-        (2, 100, &[40], 61, false),
-        (2, 100, &[40, 60], 0, false),
-        (3, 100, &[40, 60], 0, true),
-        (3, 100, &[40, 60], 1, false),
-        (0, 0, &[], 0, false),
-    ];
-    for (max_requests, max_bytes, sizes, size, want) in &rows {
-        let mut buffer = Buffer::new(alloc, *max_requests, *max_bytes)?;
-        for kept in sizes.iter() {
-            keep(
-                &rt,
-                &mut buffer,
-                request(alloc, CONN, 0, (0, 0), *kept, Due::Late)?,
-            );
+/// The limits, the sizes of the requests that wait, the size of one more, and whether it fits.
+const LIMITS: &[(u32, u32, &[u32], u32, bool)] = &[
+    (2, 100, &[], 100, true),
+    (2, 100, &[], 101, false),
+    (2, 100, &[40], 60, true),
+    (2, 100, &[40], 61, false),
+    (2, 100, &[40, 60], 0, false),
+    (3, 100, &[40, 60], 0, true),
+    (3, 100, &[40, 60], 1, false),
+    (0, 0, &[], 0, false),
+];
+
+/// Puts requests of these sizes, and gives the bytes of all of them.
+fn puts_sizes(alloc: Global, buffer: &mut Buffer, sizes: &[u32]) -> Option<u64> {
+    let mut bytes = 0u64;
+    for size in sizes {
+        if !puts(alloc, buffer, CONN, 0, (0, 0), *size, Due::Late) {
+            return None;
         }
-        assert_eq!(rt; buffer.requests() as usize, sizes.len());
-        assert_eq!(rt; buffer.bytes(), sizes.iter().map(|n| u64::from(*n)).sum());
-        assert_eq!(rt; buffer.fits(*size), *want, "at {sizes:?} {size}");
+        bytes = bytes.wrapping_add(u64::from(*size));
     }
-    Ok(())
+    Some(bytes)
+}
+
+/// Whether one more request fits behind requests of these sizes, as it is due.
+fn fits_behind(alloc: Global, buffer: &mut Buffer, sizes: &[u32], size: u32, want: bool) -> bool {
+    match puts_sizes(alloc, buffer, sizes) {
+        Some(bytes) => {
+            buffer.requests() as usize == sizes.len()
+                && buffer.bytes() == bytes
+                && buffer.fits(size) == want
+        }
+        None => false,
+    }
+}
+
+fn all_limited(alloc: Global) -> bool {
+    for (max_requests, max_bytes, sizes, size, want) in LIMITS {
+        let Ok(mut buffer) = Buffer::new(alloc, *max_requests, *max_bytes) else {
+            return false;
+        };
+        if !fits_behind(alloc, &mut buffer, sizes, *size, *want) {
+            return false;
+        }
+    }
+    true
 }
 
 #[test]
-fn the_earliest_of_greatest_priority_is_next(rt: HostRuntime) -> Result<(), Fail> {
-    let alloc = rt.alloc();
-    // The lanes and priorities in order of arrival, the thread's lane, whether it is lent, and the ids as they go.
-    let rows: [(&[(u8, i16)], u8, bool, &[u32]); 5] = [
-        (&[(0, 5), (0, 5), (0, 5)], 0, false, &[0, 1, 2]),
-        (&[(0, 5), (0, 9), (0, 5), (0, 9)], 0, false, &[1, 3, 0, 2]),
-        (&[(1, 9), (0, 5), (2, 20), (1, 9)], 0, true, &[2, 0, 3, 1]),
-        (&[(1, 9), (0, 5), (2, 20), (1, 9)], 1, true, &[2, 0, 3]),
-        (&[(1, 9), (0, 5), (2, 20), (1, 9)], 0, false, &[1]),
-    ];
-    for (jobs, lane, borrowing, want) in &rows {
-        let mut buffer = Buffer::new(alloc, 9, 900)?;
-        for (id, job) in jobs.iter().enumerate() {
-            keep(
-                &rt,
-                &mut buffer,
-                request(alloc, CONN, (id % 16) as u32, *job, 48, Due::Late)?,
-            );
+fn both_limits_are_met_and_passed_by_one(rt: HostRuntime) {
+    assert!(rt; all_limited(rt.alloc()));
+}
+
+/// The lanes and priorities in order of arrival, the thread's lane, whether it is lent, and the ids as they go.
+const ORDERS: &[(&[(u8, i16)], u8, bool, &[u32])] = &[
+    (&[(0, 5), (0, 5), (0, 5)], 0, false, &[0, 1, 2]),
+    (&[(0, 5), (0, 9), (0, 5), (0, 9)], 0, false, &[1, 3, 0, 2]),
+    (&[(1, 9), (0, 5), (2, 20), (1, 9)], 0, true, &[2, 0, 3, 1]),
+    (&[(1, 9), (0, 5), (2, 20), (1, 9)], 1, true, &[2, 0, 3]),
+    (&[(1, 9), (0, 5), (2, 20), (1, 9)], 0, false, &[1]),
+];
+
+/// Puts a request for each of these lanes and priorities, whose ids count from 0.
+fn puts_places(alloc: Global, buffer: &mut Buffer, places: &[(u8, i16)]) -> bool {
+    let mut id = 0u32;
+    for place in places {
+        if !puts(alloc, buffer, CONN, id, *place, 48, Due::Late) {
+            return false;
         }
-        for id in want.iter() {
-            assert_eq!(rt;
-                next(&mut buffer, *lane, *borrowing),
-                Some(*id),
-                "at {jobs:?}"
-            );
-        }
-        assert_eq!(rt; next(&mut buffer, *lane, *borrowing), None, "at {jobs:?}");
+        id = id.wrapping_add(1);
     }
+    true
+}
+
+/// Whether a thread takes requests of these ids one after another, and then none.
+fn takes_just(buffer: &mut Buffer, lane: u8, borrowing: bool, ids: &[u32]) -> bool {
+    for id in ids {
+        if next(buffer, lane, borrowing) != Some(*id) {
+            return false;
+        }
+    }
+    next(buffer, lane, borrowing) == None
+}
+
+fn all_ordered(alloc: Global) -> bool {
+    for (places, lane, borrowing, ids) in ORDERS {
+        let Ok(mut buffer) = Buffer::new(alloc, 9, 900) else {
+            return false;
+        };
+        if !puts_places(alloc, &mut buffer, places)
+            || !takes_just(&mut buffer, *lane, *borrowing, ids)
+        {
+            return false;
+        }
+    }
+    true
+}
+
+#[test]
+fn the_earliest_of_greatest_priority_is_next(rt: HostRuntime) {
+    assert!(rt; all_ordered(rt.alloc()));
     next_is_most_urgent();
-    Ok(())
+}
+
+/// The connections, ids and sizes of requests, in order of arrival.
+const KEPT: &[(ConnId, u32, u32)] = &[
+    (CONN, 7, 1),
+    (OTHER, 8, 2),
+    (CONN, 8, 4),
+    (CONN, 8, 8),
+    (CONN, 9, 16),
+];
+
+fn puts_kept(alloc: Global, buffer: &mut Buffer) -> bool {
+    for (conn, id, size) in KEPT {
+        if !puts(alloc, buffer, *conn, *id, (0, 5), *size, Due::Late) {
+            return false;
+        }
+    }
+    true
+}
+
+/// Removes a request, and gives its size.
+fn removed(buffer: &mut Buffer, conn: ConnId, id: u32) -> Option<u32> {
+    match buffer.remove(conn, id) {
+        Some(job) => Some(job.get().size),
+        None => None,
+    }
+}
+
+fn holds(buffer: &Buffer, requests: u32, bytes: u64) -> bool {
+    buffer.requests() == requests && buffer.bytes() == bytes
+}
+
+fn removes_in_order(alloc: Global) -> bool {
+    let Ok(mut buffer) = Buffer::new(alloc, 9, 900) else {
+        return false;
+    };
+    puts_kept(alloc, &mut buffer)
+        && buffer.count_for(CONN) == 4
+        // The earliest one of that connection and id.
+        && removed(&mut buffer, CONN, 8) == Some(4)
+        && holds(&buffer, 4, 27)
+        && removed(&mut buffer, OTHER, 9) == None
+        && holds(&buffer, 4, 27)
+        && takes_just(&mut buffer, 0, false, &[7, 8, 8, 9])
+        && holds(&buffer, 0, 0)
 }
 
 #[test]
-fn a_removal_in_the_middle_keeps_the_order(rt: HostRuntime) -> Result<(), Fail> {
-    let alloc = rt.alloc();
-    let mut buffer = Buffer::new(alloc, 9, 900)?;
-    for (conn, id, size) in [
-        (CONN, 7, 1),
-        (OTHER, 8, 2),
-        (CONN, 8, 4),
-        (CONN, 8, 8),
-        (CONN, 9, 16),
-    ] {
-        keep(
-            &rt,
-            &mut buffer,
-            request(alloc, conn, id, (0, 5), size, Due::Late)?,
-        );
+fn a_removal_in_the_middle_keeps_the_order(rt: HostRuntime) {
+    assert!(rt; removes_in_order(rt.alloc()));
+}
+
+/// When a reply is due, and how many requests stay behind a removal.
+const STAYS: &[(Due, u32)] = &[(Due::Nothing, 1), (Due::Early, 1), (Due::Late, 0)];
+
+fn all_stay(alloc: Global) -> bool {
+    for (due, want) in STAYS {
+        let Ok(mut buffer) = Buffer::new(alloc, 9, 900) else {
+            return false;
+        };
+        if !puts(alloc, &mut buffer, CONN, 7, (0, 5), 48, *due) {
+            return false;
+        }
+        removed(&mut buffer, CONN, 7);
+        if buffer.requests() != *want {
+            return false;
+        }
     }
-    assert_eq!(rt; buffer.count_for(CONN), 4);
-    // The earliest one of that connection and id.
-    assert_eq!(rt; buffer.remove(CONN, 8).map(|job| job.get().size), Some(4));
-    assert_eq!(rt; (buffer.requests(), buffer.bytes()), (4, 27));
-    assert_eq!(rt; buffer.remove(OTHER, 9).map(|job| job.get().size), None);
-    assert_eq!(rt; (buffer.requests(), buffer.bytes()), (4, 27));
-    for id in [7, 8, 8, 9] {
-        assert_eq!(rt; next(&mut buffer, 0, false), Some(id));
-    }
-    assert_eq!(rt; (buffer.requests(), buffer.bytes()), (0, 0));
-    Ok(())
+    true
 }
 
 #[test]
-fn a_request_whose_reply_is_not_due_later_stays(rt: HostRuntime) -> Result<(), Fail> {
-    let alloc = rt.alloc();
-    for (due, want) in [(Due::Nothing, 1), (Due::Early, 1), (Due::Late, 0)] {
-        let mut buffer = Buffer::new(alloc, 9, 900)?;
-        keep(&rt, &mut buffer, request(alloc, CONN, 7, (0, 5), 48, due)?);
-        buffer.remove(CONN, 7);
-        assert_eq!(rt; buffer.requests(), want, "at {due:?}");
-    }
-    Ok(())
+fn a_request_whose_reply_is_not_due_later_stays(rt: HostRuntime) {
+    assert!(rt; all_stay(rt.alloc()));
 }
 
-/// Puts a request that must fit.
-fn keep(rt: &impl Abort, buffer: &mut Buffer, job: Arc<Job>) {
+/// Puts a request of a lane and a priority. Whether it fits.
+fn puts(
+    alloc: Global,
+    buffer: &mut Buffer,
+    conn: ConnId,
+    id: u32,
+    place: (u8, i16),
+    size: u32,
+    due: Due,
+) -> bool {
+    match request(alloc, conn, id, place, size, due) {
+        Some(job) => puts_job(buffer, job),
+        None => false,
+    }
+}
+
+fn puts_job(buffer: &mut Buffer, job: Arc<Job>) -> bool {
     if buffer.fits(job.get().size) {
         buffer.put(job);
+        true
     } else {
-        panic!(rt; "it does not fit");
+        false
     }
 }
 
@@ -138,19 +225,21 @@ fn request(
     place: (u8, i16),
     size: u32,
     due: Due,
-) -> Result<Arc<Job>, Fail> {
+) -> Option<Arc<Job>> {
+    let priority = Priority::new(place.1)?;
+    let operation = Text::new(alloc, b"ping").ok()?;
     let job = Job {
         conn,
         serial: 0,
         id,
         order: Order::Big,
         due,
-        priority: Priority::new(place.1).ok_or("a priority")?,
+        priority,
         lane: place.0,
         size,
         target: 0,
-        operation: Text::new(alloc, b"ping")?,
+        operation,
         body: List::new(alloc),
     };
-    Ok(Arc::new(alloc, job).ok().ok_or("memory")?)
+    Arc::new(alloc, job).ok()
 }

@@ -1,11 +1,9 @@
 //! Choices over pools of several lanes.
-ghost use Rattle.std.specs.Prelude.{◌≡◌, slice_get, IsSomeAnd};
+ghost use Rattle.std.specs.Prelude.{◌≡◌, IfSome, IsSomeAnd, slice_get};
 ghost use Rattle.thread_borrowing.specs.ThreadList.{task_of};
 
 use orb_base::{Arc, ConnId, Due, Job, LaneSpec, List, Order, PoolSpec, Priority, Text};
 use std::alloc::Global;
-use std::process::Abort;
-use std::test::Fail;
 use thread_borrowing::*;
 
 /// A thread's number, whether it is lent, and whether it is started.
@@ -14,102 +12,162 @@ type Chosen = Option<(u8, bool, bool)>;
 /// Threads 0 and 1 of the lower lane, threads 2 to 4 of the upper one; 1, 3 and 4 are dynamic.
 const TWO: &[(u8, u8)] = &[(1, 1), (1, 2)];
 
-#[test]
-fn requests_go_down_the_lanes(rt: HostRuntime) -> Result<(), Fail> {
-    // The busy threads, those that were busy before, the request's lane, whether lower lanes lend, and the choice.
-    let rows: [(&[u8], &[u8], u8, bool, Chosen); 10] = [
-        // A static thread, else a started dynamic one, else the first that is not started.
-        (&[], &[4], 1, false, Some((2, false, false))),
-        (&[2], &[4], 1, false, Some((4, false, false))),
-        (&[2], &[], 1, false, Some((3, false, true))),
-        (&[2, 3], &[], 1, true, Some((4, false, true))),
-        // Where the lane has none, a lower one lends, if borrowing is on.
-        (&[2, 3, 4], &[], 1, false, None),
-        (&[2, 3, 4], &[], 1, true, Some((0, true, false))),
-        (&[0, 2, 3, 4], &[], 1, true, Some((1, true, true))),
-        (&[0, 1, 2, 3, 4], &[], 1, true, None),
-        // A thread is never lent downward.
-        (&[0, 1], &[], 0, true, None),
-        (&[0, 1], &[2, 3], 0, true, None),
-    ];
-    for (busy, used, lane, borrowing, want) in &rows {
-        let mut threads = opened(&rt, rt.alloc(), TWO)?;
-        for thread in used.iter() {
-            run(&rt, rt.alloc(), &mut threads, *thread)?;
-        }
-        for thread in busy.iter() {
-            give(&rt, rt.alloc(), &mut threads, *thread)?;
-        }
-        let got = threads.choose(*lane, *borrowing);
-        assert_eq!(rt; got.map(parts), *want, "at {busy:?} {used:?}");
+/// The busy threads, those that were busy before, the request's lane, whether lower lanes lend, and the choice.
+const CHOICES: &[(&[u8], &[u8], u8, bool, Chosen)] = &[
+    // A static thread, else a started dynamic one, else the first that is not started.
+    (&[], &[4], 1, false, Some((2, false, false))),
+    (&[2], &[4], 1, false, Some((4, false, false))),
+    (&[2], &[], 1, false, Some((3, false, true))),
+    (&[2, 3], &[], 1, true, Some((4, false, true))),
+    // Where the lane has none, a lower one lends, if borrowing is on.
+    (&[2, 3, 4], &[], 1, false, None),
+    (&[2, 3, 4], &[], 1, true, Some((0, true, false))),
+    (&[0, 2, 3, 4], &[], 1, true, Some((1, true, true))),
+    (&[0, 1, 2, 3, 4], &[], 1, true, None),
+    // A thread is never lent downward.
+    (&[0, 1], &[], 0, true, None),
+    (&[0, 1], &[2, 3], 0, true, None),
+];
+
+/// Whether this thread is chosen for a request of a lane.
+fn chooses(threads: &Threads, lane: u8, borrowing: bool, want: Chosen) -> bool {
+    match threads.choose(lane, borrowing) {
+        Some(choice) => want == Some((choice.thread, choice.lent, choice.starts)),
+        None => want == None,
     }
-    Ok(())
+}
+
+/// Lets threads carry out a request each.
+fn runs_each(alloc: Global, threads: &mut Threads, used: &[u8]) -> bool {
+    for thread in used {
+        if !runs(alloc, threads, *thread) {
+            return false;
+        }
+    }
+    true
+}
+
+/// Gives requests to threads.
+fn gives_each(alloc: Global, threads: &mut Threads, busy: &[u8]) -> bool {
+    for thread in busy {
+        if !gives(alloc, threads, *thread) {
+            return false;
+        }
+    }
+    true
+}
+
+fn all_chosen(alloc: Global) -> bool {
+    for (busy, used, lane, borrowing, want) in CHOICES {
+        let Some(mut threads) = opened(alloc, TWO) else {
+            return false;
+        };
+        if !runs_each(alloc, &mut threads, used)
+            || !gives_each(alloc, &mut threads, busy)
+            || !chooses(&threads, *lane, *borrowing, *want)
+        {
+            return false;
+        }
+    }
+    true
 }
 
 #[test]
-fn sixteen_lanes_have_sixty_four_threads(rt: HostRuntime) -> Result<(), Fail> {
-    let mut threads = opened(&rt, rt.alloc(), &[(2, 2); 16])?;
-    assert_eq!(rt; threads.count(), 64);
-    assert_eq!(rt;
-        threads.choose(15, true).map(parts),
-        Some((60, false, false))
-    );
+fn requests_go_down_the_lanes(rt: HostRuntime) {
+    assert!(rt; all_chosen(rt.alloc()));
+}
+
+/// Gives requests to the threads from 32 to 63.
+fn gives_upper_half(alloc: Global, threads: &mut Threads) -> bool {
     for thread in 32..64 {
-        give(&rt, rt.alloc(), &mut threads, thread)?;
+        if !gives(alloc, threads, thread) {
+            return false;
+        }
     }
-    assert_eq!(rt;
-        threads.choose(15, true).map(parts),
-        Some((28, true, false))
-    );
-    assert_eq!(rt; threads.choose(8, true).map(parts), Some((28, true, false)));
-    assert_eq!(rt; threads.choose(8, false).map(parts), None);
-    assert_eq!(rt; threads.count_for(CONN), 32);
-    assert_eq!(rt; threads.first_given(), Some(32));
-    Ok(())
+    true
+}
+
+fn chooses_among_many(alloc: Global) -> bool {
+    let Some(mut threads) = opened(alloc, &[(2, 2); 16]) else {
+        return false;
+    };
+    threads.count() == 64
+        && chooses(&threads, 15, true, Some((60, false, false)))
+        && gives_upper_half(alloc, &mut threads)
+        && chooses(&threads, 15, true, Some((28, true, false)))
+        && chooses(&threads, 8, true, Some((28, true, false)))
+        && chooses(&threads, 8, false, None)
+        && threads.count_for(CONN) == 32
+        && threads.first_given() == Some(32)
 }
 
 #[test]
-fn a_thread_takes_and_finishes_its_request(rt: HostRuntime) -> Result<(), Fail> {
-    let mut threads = opened(&rt, rt.alloc(), &[(0, 1)])?;
-    give(&rt, rt.alloc(), &mut threads, 0)?;
-    match task(&rt, &threads, 0) {
-        Task::Given => {
-            assert_eq!(rt; threads.job(0).get().id, 7);
-            threads.begin(0);
-            assert_eq!(rt; threads.first_given(), None);
+fn sixteen_lanes_have_sixty_four_threads(rt: HostRuntime) {
+    assert!(rt; chooses_among_many(rt.alloc()));
+}
+
+/// Whether a thread was given the request 7, and takes it.
+fn begins(threads: &mut Threads, thread: u8) -> bool {
+    match task(threads, thread) {
+        Some(Task::Given) => {
+            let is_seven = threads.job(thread).get().id == 7;
+            threads.begin(thread);
+            is_seven
         }
-        _ => panic!(rt; "it was given a request"),
+        _ => false,
     }
-    match task(&rt, &threads, 0) {
-        Task::Busy => assert_eq!(rt; threads.free(0).get().id, 7),
-        _ => panic!(rt; "it carries out the request"),
+}
+
+/// Whether a thread carries out the request 7, and has finished it.
+fn frees(threads: &mut Threads, thread: u8) -> bool {
+    match task(threads, thread) {
+        Some(Task::Busy) => threads.free(thread).get().id == 7,
+        _ => false,
     }
-    assert_eq!(rt; task(&rt, &threads, 0), Task::Free);
+}
+
+fn takes_and_finishes(alloc: Global) -> bool {
+    let Some(mut threads) = opened(alloc, &[(0, 1)]) else {
+        return false;
+    };
+    gives(alloc, &mut threads, 0)
+        && begins(&mut threads, 0)
+        && threads.first_given() == None
+        && frees(&mut threads, 0)
+        && matches!(task(&threads, 0), Some(Task::Free))
+}
+
+#[test]
+fn a_thread_takes_and_finishes_its_request(rt: HostRuntime) {
+    assert!(rt; takes_and_finishes(rt.alloc()));
     assert!(rt; may_run(true, 0, 1) && !may_run(false, 0, 1) && !may_run(true, 1, 0));
     choice_goes_down();
     choice_stands_first();
-    Ok(())
 }
 
 const CONN: ConnId = ConnId { slot: 0, nth: 3 };
 
-fn parts(choice: Choice) -> (u8, bool, bool) {
-    (choice.thread, choice.lent, choice.starts)
+/// Lanes with so many static and dynamic threads, whose priorities count from 0.
+fn lanes_of(alloc: Global, counts: &[(u8, u8)]) -> Option<Vec<LaneSpec>> {
+    let mut lanes = Vec::new(alloc);
+    for (lane, count) in counts.iter().enumerate() {
+        let spec = LaneSpec {
+            priority: Priority::new((lane % 16) as i16)?,
+            statics: count.0,
+            dynamics: count.1,
+        };
+        if lanes.push(spec).is_err() {
+            return None;
+        }
+    }
+    Some(lanes)
 }
 
 /// The threads of lanes with so many static and dynamic ones.
-fn opened(rt: &impl Abort, alloc: Global, counts: &[(u8, u8)]) -> Result<Threads, Fail> {
-    let mut lanes = Vec::new(alloc);
-    for (lane, count) in counts.iter().enumerate() {
-        lanes.push(LaneSpec {
-            priority: Priority::new((lane % 16) as i16).ok_or("a priority")?,
-            statics: count.0,
-            dynamics: count.1,
-        })?;
-    }
+fn opened(alloc: Global, counts: &[(u8, u8)]) -> Option<Threads> {
     let pool = PoolSpec {
         laned: true,
-        lanes: List::from_vec(lanes),
+        lanes: List::from_vec(lanes_of(alloc, counts)?),
         borrowing: true,
         buffering: false,
         max_requests: 0,
@@ -117,53 +175,63 @@ fn opened(rt: &impl Abort, alloc: Global, counts: &[(u8, u8)]) -> Result<Threads
         run_calls: 9,
         run_bytes: 900,
     };
-    assert!(rt; pool.well_formed());
-    Ok(Threads::new(alloc, &pool)?)
+    if pool.well_formed() {
+        Threads::new(alloc, &pool).ok()
+    } else {
+        None
+    }
 }
 
-/// Gives a request to a thread that has none.
-fn give(rt: &impl Abort, alloc: Global, threads: &mut Threads, thread: u8) -> Result<(), Fail> {
+/// A request of the connection, with the id 7.
+fn request(alloc: Global) -> Option<Arc<Job>> {
+    let priority = Priority::new(0)?;
+    let operation = Text::new(alloc, b"ping").ok()?;
     let job = Job {
         conn: CONN,
         serial: 0,
         id: 7,
         order: Order::Big,
         due: Due::Late,
-        priority: Priority::new(0).ok_or("a priority")?,
+        priority,
         lane: 0,
         size: 48,
         target: 0,
-        operation: Text::new(alloc, b"ping")?,
+        operation,
         body: List::new(alloc),
     };
-    let job = Arc::new(alloc, job).ok().ok_or("memory")?;
-    match task(rt, threads, thread) {
-        Task::Free => threads.give(thread, job),
-        _ => panic!(rt; "it has a task"),
+    Arc::new(alloc, job).ok()
+}
+
+/// Gives a request to a thread that has none.
+fn gives(alloc: Global, threads: &mut Threads, thread: u8) -> bool {
+    match request(alloc) {
+        Some(job) => gives_job(threads, thread, job),
+        None => false,
     }
-    Ok(())
+}
+
+fn gives_job(threads: &mut Threads, thread: u8, job: Arc<Job>) -> bool {
+    match task(threads, thread) {
+        Some(Task::Free) => {
+            threads.give(thread, job);
+            true
+        }
+        _ => false,
+    }
 }
 
 /// Lets a thread carry out a request.
-fn run(rt: &impl Abort, alloc: Global, threads: &mut Threads, thread: u8) -> Result<(), Fail> {
-    give(rt, alloc, threads, thread)?;
-    match task(rt, threads, thread) {
-        Task::Given => threads.begin(thread),
-        _ => panic!(rt; "it was given none"),
-    }
-    match task(rt, threads, thread) {
-        Task::Busy => {
-            threads.free(thread);
-        }
-        _ => panic!(rt; "it is not busy"),
-    }
-    Ok(())
+fn runs(alloc: Global, threads: &mut Threads, thread: u8) -> bool {
+    gives(alloc, threads, thread) && begins(threads, thread) && frees(threads, thread)
 }
 
-/// Whether a thread has a task. It must be there.
-fn task(rt: &impl Abort, threads: &Threads, thread: u8) -> Task
-    ensures { IsSomeAnd (slice_get threads.now thread) (λ t. result ≡ task_of t.doing) }
+/// Whether a thread that is there has a task.
+fn task(threads: &Threads, thread: u8) -> Option<Task>
+    ensures { IfSome result (λ task. IsSomeAnd (slice_get threads.now thread) (λ t. task ≡ task_of t.doing)) }
 {
-    assert!(rt; usize::from(thread) < threads.count());
-    threads.task(thread)
+    if usize::from(thread) < threads.count() {
+        Some(threads.task(thread))
+    } else {
+        None
+    }
 }

@@ -14,7 +14,6 @@ use lane_pool::{
 use orb_base::{Item, List, Notice, Order, PoolSpec, What};
 use std::alloc::Global;
 use std::sync::Wait;
-use std::test::Fail;
 
 /// The pass of the one slot.
 #[tactic(auto, using(lane_pool::proofs::Sending::slots_out, lane_pool::proofs::Sending::one_slot))]
@@ -250,15 +249,20 @@ fn run<R: Wait>(rt: &R, alloc: Global, spec: &PoolSpec, all: Opened) -> Option<(
     Some((answers, callers(alloc, pool, root, slot, worker)?))
 }
 
+/// One connection of a pool of one slot and one thread.
+fn connected<R: Wait>(rt: &R, alloc: Global) -> Option<(Answers, [u32; 12])> {
+    let spec = pool_of(alloc, 1, 9)?;
+    if !spec.well_formed() || spec.laned {
+        return None;
+    }
+    let all = opened(alloc, &spec, 1, 1)?;
+    run(rt, alloc, &spec, all)
+}
+
 #[test]
-fn a_connection_goes_from_its_link_to_the_end_of_the_pool(rt: HostRuntime) -> Result<(), Fail> {
-    let spec = pool_of(rt.alloc(), 1, 9)?;
-    assert!(rt; spec.well_formed());
-    assert!(rt; !spec.laned);
-    let all = opened(rt.alloc(), &spec, 1, 1).ok_or("memory")?;
+fn a_connection_goes_from_its_link_to_the_end_of_the_pool(rt: HostRuntime) {
     // The reading side has the slot's number, 1, the thread 2, and the first writing side of the first slot 81.
     let callers = [1, 1, 1, 1, 1, 2, 2, 81, 81, 81, 1, 2];
     let answers = (Cancelling::Removed, Posting::Posted, 0);
-    assert!(rt; run(&rt, rt.alloc(), &spec, all) == Some((answers, callers)));
-    Ok(())
+    assert!(rt; connected(&rt, rt.alloc()) == Some((answers, callers)));
 }

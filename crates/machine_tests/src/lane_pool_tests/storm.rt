@@ -19,7 +19,6 @@ use lane_pool::{
 use orb_base::{List, PoolSpec};
 use std::alloc::Global;
 use std::sync::Wait;
-use std::test::Fail;
 use std::thread;
 use std::thread::Threads;
 use turn_cell::Entry;
@@ -415,19 +414,28 @@ fn storm<R: Threads + Wait + Sync>(
     pool.close(root, List::from_vec(slots), List::from_vec(workers))
 }
 
-#[test]
-fn eight_slots_and_64_workers_carry_out_withdraw_or_refuse_each_request(
-    rt: HostRuntime,
-) -> Result<(), Fail> {
-    let mut spec = pool_of(rt.alloc(), THREADS, 1_000)?;
+/// Whether the history tells that each reading side made its calls, that each request is settled, and that each worker and each
+/// writing side was told of its end.
+fn is_whole(history: &[Entry<Lanes>]) -> bool {
+    all_read(history) && all_settled(history) && count_told(history) == (64, 16)
+}
+
+/// Whether the history of a whole run tells all that.
+fn settles<R: Threads + Wait + Sync>(rt: &R, alloc: Global) -> bool {
+    let Some(mut spec) = pool_of(alloc, THREADS, 1_000) else {
+        return false;
+    };
     spec.max_requests = 8;
-    assert!(rt; spec.well_formed());
-    assert!(rt; !spec.laned);
-    let all = opened(rt.alloc(), &spec, SLOTS, 2).ok_or("memory")?;
-    let history = storm(&rt, rt.alloc(), &spec, all);
-    let history = history.as_slice();
-    assert!(rt; all_read(history));
-    assert!(rt; all_settled(history));
-    assert!(rt; count_told(history) == (64, 16));
-    Ok(())
+    if !spec.well_formed() || spec.laned {
+        return false;
+    }
+    match opened(alloc, &spec, SLOTS, 2) {
+        Some(all) => is_whole(storm(rt, alloc, &spec, all).as_slice()),
+        None => false,
+    }
+}
+
+#[test]
+fn eight_slots_and_64_workers_carry_out_withdraw_or_refuse_each_request(rt: HostRuntime) {
+    assert!(rt; settles(&rt, rt.alloc()));
 }

@@ -6,7 +6,6 @@ ghost use Rattle.turn_cell.specs.Whole.{numbers};
 use super::seats::{make, next, take_in};
 use std::alloc::Global;
 use std::sync::Wait;
-use std::test::Fail;
 use std::thread;
 use std::thread::Threads;
 use turn_cell::{Register, RegisterCall, RegisterReply, Seat, TurnCell, Worn};
@@ -53,9 +52,8 @@ fn told<R: Wait + Threads + Sync>(rt: &R, alloc: Global) -> Option<(RegisterRepl
 }
 
 #[test]
-fn a_hearer_gets_what_the_teller_put_and_a_third_call_is_worn(rt: HostRuntime) -> Result<(), Fail> {
+fn a_hearer_gets_what_the_teller_put_and_a_third_call_is_worn(rt: HostRuntime) {
     assert!(rt; told(&rt, rt.alloc()) == Some((RegisterReply::Was(5), true)));
-    Ok(())
 }
 
 /// The callers of the history, and the number that the object ended with.
@@ -85,8 +83,7 @@ fn joined<R: Wait + Threads + Sync>(
 }
 
 #[test]
-fn a_put_of_a_split_seat_is_seen_behind_the_join(rt: HostRuntime) -> Result<(), Fail> {
+fn a_put_of_a_split_seat_is_seen_behind_the_join(rt: HostRuntime) {
     let expected = (RegisterReply::Was(2), ([0, 1, 0], 2));
     assert!(rt; joined(&rt, rt.alloc()) == Some(expected));
-    Ok(())
 }
