@@ -10,11 +10,10 @@ use heard_calls::Ending;
 use lane_driver::Log;
 use lane_machine::LaneCall;
 use orb_base::{
-    Completed, ConnId, Got, Job, List, MemSink, MemSource, NoMemory, Outcome, Serving,
+    Completed, ConnId, Got, Job, List, MemSink, MemSource, NoMemory, Octets, Outcome, Serving,
     SharedOctets, Source, Sys, SysName, Text,
 };
 use std::alloc::Global;
-use std::process::Abort;
 use std::test::Fail;
 
 /// Answers each request with an empty body.
@@ -72,8 +71,455 @@ const ERROR: &[u8] = b"GIOP\x01\x02\0\x06\0\0\0\0";
 
 /// A request of id 1 in three pieces, of which the others stand around a request of id 2: 128 bytes. The second request is whole with
 /// 72 of them.
-fn fragmented(alloc: Global) -> Result<Vec<u8>, Fail> {
-    joined(alloc, &[FIRST, BETWEEN, SECOND, LAST])
+const FRAGMENTED: &[&[u8]] = &[FIRST, BETWEEN, SECOND, LAST];
+
+/// How the reads of a source are cut and fail, and which writes fail.
+#[derive(Clone, Copy)]
+struct Outside<'a> {
+    /// Bytes of each read.
+    cut: usize,
+    reads: &'a [u64],
+    writes: &'a [u64],
+}
+
+/// What comes of a stream: how the run comes out, what is written, and, where it is looked at, the number of the calls in the history, and
+/// what one read more answers.
+#[derive(Clone, Copy)]
+struct Comes<'a> {
+    end: StreamEnd,
+    written: &'a [&'a [u8]],
+    calls: Option<usize>,
+    next: Option<Got>,
+}
+
+fn numbers(alloc: Global, all: &[u64]) -> Option<List<u64>> {
+    match Vec::from_slice(alloc, all) {
+        Ok(all) => Some(List::from_vec(all)),
+        Err(_) => None,
+    }
+}
+
+/// A source of bytes, of which each read gives so many, up to the last of them.
+fn source_of(alloc: Global, bytes: &[u8], outside: &Outside<'_>) -> Option<MemSource> {
+    let failing = numbers(alloc, outside.reads)?;
+    let cuts = vec![in alloc; outside.cut; bytes.len()].ok()?;
+    match Vec::from_slice(alloc, bytes) {
+        Ok(bytes) => Some(MemSource::new(List::from_vec(bytes), List::from_vec(cuts), failing)),
+        Err(_) => None,
+    }
+}
+
+fn sink_of(alloc: Global, outside: &Outside<'_>) -> Option<MemSink> {
+    match numbers(alloc, outside.writes) {
+        Some(failing) => Some(MemSink::new(alloc, List::new(alloc), failing)),
+        None => None,
+    }
+}
+
+fn has_kept(log: Log, calls: usize) -> bool {
+    match log.into_entries() {
+        Some(history) => history.len() == calls,
+        None => false,
+    }
+}
+
+fn kept_so(log: Log, calls: Option<usize>) -> bool {
+    match calls {
+        Some(calls) => has_kept(log, calls),
+        None => true,
+    }
+}
+
+fn reads_so(source: &mut MemSource, next: Option<Got>) -> bool {
+    let mut one = [0u8];
+    match next {
+        Some(got) => source.read(&mut one) == got,
+        None => true,
+    }
+}
+
+/// Whether this comes of a stream over a setup, in groups of two.
+fn comes_out(
+    alloc: Global,
+    setup: &Setup,
+    source: &mut MemSource,
+    sink: &mut MemSink,
+    want: &Comes<'_>,
+) -> bool {
+    let quick = Quick { alloc };
+    let mut log = Log::kept(alloc);
+    run_stream(alloc, setup, &quick, 2, &mut log, source, sink) == Ok(want.end)
+        && is_joined(sink.held(), want.written)
+        && reads_so(source, want.next)
+        && kept_so(log, want.calls)
+}
+
+fn writes(
+    alloc: Global,
+    setup: &Setup,
+    source: MemSource,
+    outside: &Outside<'_>,
+    want: &Comes<'_>,
+) -> bool {
+    let mut source = source;
+    match sink_of(alloc, outside) {
+        Some(mut sink) => comes_out(alloc, setup, &mut source, &mut sink, want),
+        None => false,
+    }
+}
+
+/// Whether this comes of these bytes.
+fn runs(
+    alloc: Global,
+    setup: &Setup,
+    bytes: &[u8],
+    outside: &Outside<'_>,
+    want: &Comes<'_>,
+) -> bool {
+    match source_of(alloc, bytes, outside) {
+        Some(source) => writes(alloc, setup, source, outside, want),
+        None => false,
+    }
+}
+
+/// Puts these parts behind the bytes; whether there was memory.
+fn join(bytes: &mut Octets, parts: &[&[u8]]) -> bool {
+    for part in parts {
+        if bytes.append(part).is_err() {
+            return false;
+        }
+    }
+    true
+}
+
+/// A setup of four slots of 32 connections each.
+fn is_setup(setup: &Setup) -> bool {
+    setup.slots() == 4 && setup.per_slot() == 32
+}
+
+/// What the first `n` bytes of the fragmented stream are answered with.
+fn answers(n: usize) -> &'static [&'static [u8]] {
+    match n {
+        0..72 => &[],
+        72..128 => &[REPLY_2],
+        _ => &[REPLY_2, REPLY_1],
+    }
+}
+
+/// The bytes of a read.
+const CUTS: [usize; 3] = [1, 7, READ_LEN];
+
+fn front_is_run(alloc: Global, setup: &Setup, front: &[u8]) -> bool {
+    let n = front.len();
+    let ending = if n == 0 || n == 128 {
+        Ending::Ended
+    } else {
+        Ending::Cut(0)
+    };
+    let want = Comes {
+        end: StreamEnd::Ended(ReadEnd::Ended(ending)),
+        written: answers(n),
+        calls: None,
+        next: Some(Got::End),
+    };
+    for cut in CUTS {
+        let outside = Outside {
+            cut,
+            reads: &[],
+            writes: &[],
+        };
+        if !runs(alloc, setup, front, &outside, &want) {
+            return false;
+        }
+    }
+    true
+}
+
+fn each_front_is_run(alloc: Global, setup: &Setup, bytes: &[u8]) -> bool {
+    if bytes.len() != 128 {
+        return false;
+    }
+    for n in 0..129 {
+        if !front_is_run(alloc, setup, &bytes[..n]) {
+            return false;
+        }
+    }
+    true
+}
+
+/// Whether what the first `n` bytes mean is made where the read behind them fails.
+fn fault_is_met(alloc: Global, setup: &Setup, bytes: &[u8], n: usize) -> bool {
+    let reads = [n as u64];
+    let outside = Outside {
+        cut: 1,
+        reads: &reads,
+        writes: &[],
+    };
+    let want = Comes {
+        end: StreamEnd::Ended(ReadEnd::ReadFault),
+        written: answers(n),
+        calls: None,
+        next: None,
+    };
+    runs(alloc, setup, bytes, &outside, &want)
+}
+
+fn each_fault_is_met(alloc: Global, setup: &Setup, bytes: &[u8]) -> bool {
+    if bytes.len() != 128 {
+        return false;
+    }
+    for n in 0..129 {
+        if !fault_is_met(alloc, setup, bytes, n) {
+            return false;
+        }
+    }
+    true
+}
+
+fn all_are_run(alloc: Global, setup: &Setup) -> bool {
+    let mut bytes = Octets::new(alloc);
+    join(&mut bytes, FRAGMENTED) && each_front_is_run(alloc, setup, bytes.as_slice())
+}
+
+fn all_faults_are_met(alloc: Global, setup: &Setup) -> bool {
+    let mut bytes = Octets::new(alloc);
+    join(&mut bytes, FRAGMENTED) && each_fault_is_met(alloc, setup, bytes.as_slice())
+}
+
+fn fronts_over(alloc: Global, config: &[u8]) -> bool {
+    match read_setup(alloc, config) {
+        Ok(setup) => is_setup(&setup) && all_are_run(alloc, &setup),
+        Err(_) => false,
+    }
+}
+
+#[test]
+fn each_front_of_a_fragmented_stream_is_run(rt: HostRuntime) {
+    assert!(rt; fronts_over(rt.alloc(), PLAIN));
+}
+
+fn faults_over(alloc: Global, config: &[u8]) -> bool {
+    match read_setup(alloc, config) {
+        Ok(setup) => is_setup(&setup) && all_faults_are_met(alloc, &setup),
+        Err(_) => false,
+    }
+}
+
+#[test]
+fn what_was_read_before_a_failed_read_is_run(rt: HostRuntime) {
+    assert!(rt; faults_over(rt.alloc(), PLAIN));
+}
+
+/// A stream over a configuration, how it is read and written, and what comes of it.
+struct Row {
+    config: &'static [u8],
+    parts: &'static [&'static [u8]],
+    outside: Outside<'static>,
+    want: Comes<'static>,
+}
+
+fn comes_of(alloc: Global, setup: &Setup, row: &Row) -> bool {
+    let mut bytes = Octets::new(alloc);
+    join(&mut bytes, row.parts) && runs(alloc, setup, bytes.as_slice(), &row.outside, &row.want)
+}
+
+fn holds(alloc: Global, row: &Row) -> bool {
+    match read_setup(alloc, row.config) {
+        Ok(setup) => is_setup(&setup) && comes_of(alloc, &setup, row),
+        Err(_) => false,
+    }
+}
+
+fn all_hold(alloc: Global, rows: &[Row]) -> bool {
+    for row in rows {
+        if !holds(alloc, row) {
+            return false;
+        }
+    }
+    true
+}
+
+/// Four requests and a broken header behind them.
+const FOUR: &[&[u8]] = &[BETWEEN, BETWEEN, BETWEEN, BETWEEN, BROKEN];
+
+/// Of two requests a group has two offers, four calls of their turns and two collects.
+const WRITES_FAIL: &[Row] = &[
+    Row {
+        config: PLAIN,
+        parts: FOUR,
+        outside: Outside {
+            cut: 48,
+            reads: &[],
+            writes: &[0],
+        },
+        want: Comes {
+            end: StreamEnd::WriteFault,
+            written: &[],
+            calls: Some(7),
+            next: Some(Got::Bytes(1)),
+        },
+    },
+    Row {
+        config: PLAIN,
+        parts: FOUR,
+        outside: Outside {
+            cut: 48,
+            reads: &[],
+            writes: &[1],
+        },
+        want: Comes {
+            end: StreamEnd::WriteFault,
+            written: &[REPLY_2],
+            calls: Some(8),
+            next: Some(Got::Bytes(1)),
+        },
+    },
+    Row {
+        config: PLAIN,
+        parts: FOUR,
+        outside: Outside {
+            cut: 48,
+            reads: &[],
+            writes: &[2],
+        },
+        want: Comes {
+            end: StreamEnd::WriteFault,
+            written: &[REPLY_2, REPLY_2],
+            calls: Some(15),
+            next: Some(Got::Bytes(1)),
+        },
+    },
+    Row {
+        config: PLAIN,
+        parts: FOUR,
+        outside: Outside {
+            cut: 48,
+            reads: &[],
+            writes: &[3],
+        },
+        want: Comes {
+            end: StreamEnd::WriteFault,
+            written: &[REPLY_2, REPLY_2, REPLY_2],
+            calls: Some(16),
+            next: Some(Got::Bytes(1)),
+        },
+    },
+    Row {
+        config: PLAIN,
+        parts: FOUR,
+        outside: Outside {
+            cut: 48,
+            reads: &[],
+            writes: &[4],
+        },
+        want: Comes {
+            end: StreamEnd::WriteFault,
+            written: &[REPLY_2, REPLY_2, REPLY_2, REPLY_2],
+            calls: Some(18),
+            next: Some(Got::End),
+        },
+    },
+];
+
+#[test]
+fn nothing_is_read_behind_a_failed_write(rt: HostRuntime) {
+    assert!(rt; all_hold(rt.alloc(), WRITES_FAIL));
+}
+
+/// Reads of one byte.
+const ONES: Outside<'static> = Outside {
+    cut: 1,
+    reads: &[],
+    writes: &[],
+};
+
+/// All bytes that fit come in one read.
+const AT_ONCE: Outside<'static> = Outside {
+    cut: READ_LEN,
+    reads: &[],
+    writes: &[],
+};
+
+const ENDED: StreamEnd = StreamEnd::Ended(ReadEnd::Ended(Ending::Ended));
+
+/// The second header is broken.
+const BROKEN_AT_48: StreamEnd = StreamEnd::Ended(ReadEnd::Ended(Ending::Broken {
+    offset: 48,
+    fault: Fault::Frame(FrameCause::BadMagic),
+}));
+
+const ENDING: &[Row] = &[
+    Row {
+        config: PLAIN,
+        parts: &[BETWEEN, CLOSE, BROKEN],
+        outside: ONES,
+        want: Comes {
+            end: ENDED,
+            written: &[REPLY_2],
+            calls: None,
+            next: Some(Got::Bytes(1)),
+        },
+    },
+    Row {
+        config: PLAIN,
+        parts: &[BETWEEN, CLOSE, BROKEN],
+        outside: AT_ONCE,
+        want: Comes {
+            end: ENDED,
+            written: &[REPLY_2],
+            calls: None,
+            next: Some(Got::End),
+        },
+    },
+    Row {
+        config: PLAIN,
+        parts: &[BETWEEN, BROKEN, CLOSE],
+        outside: ONES,
+        want: Comes {
+            end: BROKEN_AT_48,
+            written: &[REPLY_2, ERROR],
+            calls: None,
+            next: Some(Got::Bytes(1)),
+        },
+    },
+    Row {
+        config: PLAIN,
+        parts: &[BETWEEN, BROKEN, CLOSE],
+        outside: AT_ONCE,
+        want: Comes {
+            end: BROKEN_AT_48,
+            written: &[REPLY_2, ERROR],
+            calls: None,
+            next: Some(Got::End),
+        },
+    },
+    Row {
+        config: ONE_CALL,
+        parts: &[BETWEEN, BETWEEN, BROKEN],
+        outside: ONES,
+        want: Comes {
+            end: StreamEnd::Closed,
+            written: &[REPLY_2, CLOSE],
+            calls: None,
+            next: Some(Got::Bytes(1)),
+        },
+    },
+    Row {
+        config: ONE_CALL,
+        parts: &[BETWEEN, BETWEEN, BROKEN],
+        outside: AT_ONCE,
+        want: Comes {
+            end: StreamEnd::Closed,
+            written: &[REPLY_2, CLOSE],
+            calls: None,
+            next: Some(Got::End),
+        },
+    },
+];
+
+#[test]
+fn the_reading_stops_where_it_ends(rt: HostRuntime) {
+    assert!(rt; all_hold(rt.alloc(), ENDING));
 }
 
 fn joined(alloc: Global, parts: &[&[u8]]) -> Result<Vec<u8>, Fail> {
@@ -82,178 +528,6 @@ fn joined(alloc: Global, parts: &[&[u8]]) -> Result<Vec<u8>, Fail> {
         bytes.extend_from_slice(part)?;
     }
     Ok(bytes)
-}
-
-/// How the reads of a source are cut and fail, and which writes fail.
-#[derive(Drop)]
-struct Outside<'a> {
-    /// Bytes of each read.
-    cut: usize,
-    reads: &'a [u64],
-    writes: &'a [u64],
-}
-
-/// Nothing fails, and all bytes that fit come in one read.
-const STEADY: Outside<'static> = Outside {
-    cut: READ_LEN,
-    reads: &[],
-    writes: &[],
-};
-
-/// A source of bytes, of which each read gives so many.
-fn source_of(alloc: Global, bytes: &[u8], outside: &Outside<'_>) -> Result<MemSource, Fail> {
-    let mut cuts = Vec::new(alloc);
-    for _ in bytes {
-        cuts.push(outside.cut)?;
-    }
-    Ok(MemSource::new(
-        List::from_vec(Vec::from_slice(alloc, bytes)?),
-        List::from_vec(cuts),
-        List::from_vec(Vec::from_slice(alloc, outside.reads)?),
-    ))
-}
-
-/// What comes of a stream over a configuration, in groups of two: how the run comes out, what was written, the number of the calls in the
-/// history, and what one read more answers.
-fn ran(
-    rt: &impl Abort,
-    alloc: Global,
-    config: &[u8],
-    bytes: &[u8],
-    outside: &Outside<'_>,
-) -> Result<(StreamEnd, Vec<u8>, usize, Got), Fail> {
-    let setup = read_setup(alloc, config).ok().ok_or("a setup")?;
-    assert!(rt; setup.slots() == 4 && setup.per_slot() == 32);
-    let mut source = source_of(alloc, bytes, outside)?;
-    let failing = List::from_vec(Vec::from_slice(alloc, outside.writes)?);
-    let mut sink = MemSink::new(alloc, List::new(alloc), failing);
-    let mut log = Log::kept(alloc);
-    let quick = Quick { alloc };
-    let end = run_stream(alloc, &setup, &quick, 2, &mut log, &mut source, &mut sink)?;
-    let history = log.into_entries().ok_or("a history")?;
-    let mut one = [0u8];
-    let next = source.read(&mut one);
-    Ok((
-        end,
-        Vec::from_slice(alloc, sink.held())?,
-        history.len(),
-        next,
-    ))
-}
-
-/// What the first `n` bytes of the fragmented stream are answered with.
-fn answers(alloc: Global, n: usize) -> Result<Vec<u8>, Fail> {
-    match n {
-        0..72 => joined(alloc, &[]),
-        72..128 => joined(alloc, &[REPLY_2]),
-        _ => joined(alloc, &[REPLY_2, REPLY_1]),
-    }
-}
-
-#[test]
-fn each_front_of_a_fragmented_stream_is_run(rt: HostRuntime) -> Result<(), Fail> {
-    let alloc = rt.alloc();
-    let bytes = fragmented(alloc)?;
-    assert_eq!(rt; bytes.len(), 128);
-    for n in 0..bytes.len() + 1 {
-        let ending = if n == 0 || n == 128 {
-            Ending::Ended
-        } else {
-            Ending::Cut(0)
-        };
-        for cut in [1, 7, READ_LEN] {
-            let outside = Outside { cut, ..STEADY };
-            let (end, written, _, next) = ran(&rt, alloc, PLAIN, &bytes[..n], &outside)?;
-            assert_eq!(rt;
-                end,
-                StreamEnd::Ended(ReadEnd::Ended(ending)),
-                "{n} bytes by {cut}"
-            );
-            assert!(rt; written == answers(alloc, n)?, "{n} bytes by {cut}");
-            assert_eq!(rt; next, Got::End);
-        }
-    }
-    Ok(())
-}
-
-#[test]
-fn what_was_read_before_a_failed_read_is_run(rt: HostRuntime) -> Result<(), Fail> {
-    let alloc = rt.alloc();
-    let bytes = fragmented(alloc)?;
-    for n in 0..bytes.len() + 1 {
-        let reads = [n as u64];
-        let outside = Outside {
-            cut: 1,
-            reads: &reads,
-            writes: &[],
-        };
-        let (end, written, _, _) = ran(&rt, alloc, PLAIN, bytes.as_slice(), &outside)?;
-        assert_eq!(rt; end, StreamEnd::Ended(ReadEnd::ReadFault), "{n}");
-        assert!(rt; written == answers(alloc, n)?, "{n}");
-    }
-    Ok(())
-}
-
-#[test]
-fn nothing_is_read_behind_a_failed_write(rt: HostRuntime) -> Result<(), Fail> {
-    let alloc = rt.alloc();
-    let bytes = joined(alloc, &[BETWEEN, BETWEEN, BETWEEN, BETWEEN, BROKEN])?;
-    let replies = joined(alloc, &[REPLY_2, REPLY_2, REPLY_2, REPLY_2])?;
-    // Of two requests a group has two offers, four calls of their turns and two collects.
-    let rows = [
-        (0, 7, 0, Got::Bytes(1)),
-        (1, 8, 24, Got::Bytes(1)),
-        (2, 15, 48, Got::Bytes(1)),
-        (3, 16, 72, Got::Bytes(1)),
-        (4, 18, 96, Got::End),
-    ];
-    for (failing, calls, len, left) in rows {
-        let writes = [failing];
-        let outside = Outside {
-            cut: 48,
-            reads: &[],
-            writes: &writes,
-        };
-        let (end, written, noted, next) = ran(&rt, alloc, PLAIN, bytes.as_slice(), &outside)?;
-        assert_eq!(rt; end, StreamEnd::WriteFault, "{failing}");
-        assert!(rt; replies.starts_with(written.as_slice()), "{failing}");
-        assert_eq!(rt;
-            (written.len(), noted, next),
-            (len, calls, left),
-            "{failing}"
-        );
-    }
-    Ok(())
-}
-
-#[test]
-fn the_reading_stops_where_it_ends(rt: HostRuntime) -> Result<(), Fail> {
-    let alloc = rt.alloc();
-    let ended = StreamEnd::Ended(ReadEnd::Ended(Ending::Ended));
-    let fault = Fault::Frame(FrameCause::BadMagic);
-    let broken = StreamEnd::Ended(ReadEnd::Ended(Ending::Broken { offset: 48, fault }));
-    let rows: [(&[u8], &[&[u8]], StreamEnd, &[u8]); 3] = [
-        (PLAIN, &[BETWEEN, CLOSE, BROKEN], ended, &[]),
-        (PLAIN, &[BETWEEN, BROKEN, CLOSE], broken, ERROR),
-        (
-            ONE_CALL,
-            &[BETWEEN, BETWEEN, BROKEN],
-            StreamEnd::Closed,
-            CLOSE,
-        ),
-    ];
-    for (config, parts, out_so, last) in rows {
-        let bytes = joined(alloc, parts)?;
-        let wanted = joined(alloc, &[REPLY_2, last])?;
-        for (cut, left) in [(1, Got::Bytes(1)), (READ_LEN, Got::End)] {
-            let outside = Outside { cut, ..STEADY };
-            let (end, written, _, next) = ran(&rt, alloc, config, bytes.as_slice(), &outside)?;
-            assert_eq!(rt; end, out_so);
-            assert!(rt; written == wanted);
-            assert_eq!(rt; next, left);
-        }
-    }
-    Ok(())
 }
 
 #[test]
@@ -277,4 +551,16 @@ fn a_piece_is_heard(rt: HostRuntime) -> Result<(), Fail> {
         _ => panic!(rt; "one request"),
     }
     Ok(())
+}
+
+/// Whether the bytes are these parts, one behind the other.
+fn is_joined(bytes: &[u8], parts: &[&[u8]]) -> bool {
+    let mut rest = bytes;
+    for part in parts {
+        match rest.strip_prefix(*part) {
+            Some(after) => rest = after,
+            None => return false,
+        }
+    }
+    rest.is_empty()
 }

@@ -5,9 +5,8 @@ use giop_frames::FrameCause;
 use giop_messages::Fault;
 use heard_calls::*;
 use lane_machine::LaneCall;
-use orb_base::{ConnId, SysName, What};
+use orb_base::{ConnId, Job, Notice, Octets, SysName, What};
 use std::alloc::Global;
-use std::test::Fail;
 
 /// No lanes; `ping` under CLIENT_PROPAGATED at 100.
 const CONFIG: &[u8] =
@@ -40,116 +39,175 @@ const CLOSE: &[u8] = b"GIOP\x01\x02\0\x05\0\0\0\0";
 
 const CONN: ConnId = ConnId { slot: 0, nth: 0 };
 
+/// A header with another magic.
+const BROKEN: &[u8] = b"GIOX\x01\x02\0\0\0\0\0\0";
+
 /// A call: a request by its number among the calls and its priority, an answer by its id and its system exception's minor code.
-#[derive(Clone, Copy, Debug, PartialEq, Eq)]
+#[derive(Clone, Copy)]
 enum Call {
     Offer(u32, u16),
     Bound(u32),
     Refused(u32, SysName, u32),
     Located(u32, bool),
     Cancel(u32),
-    Other,
 }
 
-fn call_shape(call: &LaneCall) -> Call {
+/// The parts of an input, one behind the other, the calls that they mean, and how the reading ends.
+type Row = (&'static [&'static [u8]], &'static [Call], Ending);
+
+fn offers(job: &Job, want: Call) -> bool {
+    match want {
+        Call::Offer(serial, level) => job.serial == serial && job.priority.level() == level,
+        _ => false,
+    }
+}
+
+fn posts(notice: &Notice, want: Call) -> bool {
+    match want {
+        Call::Bound(id) => notice.id == id && notice.what == What::Bound,
+        Call::Located(id, here) => notice.id == id && notice.what == What::Located(here),
+        Call::Refused(id, name, minor) => notice.id == id && refuses(notice.what, name, minor),
+        _ => false,
+    }
+}
+
+fn refuses(what: What, name: SysName, minor: u32) -> bool {
+    match what {
+        What::System(sys) => sys.name == name && sys.minor == minor,
+        _ => false,
+    }
+}
+
+fn cancels(cancelled: u32, want: Call) -> bool {
+    match want {
+        Call::Cancel(id) => cancelled == id,
+        _ => false,
+    }
+}
+
+fn is_call(call: &LaneCall, want: Call) -> bool {
     match call {
-        LaneCall::Offer(job) => Call::Offer(job.get().serial, job.get().priority.level()),
-        LaneCall::Post(notice) => match notice.what {
-            What::Bound => Call::Bound(notice.id),
-            What::System(sys) => Call::Refused(notice.id, sys.name, sys.minor),
-            What::Located(here) => Call::Located(notice.id, here),
-            What::Addressing => Call::Other,
-        },
-        LaneCall::Cancel { id, .. } => Call::Cancel(*id),
-        _ => Call::Other,
+        LaneCall::Offer(job) => offers(job.get(), want),
+        LaneCall::Post(notice) => posts(notice, want),
+        LaneCall::Cancel { id, .. } => cancels(*id, want),
+        _ => false,
     }
 }
 
-fn setup(alloc: Global) -> Result<Setup, Fail> {
-    Ok(read_setup(alloc, CONFIG).ok().ok_or("a configuration")?)
+fn are_calls(calls: &[LaneCall], want: &[Call]) -> bool {
+    let mut left = want;
+    for call in calls {
+        match left.split_first() {
+            Some((first, rest)) if is_call(call, *first) => left = rest,
+            _ => return false,
+        }
+    }
+    left.is_empty()
 }
 
-/// Whether the parts, one behind the other, mean these calls and end so.
-fn means(alloc: Global, parts: &[&[u8]], calls: &[Call], ending: Ending) -> Result<bool, Fail> {
-    let mut bytes = Vec::new(alloc);
-    for part in parts {
-        bytes.extend_from_slice(part)?;
-    }
+/// Whether an input means these calls and ends so.
+fn hears(alloc: Global, setup: &Setup, bytes: &[u8], calls: &[Call], ending: Ending) -> bool {
     if bytes.len() > 1024 {
-        return Ok(false);
+        return false;
     }
-    let heard = hear_input(alloc, &setup(alloc)?, CONN, bytes.as_slice())?;
-    let mut shapes = Vec::new(alloc);
-    for call in heard.calls.as_slice() {
-        shapes.push(call_shape(call))?;
+    match hear_input(alloc, setup, CONN, bytes) {
+        Ok(heard) => are_calls(heard.calls.as_slice(), calls) && heard.ending == ending,
+        Err(_) => false,
     }
-    Ok(shapes.as_slice() == calls && heard.ending == ending)
 }
+
+/// Puts these parts behind the bytes; whether there was room.
+fn join(bytes: &mut Octets, parts: &[&[u8]]) -> bool {
+    for part in parts {
+        if bytes.append(part).is_err() {
+            return false;
+        }
+    }
+    true
+}
+
+fn holds(alloc: Global, setup: &Setup, row: &Row) -> bool {
+    let (parts, calls, ending) = *row;
+    let mut bytes = Octets::new(alloc);
+    join(&mut bytes, parts) && hears(alloc, setup, bytes.as_slice(), calls, ending)
+}
+
+fn each_holds(alloc: Global, setup: &Setup, rows: &[Row]) -> bool {
+    for row in rows {
+        if !holds(alloc, setup, row) {
+            return false;
+        }
+    }
+    true
+}
+
+fn all_hold(alloc: Global, rows: &[Row]) -> bool {
+    match read_setup(alloc, CONFIG) {
+        Ok(setup) => each_holds(alloc, &setup, rows),
+        Err(_) => false,
+    }
+}
+
+const MEANT: &[Row] = &[
+    (&[], &[], Ending::Ended),
+    (
+        &[PING, PING],
+        &[Call::Offer(0, 100), Call::Offer(1, 100)],
+        Ending::Ended,
+    ),
+    (
+        &[CANCEL, LOCATE],
+        &[Call::Cancel(7), Call::Located(5, true)],
+        Ending::Ended,
+    ),
+    // A refusal that nobody is told of is no call, and doesn't count.
+    (&[SILENT, PING], &[Call::Offer(0, 100)], Ending::Ended),
+    // A bound band holds from the next message on.
+    (
+        &[AT_99, BIND, AT_99],
+        &[
+            Call::Offer(0, 99),
+            Call::Bound(1),
+            Call::Refused(2, SysName::InvPolicy, 4),
+        ],
+        Ending::Ended,
+    ),
+];
 
 #[test]
-fn messages_mean_their_calls(rt: HostRuntime) -> Result<(), Fail> {
-    let alloc = rt.alloc();
-    let ended = Ending::Ended;
+fn messages_mean_their_calls(rt: HostRuntime) {
     laws::messages_mean_one_thing();
     laws::hearing_goes_on();
-    assert!(rt; means(alloc, &[], &[], ended)?);
-    assert!(rt;
-        means(
-            alloc,
-            &[PING, PING],
-            &[Call::Offer(0, 100), Call::Offer(1, 100)],
-            ended
-        )?
-    );
-    assert!(rt;
-        means(
-            alloc,
-            &[CANCEL, LOCATE],
-            &[Call::Cancel(7), Call::Located(5, true)],
-            ended
-        )?
-    );
-    // A refusal that nobody is told of is no call, and doesn't count.
-    assert!(rt; means(alloc, &[SILENT, PING], &[Call::Offer(0, 100)], ended)?);
-    // A bound band holds from the next message on.
-    let refused = Call::Refused(2, SysName::InvPolicy, 4);
-    assert!(rt;
-        means(
-            alloc,
-            &[AT_99, BIND, AT_99],
-            &[Call::Offer(0, 99), Call::Bound(1), refused],
-            ended
-        )?
-    );
-    Ok(())
+    assert!(rt; all_hold(rt.alloc(), MEANT));
 }
 
-#[test]
-fn a_message_may_end_the_reading(rt: HostRuntime) -> Result<(), Fail> {
-    let alloc = rt.alloc();
-    let one = [Call::Offer(0, 100)];
-    assert!(rt; means(alloc, &[PING, CLOSE, PING], &one, Ending::Ended)?);
-    let fault = Fault::WrongWay;
-    assert!(rt;
-        means(
-            alloc,
-            &[PING, LOCATED, PING],
-            &one,
-            Ending::Broken { offset: 48, fault }
-        )?
-    );
+/// The call of one request.
+const ONE: &[Call] = &[Call::Offer(0, 100)];
+
+const ENDING: &[Row] = &[
+    (&[PING, CLOSE, PING], ONE, Ending::Ended),
+    (
+        &[PING, LOCATED, PING],
+        ONE,
+        Ending::Broken {
+            offset: 48,
+            fault: Fault::WrongWay,
+        },
+    ),
     // A message goes before a fault of framing behind it.
-    assert!(rt;
-        means(
-            alloc,
-            &[CLOSE, b"GIOX\x01\x02\0\0\0\0\0\0"],
-            &[],
-            Ending::Ended
-        )?
-    );
-    let fault = Fault::Frame(FrameCause::BadMagic);
-    let bad = Ending::Broken { offset: 48, fault };
-    assert!(rt; means(alloc, &[PING, b"GIOX\x01\x02\0\0\0\0\0\0"], &one, bad)?);
-    assert!(rt; means(alloc, &[PING, b"GIOP"], &one, Ending::Cut(48))?);
-    Ok(())
+    (&[CLOSE, BROKEN], &[], Ending::Ended),
+    (
+        &[PING, BROKEN],
+        ONE,
+        Ending::Broken {
+            offset: 48,
+            fault: Fault::Frame(FrameCause::BadMagic),
+        },
+    ),
+    (&[PING, b"GIOP"], ONE, Ending::Cut(48)),
+];
+
+#[test]
+fn a_message_may_end_the_reading(rt: HostRuntime) {
+    assert!(rt; all_hold(rt.alloc(), ENDING));
 }

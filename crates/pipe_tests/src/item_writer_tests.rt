@@ -11,49 +11,98 @@ use orb_base::{
     Priority, SharedOctets, Sys, SysName, Text, What,
 };
 use std::alloc::Global;
-use std::test::Fail;
 use text_streams::WriteAll;
 
 const CONN: ConnId = ConnId { slot: 0, nth: 0 };
 
-/// A request of id 7.
-fn job(alloc: Global, order: Order) -> Result<Arc<Job>, Fail> {
+/// What a connection is owed for its request of id 7, or what ends it.
+#[derive(Clone, Copy)]
+enum Owed {
+    Returned(Order, &'static [u8]),
+    User(Order, &'static [u8]),
+    System(Order, Sys),
+    Early(Order),
+    Transient(Order),
+    Noticed(Order, What),
+    Close,
+    Error,
+    Done,
+}
+
+/// The request.
+fn job(alloc: Global, order: Order) -> Option<Arc<Job>> {
+    let priority = Priority::new(1)?;
+    let operation = Text::new(alloc, b"f").ok()?;
     let job = Job {
         conn: CONN,
         serial: 0,
         id: 7,
         order,
         due: Due::Late,
-        priority: Priority::new(1).ok_or("a priority")?,
+        priority,
         lane: 0,
         size: 48,
         target: 0,
-        operation: match Text::new(alloc, b"f") {
-            Ok(text) => text,
-            Err(_) => return Err(Fail::new("a text")),
-        },
+        operation,
         body: List::new(alloc),
     };
-    Ok(Arc::new(alloc, job)?)
+    match Arc::new(alloc, job) {
+        Ok(job) => Some(job),
+        Err(_) => None,
+    }
 }
 
-fn answered(alloc: Global, order: Order, outcome: Outcome) -> Result<LaneReply, Fail> {
-    let job = job(alloc, order)?;
-    Ok(LaneReply::Handed(Item::Answered(Answer { job, outcome })))
+fn answered(alloc: Global, order: Order, outcome: Outcome) -> Option<LaneReply> {
+    match job(alloc, order) {
+        Some(job) => Some(LaneReply::Handed(Item::Answered(Answer { job, outcome }))),
+        None => None,
+    }
+}
+
+fn shared(alloc: Global, bytes: Vec<u8>) -> Option<SharedOctets> {
+    match SharedOctets::new(alloc, List::from_vec(bytes)) {
+        Ok(body) => Some(body),
+        Err(_) => None,
+    }
+}
+
+fn octets(alloc: Global, bytes: &[u8]) -> Option<SharedOctets> {
+    match Vec::from_slice(alloc, bytes) {
+        Ok(bytes) => shared(alloc, bytes),
+        Err(_) => None,
+    }
+}
+
+fn returned(alloc: Global, order: Order, body: SharedOctets) -> Option<LaneReply> {
+    answered(alloc, order, Outcome::Returned(body))
+}
+
+fn handed(item: Item) -> LaneReply {
+    LaneReply::Handed(item)
 }
 
 fn noticed(order: Order, what: What) -> LaneReply {
-    let notice = Notice {
+    handed(Item::Noticed(Notice {
         conn: CONN,
         order,
         id: 7,
         what,
-    };
-    LaneReply::Handed(Item::Noticed(notice))
+    }))
 }
 
-fn octets(alloc: Global, bytes: &[u8]) -> Result<SharedOctets, Fail> {
-    Ok(SharedOctets::new(alloc, List::from_vec(Vec::from_slice(alloc, bytes)?))?)
+/// The answer of Collect.
+fn reply_of(alloc: Global, owed: Owed) -> Option<LaneReply> {
+    match owed {
+        Owed::Returned(order, body) => returned(alloc, order, octets(alloc, body)?),
+        Owed::User(order, body) => answered(alloc, order, Outcome::User(octets(alloc, body)?)),
+        Owed::System(order, sys) => answered(alloc, order, Outcome::System(sys)),
+        Owed::Early(order) => Some(handed(Item::Early(job(alloc, order)?))),
+        Owed::Transient(order) => Some(handed(Item::Transient(job(alloc, order)?))),
+        Owed::Noticed(order, what) => Some(noticed(order, what)),
+        Owed::Close => Some(LaneReply::Close),
+        Owed::Error => Some(LaneReply::Error),
+        Owed::Done => Some(LaneReply::Done),
+    }
 }
 
 /// Whether the body is no longer than an answer's may be.
@@ -70,108 +119,154 @@ fn is_short(reply: &LaneReply) -> bool
     }
 }
 
-/// What is written for an answer of Collect, and how that came out; the writes of these numbers fail.
-fn written(alloc: Global, reply: &LaneReply, failing: &[u64]) -> Result<(WriteAll, Vec<u8>), Fail> {
-    if !is_short(reply) {
-        return Err(Fail::new("a short body"));
-    }
-    let failing = List::from_vec(Vec::from_slice(alloc, failing)?);
-    let mut sink = MemSink::new(alloc, List::new(alloc), failing);
-    let wrote = write_said(&mut sink, reply);
-    Ok((wrote, Vec::from_slice(alloc, sink.held())?))
+/// Whether an answer of Collect is written whole, or else isn't.
+fn comes_out(sink: &mut MemSink, reply: &LaneReply, whole: bool) -> bool {
+    is_short(reply) && (write_said(sink, reply) == WriteAll::Whole) == whole
 }
 
+/// A sink whose write of this number fails.
+fn failing_at(alloc: Global, number: u64) -> Option<MemSink> {
+    let mut failing = List::new(alloc);
+    match failing.push(number) {
+        Ok(()) => Some(MemSink::new(alloc, List::new(alloc), failing)),
+        Err(_) => None,
+    }
+}
+
+/// Whether these bytes are written for an answer of Collect.
+fn writes(sink: MemSink, reply: &LaneReply, want: &[u8]) -> bool {
+    let mut sink = sink;
+    comes_out(&mut sink, reply, true) && sink.held() == want
+}
+
+fn holds(alloc: Global, owed: Owed, want: &[u8]) -> bool {
+    match reply_of(alloc, owed) {
+        Some(reply) => {
+            let sink = MemSink::new(alloc, List::new(alloc), List::new(alloc));
+            writes(sink, &reply, want)
+        }
+        None => false,
+    }
+}
+
+/// Whether these bytes are written for what is owed.
+fn all_hold(alloc: Global, rows: &[(Owed, &[u8])]) -> bool {
+    for (owed, want) in rows {
+        if !holds(alloc, *owed, *want) {
+            return false;
+        }
+    }
+    true
+}
+
+const BAD: Sys = Sys {
+    name: SysName::BadOperation,
+    minor: 1,
+    completed: Completed::No,
+};
+
 /// The messages of a finished request: its result, a user exception and a system exception.
+const OUTCOMES: &[(Owed, &[u8])] = &[
+    (
+        Owed::Returned(Order::Big, &[0, 100]),
+        b"GIOP\x01\x02\0\x01\0\0\0\x0e\0\0\0\x07\0\0\0\0\0\0\0\0\0\x64",
+    ),
+    (
+        Owed::User(Order::Little, b"x"),
+        b"GIOP\x01\x02\x01\x01\x0d\0\0\0\x07\0\0\0\x01\0\0\0\0\0\0\0x",
+    ),
+    (
+        Owed::System(Order::Big, BAD),
+        b"GIOP\x01\x02\0\x01\0\0\0\x3c\0\0\0\x07\0\0\0\x02\0\0\0\0\0\0\0\x24IDL:omg.org/CORBA/BAD_OPERATION:1.0\0\0\0\0\x01\0\0\0\x01",
+    ),
+];
+
 #[test]
-fn outcomes_are_replies(rt: HostRuntime) -> Result<(), Fail> {
-    let alloc = rt.alloc();
-    let bad = Sys {
-        name: SysName::BadOperation,
-        minor: 1,
-        completed: Completed::No,
-    };
-    let reply = answered(
-        alloc,
-        Order::Big,
-        Outcome::Returned(octets(alloc, &[0, 100])?),
-    )?;
-    let (_, bytes) = written(alloc, &reply, &[])?;
-    assert_eq!(rt;
-        bytes.as_slice(),
-        b"GIOP\x01\x02\0\x01\0\0\0\x0e\0\0\0\x07\0\0\0\0\0\0\0\0\0\x64".as_slice()
-    );
-    let reply = answered(alloc, Order::Little, Outcome::User(octets(alloc, b"x")?))?;
-    let (_, bytes) = written(alloc, &reply, &[])?;
-    assert_eq!(rt;
-        bytes.as_slice(),
-        b"GIOP\x01\x02\x01\x01\x0d\0\0\0\x07\0\0\0\x01\0\0\0\0\0\0\0x".as_slice()
-    );
-    let reply = answered(alloc, Order::Big, Outcome::System(bad))?;
-    let (_, bytes) = written(alloc, &reply, &[])?;
-    assert_eq!(rt;
-        bytes.as_slice(),
-        b"GIOP\x01\x02\0\x01\0\0\0\x3c\0\0\0\x07\0\0\0\x02\0\0\0\0\0\0\0\x24IDL:omg.org/CORBA/BAD_OPERATION:1.0\0\0\0\0\x01\0\0\0\x01".as_slice()
-    );
-    Ok(())
+fn outcomes_are_replies(rt: HostRuntime) {
+    assert!(rt; all_hold(rt.alloc(), OUTCOMES));
 }
 
 /// What else is handed over, and what ends a connection.
-#[test]
-fn other_answers_are_their_messages(rt: HostRuntime) -> Result<(), Fail> {
-    let alloc = rt.alloc();
-    let early = LaneReply::Handed(Item::Early(job(alloc, Order::Little)?));
-    let refused = LaneReply::Handed(Item::Transient(job(alloc, Order::Big)?));
-    let rows: [(&LaneReply, &[u8]); 8] = [
-        (
-            &early,
-            b"GIOP\x01\x02\x01\x01\x0c\0\0\0\x07\0\0\0\0\0\0\0\0\0\0\0",
-        ),
-        (
-            &refused,
-            b"GIOP\x01\x02\0\x01\0\0\0\x38\0\0\0\x07\0\0\0\x02\0\0\0\0\0\0\0\x20IDL:omg.org/CORBA/TRANSIENT:1.0\0\0\0\0\x01\0\0\0\x01",
-        ),
-        (
-            &noticed(Order::Big, What::Bound),
-            b"GIOP\x01\x02\0\x01\0\0\0\x0c\0\0\0\x07\0\0\0\0\0\0\0\0",
-        ),
-        (
-            &noticed(Order::Big, What::Located(true)),
-            b"GIOP\x01\x02\0\x04\0\0\0\x08\0\0\0\x07\0\0\0\x01",
-        ),
-        (
-            &noticed(Order::Big, What::Located(false)),
-            b"GIOP\x01\x02\0\x04\0\0\0\x08\0\0\0\x07\0\0\0\0",
-        ),
-        (
-            &noticed(Order::Big, What::Addressing),
-            b"GIOP\x01\x02\0\x01\0\0\0\x0e\0\0\0\x07\0\0\0\x05\0\0\0\0\0\0",
-        ),
-        (&LaneReply::Close, b"GIOP\x01\x02\0\x05\0\0\0\0"),
-        (&LaneReply::Error, b"GIOP\x01\x02\0\x06\0\0\0\0"),
-    ];
-    for (reply, want) in rows {
-        let (wrote, bytes) = written(alloc, reply, &[])?;
-        assert!(rt;
-            wrote == WriteAll::Whole && bytes.as_slice() == want,
-            "{want:?}"
-        );
+const OTHERS: &[(Owed, &[u8])] = &[
+    (
+        Owed::Early(Order::Little),
+        b"GIOP\x01\x02\x01\x01\x0c\0\0\0\x07\0\0\0\0\0\0\0\0\0\0\0",
+    ),
+    (
+        Owed::Transient(Order::Big),
+        b"GIOP\x01\x02\0\x01\0\0\0\x38\0\0\0\x07\0\0\0\x02\0\0\0\0\0\0\0\x20IDL:omg.org/CORBA/TRANSIENT:1.0\0\0\0\0\x01\0\0\0\x01",
+    ),
+    (
+        Owed::Noticed(Order::Big, What::Bound),
+        b"GIOP\x01\x02\0\x01\0\0\0\x0c\0\0\0\x07\0\0\0\0\0\0\0\0",
+    ),
+    (
+        Owed::Noticed(Order::Big, What::Located(true)),
+        b"GIOP\x01\x02\0\x04\0\0\0\x08\0\0\0\x07\0\0\0\x01",
+    ),
+    (
+        Owed::Noticed(Order::Big, What::Located(false)),
+        b"GIOP\x01\x02\0\x04\0\0\0\x08\0\0\0\x07\0\0\0\0",
+    ),
+    (
+        Owed::Noticed(Order::Big, What::Addressing),
+        b"GIOP\x01\x02\0\x01\0\0\0\x0e\0\0\0\x07\0\0\0\x05\0\0\0\0\0\0",
+    ),
+    (Owed::Close, b"GIOP\x01\x02\0\x05\0\0\0\0"),
+    (Owed::Error, b"GIOP\x01\x02\0\x06\0\0\0\0"),
+];
+
+/// Whether nothing is written where nothing is owed: the first write fails, and isn't made.
+fn done_writes_nothing(alloc: Global) -> bool {
+    match failing_at(alloc, 0) {
+        Some(sink) => writes(sink, &LaneReply::Done, b""),
+        None => false,
     }
-    let (wrote, bytes) = written(alloc, &LaneReply::Done, &[0])?;
-    assert!(rt; wrote == WriteAll::Whole && bytes.is_empty());
-    Ok(())
+}
+
+#[test]
+fn other_answers_are_their_messages(rt: HostRuntime) {
+    assert!(rt; all_hold(rt.alloc(), OTHERS));
+    assert!(rt; done_writes_nothing(rt.alloc()));
+}
+
+/// The bytes of a body, whether its reply is whole where the second write fails, and the bytes that are written then.
+const WRITES: [(usize, bool, usize); 3] = [(0, true, 24), (104, true, 128), (105, false, 24)];
+
+/// A reply with a body of so many bytes.
+fn long(alloc: Global, len: usize) -> Option<LaneReply> {
+    match vec![in alloc; 7u8; len] {
+        Ok(body) => returned(alloc, Order::Big, shared(alloc, body)?),
+        Err(_) => None,
+    }
+}
+
+/// Whether the reply is written whole, or else isn't, and so many bytes of it are.
+fn takes(alloc: Global, reply: &LaneReply, whole: bool, bytes: usize) -> bool {
+    match failing_at(alloc, 1) {
+        Some(mut sink) => comes_out(&mut sink, reply, whole) && sink.held().len() == bytes,
+        None => false,
+    }
+}
+
+fn is_written(alloc: Global, len: usize, whole: bool, bytes: usize) -> bool {
+    match long(alloc, len) {
+        Some(reply) => takes(alloc, &reply, whole, bytes),
+        None => false,
+    }
+}
+
+fn all_are_written(alloc: Global) -> bool {
+    for (len, whole, bytes) in WRITES {
+        if !is_written(alloc, len, whole, bytes) {
+            return false;
+        }
+    }
+    true
 }
 
 /// A head and a small body are one write: the second one fails, and isn't made. A larger body is written behind its head.
 #[test]
-fn a_small_reply_is_one_write(rt: HostRuntime) -> Result<(), Fail> {
-    let alloc = rt.alloc();
-    for (len, whole) in [(0usize, true), (104, true), (105, false)] {
-        let body = vec![in alloc; 7u8; len]?;
-        let outcome = Outcome::Returned(SharedOctets::new(alloc, List::from_vec(body))?);
-        let reply = answered(alloc, Order::Big, outcome)?;
-        let (wrote, bytes) = written(alloc, &reply, &[1])?;
-        assert_eq!(rt; wrote == WriteAll::Whole, whole, "{len}");
-        assert_eq!(rt; bytes.len(), if whole { 24 + len } else { 24 }, "{len}");
-    }
-    Ok(())
+fn a_small_reply_is_one_write(rt: HostRuntime) {
+    assert!(rt; all_are_written(rt.alloc()));
 }

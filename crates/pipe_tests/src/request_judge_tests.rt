@@ -4,12 +4,11 @@ use adapter_policies::{Setup, read_setup};
 use giop_messages::{Request, Target};
 use lane_machine::LaneCall;
 use orb_base::{
-    Band, Completed, ConnId, Context, Due, List, NoMemory, Octets, Order, Priority, SysName,
+    Band, Completed, ConnId, Context, Due, Job, List, Notice, Octets, Order, Priority, SysName,
     Tagged, Text, What,
 };
 use request_judge::*;
 use std::alloc::Global;
-use std::test::Fail;
 
 /// Lanes 10 and 20; `ping` under CLIENT_PROPAGATED at 10, `decl` under SERVER_DECLARED at 20.
 const LANES: &[u8] =
@@ -20,273 +19,438 @@ const MAPPED: &[u8] =
     b"pool = { static = 1, dynamic = 0, default_priority = 100 }\nmap = { kind = \"linear\", corba_low = 0, corba_high = 100, native_low = 1, native_high = 10 }\nadapter = [{ name = \"main\", model = \"CLIENT_PROPAGATED\", priority = 100 }]\nobject = [{ key = \"ping\", adapter = \"main\", interface = \"i\" }]\n";
 
 /// A verdict as numbers: target, priority and lane, or the ends of a band.
-#[derive(Clone, Copy, Debug, PartialEq, Eq)]
+#[derive(Clone, Copy)]
 enum Shape {
-    Runs(u16, u16, u8),
-    Binds(u16, u16),
+    Runs(u16, i16, u8),
+    Binds(i16, i16),
     Refused(Refusal),
 }
 
-/// The bound band, the key, the operation, and the id and bytes of a context.
+/// The bound band, the key, the operation, the id and bytes of a context, and what the request comes to.
 type Row = (
     Option<(i16, i16)>,
     &'static [u8],
     &'static [u8],
     Option<(u32, &'static [u8])>,
+    Shape,
 );
 
 const CURRENT: &[u8] = b"current";
 
 const BIND: &[u8] = b"_bind_priority_band";
 
-fn text(alloc: Global, bytes: &[u8]) -> Result<Text, Fail> {
-    Ok(Text::new(alloc, bytes).ok().ok_or("a text")?)
-}
-
-fn octets(alloc: Global, bytes: &[u8]) -> Result<Octets, NoMemory> {
-    Ok(Octets::from_vec(Vec::from_slice(alloc, bytes)?))
-}
-
-fn contexts(alloc: Global, context: Option<(u32, &[u8])>) -> Result<List<Context>, Fail> {
-    let mut list = Vec::new(alloc);
-    if let Some((id, bytes)) = context {
-        let bytes = octets(alloc, bytes)?;
-        list.push(Context { id, bytes })?;
+fn octets(alloc: Global, bytes: &[u8]) -> Option<Octets> {
+    match Vec::from_slice(alloc, bytes) {
+        Ok(bytes) => Some(Octets::from_vec(bytes)),
+        Err(_) => None,
     }
-    Ok(List::from_vec(list))
 }
 
-/// A request of id 7.
+fn key(alloc: Global, bytes: &[u8]) -> Option<Target> {
+    match octets(alloc, bytes) {
+        Some(bytes) => Some(Target::Key(bytes)),
+        None => None,
+    }
+}
+
+/// The list of one context.
+fn one_context(alloc: Global, id: u32, bytes: Octets) -> Option<List<Context>> {
+    let mut list = List::new(alloc);
+    match list.push(Context { id, bytes }) {
+        Ok(()) => Some(list),
+        Err(_) => None,
+    }
+}
+
+fn contexts(alloc: Global, context: Option<(u32, &[u8])>) -> Option<List<Context>> {
+    match context {
+        Some((id, bytes)) => match octets(alloc, bytes) {
+            Some(bytes) => one_context(alloc, id, bytes),
+            None => None,
+        },
+        None => Some(List::new(alloc)),
+    }
+}
+
+/// A request of id 7, without a body.
 fn request(
     alloc: Global,
     flags: u8,
-    key: &[u8],
+    target: Target,
+    operation: &[u8],
+    contexts: List<Context>,
+) -> Option<Request> {
+    match Text::new(alloc, operation) {
+        Ok(operation) => Some(Request {
+            id: 7,
+            flags,
+            target,
+            operation,
+            contexts,
+            body: List::new(alloc),
+        }),
+        Err(_) => None,
+    }
+}
+
+/// A request of a key, of id 7, without a body.
+fn asked(
+    alloc: Global,
+    flags: u8,
+    at: &[u8],
     operation: &[u8],
     context: Option<(u32, &[u8])>,
-) -> Result<Request, Fail> {
-    Ok(Request {
-        id: 7,
-        flags,
-        target: Target::Key(octets(alloc, key)?),
-        operation: text(alloc, operation)?,
-        contexts: contexts(alloc, context)?,
-        body: octets(alloc, b"")?,
-    })
+) -> Option<Request> {
+    let target = key(alloc, at)?;
+    let contexts = contexts(alloc, context)?;
+    request(alloc, flags, target, operation, contexts)
 }
 
-fn band(low: i16, high: i16) -> Result<Band, Fail> {
-    let low = Priority::new(low).ok_or("a priority")?;
-    let high = Priority::new(high).ok_or("a priority")?;
-    Ok(Band::new(low, high).ok_or("a band")?)
+fn band(low: i16, high: i16) -> Option<Band> {
+    Band::new(Priority::new(low)?, Priority::new(high)?)
 }
 
-fn bound(ends: Option<(i16, i16)>) -> Result<Option<Band>, Fail> {
-    match ends {
-        Some((low, high)) => Ok(Some(band(low, high)?)),
-        None => Ok(None),
+fn is_place(place: Place, want: Shape) -> bool {
+    match want {
+        Shape::Runs(target, level, lane) => {
+            place.target == target && place.priority.get() == level && place.lane == lane
+        }
+        _ => false,
     }
 }
 
-fn verdict_shape(verdict: Verdict) -> Shape {
+fn is_band(band: Band, want: Shape) -> bool {
+    match want {
+        Shape::Binds(low, high) => band.low().get() == low && band.high().get() == high,
+        _ => false,
+    }
+}
+
+fn is_refused(refusal: Refusal, want: Shape) -> bool {
+    match want {
+        Shape::Refused(cause) => refusal == cause,
+        _ => false,
+    }
+}
+
+fn is_verdict(verdict: Verdict, want: Shape) -> bool {
     match verdict {
-        Verdict::Runs(place) => Shape::Runs(place.target, place.priority.level(), place.lane),
-        Verdict::Binds(band) => Shape::Binds(band.low().level(), band.high().level()),
+        Verdict::Runs(place) => is_place(place, want),
+        Verdict::Binds(band) => is_band(band, want),
     }
 }
 
-fn shape_of(judged: Result<Verdict, Refusal>) -> Shape {
+/// Whether a judgement is this.
+fn is_shape(judged: Result<Verdict, Refusal>, want: Shape) -> bool {
     match judged {
-        Ok(verdict) => verdict_shape(verdict),
-        Err(refusal) => Shape::Refused(refusal),
+        Ok(verdict) => is_verdict(verdict, want),
+        Err(refusal) => is_refused(refusal, want),
     }
 }
 
-fn setup(alloc: Global, config: &[u8]) -> Result<Setup, Fail> {
-    Ok(read_setup(alloc, config).ok().ok_or("a configuration")?)
-}
-
-/// Whether the request of a row comes to this.
-fn comes_to(alloc: Global, config: &[u8], row: Row, want: Shape) -> Result<bool, Fail> {
-    let (ends, key, operation, context) = row;
-    let setup = setup(alloc, config)?;
-    let request = request(alloc, 3, key, operation, context)?;
-    Ok(shape_of(judge(&setup, bound(ends)?, &request)) == want)
-}
-
-#[test]
-fn requests_run_at_their_priority_in_its_lane(rt: HostRuntime) -> Result<(), Fail> {
-    let rows: [(Row, Shape); 5] = [
-        ((None, b"ping", CURRENT, None), Shape::Runs(0, 10, 0)),
-        (
-            (None, b"ping", CURRENT, Some((10, b"\0\0\0\x14"))),
-            Shape::Runs(0, 20, 1),
-        ),
-        // The server's priority holds, whatever is sent.
-        (
-            (None, b"decl", CURRENT, Some((10, b"\0\0\0\x0a"))),
-            Shape::Runs(1, 20, 1),
-        ),
-        (
-            (Some((10, 15)), b"ping", CURRENT, None),
-            Shape::Runs(0, 10, 0),
-        ),
-        // Another context counts for nothing.
-        (
-            (None, b"ping", CURRENT, Some((1, b"\xff"))),
-            Shape::Runs(0, 10, 0),
-        ),
-    ];
-    for (row, want) in &rows {
-        assert!(rt; comes_to(rt.alloc(), LANES, *row, *want)?, "{row:?}");
+/// Whether a request comes to this where a band of these ends is bound.
+fn comes_to(setup: &Setup, bound: Option<(i16, i16)>, request: &Request, want: Shape) -> bool {
+    match bound {
+        None => is_shape(judge(setup, None, request), want),
+        Some((low, high)) => match band(low, high) {
+            Some(band) => is_shape(judge(setup, Some(band), request), want),
+            None => false,
+        },
     }
-    let row = (
+}
+
+fn holds(alloc: Global, setup: &Setup, row: &Row) -> bool {
+    let (bound, key, operation, context, want) = *row;
+    match asked(alloc, 3, key, operation, context) {
+        Some(request) => comes_to(setup, bound, &request, want),
+        None => false,
+    }
+}
+
+fn each_holds(alloc: Global, setup: &Setup, rows: &[Row]) -> bool {
+    for row in rows {
+        if !holds(alloc, setup, row) {
+            return false;
+        }
+    }
+    true
+}
+
+/// Whether the requests of these rows come to what stands there.
+fn all_hold(alloc: Global, config: &[u8], rows: &[Row]) -> bool {
+    match read_setup(alloc, config) {
+        Ok(setup) => each_holds(alloc, &setup, rows),
+        Err(_) => false,
+    }
+}
+
+const RUNNING: &[Row] = &[
+    (None, b"ping", CURRENT, None, Shape::Runs(0, 10, 0)),
+    (
         None,
-        b"ping".as_slice(),
+        b"ping",
         CURRENT,
-        Some((10, b"\x01\0\x32\0".as_slice())),
-    );
-    assert!(rt; comes_to(rt.alloc(), MAPPED, row, Shape::Runs(0, 50, 0))?);
-    Ok(())
-}
+        Some((10, b"\0\0\0\x14")),
+        Shape::Runs(0, 20, 1),
+    ),
+    // The server's priority holds, whatever is sent.
+    (
+        None,
+        b"decl",
+        CURRENT,
+        Some((10, b"\0\0\0\x0a")),
+        Shape::Runs(1, 20, 1),
+    ),
+    (
+        Some((10, 15)),
+        b"ping",
+        CURRENT,
+        None,
+        Shape::Runs(0, 10, 0),
+    ),
+    // Another context counts for nothing.
+    (
+        None,
+        b"ping",
+        CURRENT,
+        Some((1, b"\xff")),
+        Shape::Runs(0, 10, 0),
+    ),
+];
+
+const RUNNING_MAPPED: &[Row] = &[(
+    None,
+    b"ping",
+    CURRENT,
+    Some((10, b"\x01\0\x32\0")),
+    Shape::Runs(0, 50, 0),
+)];
 
 #[test]
-fn requests_are_refused_for_the_first_cause(rt: HostRuntime) -> Result<(), Fail> {
-    let rows: [(Row, Refusal); 6] = [
-        ((None, b"pong", CURRENT, None), Refusal::UnknownObject),
-        // A context without a reading goes before an unknown key.
-        (
-            (None, b"pong", CURRENT, Some((10, b"\0\0\x80\0"))),
-            Refusal::BadContext,
-        ),
-        (
-            (None, b"ping", CURRENT, Some((11, b"\0\0\0\x02\0\x01"))),
-            Refusal::BadContext,
-        ),
-        (
-            (None, b"ping", CURRENT, Some((10, b"\0\0\0\x0f"))),
-            Refusal::NoLane,
-        ),
-        (
-            (Some((10, 15)), b"ping", CURRENT, Some((10, b"\0\0\0\x14"))),
-            Refusal::OutsideBand,
-        ),
-        (
-            (Some((12, 18)), b"ping", CURRENT, Some((10, b"\0\0\0\x0f"))),
-            Refusal::NoLane,
-        ),
-    ];
-    for (row, want) in &rows {
-        assert!(rt;
-            comes_to(rt.alloc(), LANES, *row, Shape::Refused(*want))?,
-            "{row:?}"
-        );
-    }
-    // 101 has no native priority; a band that doesn't hold it goes before.
-    let rows: [(Row, Refusal); 2] = [
-        (
-            (None, b"ping", CURRENT, Some((10, b"\0\0\0\x65"))),
-            Refusal::NoNative,
-        ),
-        (
-            (Some((0, 100)), b"ping", CURRENT, Some((10, b"\0\0\0\x65"))),
-            Refusal::OutsideBand,
-        ),
-    ];
-    for (row, want) in &rows {
-        assert!(rt;
-            comes_to(rt.alloc(), MAPPED, *row, Shape::Refused(*want))?,
-            "{row:?}"
-        );
-    }
-    Ok(())
+fn requests_run_at_their_priority_in_its_lane(rt: HostRuntime) {
+    assert!(rt; all_hold(rt.alloc(), LANES, RUNNING));
+    assert!(rt; all_hold(rt.alloc(), MAPPED, RUNNING_MAPPED));
 }
 
+const REFUSED: &[Row] = &[
+    (
+        None,
+        b"pong",
+        CURRENT,
+        None,
+        Shape::Refused(Refusal::UnknownObject),
+    ),
+    // A context without a reading goes before an unknown key.
+    (
+        None,
+        b"pong",
+        CURRENT,
+        Some((10, b"\0\0\x80\0")),
+        Shape::Refused(Refusal::BadContext),
+    ),
+    (
+        None,
+        b"ping",
+        CURRENT,
+        Some((11, b"\0\0\0\x02\0\x01")),
+        Shape::Refused(Refusal::BadContext),
+    ),
+    (
+        None,
+        b"ping",
+        CURRENT,
+        Some((10, b"\0\0\0\x0f")),
+        Shape::Refused(Refusal::NoLane),
+    ),
+    (
+        Some((10, 15)),
+        b"ping",
+        CURRENT,
+        Some((10, b"\0\0\0\x14")),
+        Shape::Refused(Refusal::OutsideBand),
+    ),
+    (
+        Some((12, 18)),
+        b"ping",
+        CURRENT,
+        Some((10, b"\0\0\0\x0f")),
+        Shape::Refused(Refusal::NoLane),
+    ),
+];
+
+/// 101 has no native priority; a band that doesn't hold it goes before.
+const REFUSED_MAPPED: &[Row] = &[
+    (
+        None,
+        b"ping",
+        CURRENT,
+        Some((10, b"\0\0\0\x65")),
+        Shape::Refused(Refusal::NoNative),
+    ),
+    (
+        Some((0, 100)),
+        b"ping",
+        CURRENT,
+        Some((10, b"\0\0\0\x65")),
+        Shape::Refused(Refusal::OutsideBand),
+    ),
+];
+
 #[test]
-fn bands_are_bound_where_a_lane_has_a_priority_of_them(rt: HostRuntime) -> Result<(), Fail> {
-    let rows: [(Row, Shape); 4] = [
-        (
-            (None, b"ping", BIND, Some((11, b"\0\0\0\x0a\0\x0f"))),
-            Shape::Binds(10, 15),
-        ),
-        (
-            (None, b"ping", BIND, Some((11, b"\0\0\0\x0b\0\x13"))),
-            Shape::Refused(Refusal::BandWithoutLane),
-        ),
-        ((None, b"ping", BIND, None), Shape::Refused(Refusal::NoBand)),
-        (
-            (None, b"pong", BIND, None),
-            Shape::Refused(Refusal::UnknownObject),
-        ),
-    ];
-    for (row, want) in &rows {
-        assert!(rt; comes_to(rt.alloc(), LANES, *row, *want)?, "{row:?}");
-    }
+fn requests_are_refused_for_the_first_cause(rt: HostRuntime) {
+    assert!(rt; all_hold(rt.alloc(), LANES, REFUSED));
+    assert!(rt; all_hold(rt.alloc(), MAPPED, REFUSED_MAPPED));
+}
+
+const BINDING: &[Row] = &[
+    (
+        None,
+        b"ping",
+        BIND,
+        Some((11, b"\0\0\0\x0a\0\x0f")),
+        Shape::Binds(10, 15),
+    ),
+    (
+        None,
+        b"ping",
+        BIND,
+        Some((11, b"\0\0\0\x0b\0\x13")),
+        Shape::Refused(Refusal::BandWithoutLane),
+    ),
+    (None, b"ping", BIND, None, Shape::Refused(Refusal::NoBand)),
+    (
+        None,
+        b"pong",
+        BIND,
+        None,
+        Shape::Refused(Refusal::UnknownObject),
+    ),
+];
+
+#[test]
+fn bands_are_bound_where_a_lane_has_a_priority_of_them(rt: HostRuntime) {
     requests_are_judged_one_way();
-    Ok(())
+    assert!(rt; all_hold(rt.alloc(), LANES, BINDING));
 }
 
-/// What a call says: the lane and priority of a request, or what is answered.
-#[derive(Clone, Copy, Debug, PartialEq, Eq)]
+/// What a call says: serial, due, target, priority, lane and size of a request, or the id of an answer and what it tells.
+#[derive(Clone, Copy)]
 enum Said {
-    Offered(u32, Due, u16, u16, u8, u32),
+    Offered(u32, Due, u16, i16, u8, u32),
     Posted(u32, What),
     Nothing,
 }
 
-fn said_by(call: Option<LaneCall>) -> Said {
-    match call {
-        Some(LaneCall::Offer(job)) => {
-            let job = job.get();
-            Said::Offered(
-                job.serial,
-                job.due,
-                job.target,
-                job.priority.level(),
-                job.lane,
-                job.size,
-            )
+fn offers(job: &Job, want: Said) -> bool {
+    match want {
+        Said::Offered(serial, due, target, level, lane, size) => {
+            job.serial == serial
+                && job.due == due
+                && job.target == target
+                && job.priority.get() == level
+                && job.lane == lane
+                && job.size == size
         }
-        Some(LaneCall::Post(notice)) => Said::Posted(notice.id, notice.what),
-        _ => Said::Nothing,
+        _ => false,
     }
 }
 
-/// What a request of these flags means by a verdict, as call 4 of its connection, in a message of 48 bytes.
-fn means(alloc: Global, flags: u8, verdict: Result<Verdict, Refusal>) -> Result<Said, Fail> {
+fn posts(notice: &Notice, want: Said) -> bool {
+    match want {
+        Said::Posted(id, what) => notice.id == id && notice.what == what,
+        _ => false,
+    }
+}
+
+fn says(call: &LaneCall, want: Said) -> bool {
+    match call {
+        LaneCall::Offer(job) => offers(job.get(), want),
+        LaneCall::Post(notice) => posts(notice, want),
+        _ => false,
+    }
+}
+
+/// The verdict of these numbers.
+fn verdict(shape: Shape) -> Option<Result<Verdict, Refusal>> {
+    match shape {
+        Shape::Runs(target, level, lane) => Some(Ok(Verdict::Runs(Place {
+            target,
+            priority: Priority::new(level)?,
+            lane,
+        }))),
+        Shape::Binds(low, high) => Some(Ok(Verdict::Binds(band(low, high)?))),
+        Shape::Refused(refusal) => Some(Err(refusal)),
+    }
+}
+
+/// Whether a request means this by a verdict, as call 4 of its connection, in a message of 48 bytes.
+fn means(alloc: Global, request: Request, verdict: Result<Verdict, Refusal>, want: Said) -> bool {
     let conn = ConnId { slot: 0, nth: 0 };
-    let request = request(alloc, flags, b"ping", CURRENT, None)?;
-    Ok(said_by(call_of(alloc, conn, 4, Order::Big, 48, request, verdict)?))
+    match call_of(alloc, conn, 4, Order::Big, 48, request, verdict) {
+        Ok(Some(call)) => says(&call, want),
+        Ok(None) => matches!(want, Said::Nothing),
+        Err(_) => false,
+    }
+}
+
+/// The flags of a request, its verdict, and what it means.
+const MEANINGS: &[(u8, Shape, Said)] = &[
+    (
+        3,
+        Shape::Runs(1, 20, 1),
+        Said::Offered(4, Due::Late, 1, 20, 1, 48),
+    ),
+    (
+        0,
+        Shape::Runs(1, 20, 1),
+        Said::Offered(4, Due::Nothing, 1, 20, 1, 48),
+    ),
+    (1, Shape::Binds(0, 1), Said::Posted(7, What::Bound)),
+    (0, Shape::Binds(0, 1), Said::Nothing),
+    (
+        3,
+        Shape::Refused(Refusal::NoKey),
+        Said::Posted(7, What::Addressing),
+    ),
+    (0, Shape::Refused(Refusal::NoLane), Said::Nothing),
+];
+
+fn is_meant(alloc: Global, flags: u8, shape: Shape, want: Said) -> bool {
+    let Some(verdict) = verdict(shape) else {
+        return false;
+    };
+    match asked(alloc, flags, b"ping", CURRENT, None) {
+        Some(request) => means(alloc, request, verdict, want),
+        None => false,
+    }
+}
+
+fn all_are_meant(alloc: Global) -> bool {
+    for (flags, shape, want) in MEANINGS {
+        if !is_meant(alloc, *flags, *shape, *want) {
+            return false;
+        }
+    }
+    true
 }
 
 #[test]
-fn a_refusal_is_told_where_a_reply_is_due(rt: HostRuntime) -> Result<(), Fail> {
-    let alloc = rt.alloc();
-    let priority = Priority::new(20).ok_or("a priority")?;
-    let runs = Ok(Verdict::Runs(Place {
-        target: 1,
-        priority,
-        lane: 1,
-    }));
-    assert_eq!(rt;
-        means(alloc, 3, runs)?,
-        Said::Offered(4, Due::Late, 1, 20, 1, 48)
-    );
-    assert_eq!(rt;
-        means(alloc, 0, runs)?,
-        Said::Offered(4, Due::Nothing, 1, 20, 1, 48)
-    );
-    let binds = Ok(Verdict::Binds(band(0, 1)?));
-    assert_eq!(rt; means(alloc, 1, binds)?, Said::Posted(7, What::Bound));
-    assert_eq!(rt; means(alloc, 0, binds)?, Said::Nothing);
-    assert_eq!(rt;
-        means(alloc, 3, Err(Refusal::NoKey))?,
-        Said::Posted(7, What::Addressing)
-    );
-    assert_eq!(rt; means(alloc, 0, Err(Refusal::NoLane))?, Said::Nothing);
-    Ok(())
+fn a_refusal_is_told_where_a_reply_is_due(rt: HostRuntime) {
+    assert!(rt; all_are_meant(rt.alloc()));
 }
 
-/// The system exception and minor code of a refusal, which is answered COMPLETED_NO.
+/// The refusals with their system exceptions and minor codes, all of which are answered COMPLETED_NO.
+const EXCEPTIONS: &[(Refusal, Option<(SysName, u32)>)] = &[
+    (Refusal::BadContext, Some((SysName::Marshal, 2))),
+    (Refusal::UnknownObject, Some((SysName::ObjectNotExist, 1))),
+    (Refusal::NoBand, Some((SysName::Marshal, 2))),
+    (Refusal::BandWithoutLane, Some((SysName::InvPolicy, 5))),
+    (Refusal::OutsideBand, Some((SysName::InvPolicy, 4))),
+    (Refusal::NoNative, Some((SysName::DataConversion, 1))),
+    (Refusal::NoLane, Some((SysName::InvPolicy, 3))),
+    (Refusal::NoKey, None),
+];
+
 fn told(refusal: Refusal) -> Option<(SysName, u32)> {
     match refusal.answer() {
         What::System(sys) if sys.completed == Completed::No => Some((sys.name, sys.minor)),
@@ -294,36 +458,54 @@ fn told(refusal: Refusal) -> Option<(SysName, u32)> {
     }
 }
 
-#[test]
-fn each_refusal_has_its_exception(rt: HostRuntime) -> Result<(), Fail> {
-    let rows = [
-        (Refusal::BadContext, SysName::Marshal, 2),
-        (Refusal::UnknownObject, SysName::ObjectNotExist, 1),
-        (Refusal::NoBand, SysName::Marshal, 2),
-        (Refusal::BandWithoutLane, SysName::InvPolicy, 5),
-        (Refusal::OutsideBand, SysName::InvPolicy, 4),
-        (Refusal::NoNative, SysName::DataConversion, 1),
-        (Refusal::NoLane, SysName::InvPolicy, 3),
-    ];
-    for (refusal, name, minor) in &rows {
-        assert_eq!(rt; told(*refusal), Some((*name, *minor)));
+fn all_are_told() -> bool {
+    for (refusal, want) in EXCEPTIONS {
+        if told(*refusal) != *want {
+            return false;
+        }
     }
-    assert_eq!(rt; told(Refusal::NoKey), None);
-    Ok(())
+    true
 }
 
 #[test]
-fn a_target_that_is_no_key_is_refused_first(rt: HostRuntime) -> Result<(), Fail> {
-    let alloc = rt.alloc();
-    let setup = setup(alloc, LANES)?;
-    let mut asked = request(alloc, 3, b"ping", CURRENT, Some((10, b"")))?;
-    let bytes = octets(alloc, b"")?;
-    asked.target = Target::Profile(Tagged { tag: 0, bytes });
-    assert_eq!(rt;
-        shape_of(judge(&setup, None, &asked)),
-        Shape::Refused(Refusal::NoKey)
-    );
-    assert!(rt; served_at(&setup, b"decl").map(|served| served.number) == Some(1));
-    assert!(rt; served_at(&setup, b"Ping").is_none());
-    Ok(())
+fn each_refusal_has_its_exception(rt: HostRuntime) {
+    assert!(rt; all_are_told());
+}
+
+/// Whether a request of this target is refused, since that is no key.
+fn refuses(alloc: Global, setup: &Setup, target: Target, contexts: List<Context>) -> bool {
+    match request(alloc, 3, target, CURRENT, contexts) {
+        Some(asked) => is_shape(judge(setup, None, &asked), Shape::Refused(Refusal::NoKey)),
+        None => false,
+    }
+}
+
+fn refuses_a_profile(alloc: Global, setup: &Setup) -> bool {
+    match contexts(alloc, Some((10, b""))) {
+        Some(contexts) => {
+            let bytes = List::new(alloc);
+            let target = Target::Profile(Tagged { tag: 0, bytes });
+            refuses(alloc, setup, target, contexts)
+        }
+        None => false,
+    }
+}
+
+fn serves_by_key(setup: &Setup) -> bool {
+    match served_at(setup, b"decl") {
+        Some(served) => served.number == 1 && served_at(setup, b"Ping").is_none(),
+        None => false,
+    }
+}
+
+fn refuses_first(alloc: Global) -> bool {
+    match read_setup(alloc, LANES) {
+        Ok(setup) => refuses_a_profile(alloc, &setup) && serves_by_key(&setup),
+        Err(_) => false,
+    }
+}
+
+#[test]
+fn a_target_that_is_no_key_is_refused_first(rt: HostRuntime) {
+    assert!(rt; refuses_first(rt.alloc()));
 }
