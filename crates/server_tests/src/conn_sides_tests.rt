@@ -15,13 +15,11 @@ use giop_messages::Fault;
 use heard_calls::Ending;
 use lane_pool::{LanePool, Opened, SlotPass, WorkerPass, open};
 use orb_base::{
-    Completed, Gate, Job, List, MemSink, MemSource, NoMemory, Outcome, PoolSpec, Serving,
+    Completed, Gate, Job, List, MemSink, MemSource, NoMemory, Octets, Outcome, PoolSpec, Serving,
     SharedOctets, Sys, SysName, Text,
 };
 use std::alloc::Global;
-use std::process::Abort;
 use std::sync::Wait;
-use std::test::Fail;
 use std::thread;
 use std::thread::Threads;
 
@@ -100,34 +98,50 @@ const ERROR: &[u8] = b"GIOP\x01\x02\0\x06\0\0\0\0";
 /// The front of a request.
 const UNFINISHED: &[u8] = b"GIOP\x01\x02\0\0\0\0\0\x24\0\0";
 
-/// How the reads of a source are cut and fail, and which writes fail.
-#[derive(Clone, Copy, Drop)]
-struct Outside<'a> {
-    /// Bytes of each read.
-    cut: usize,
-    reads: &'a [u64],
-    writes: &'a [u64],
+/// An input over a configuration, which reads and writes of it fail, how both sides come out, and what is written.
+struct Row {
+    config: &'static [u8],
+    input: &'static [&'static [u8]],
+    reads: &'static [u64],
+    writes: &'static [u64],
+    read: ReadSideEnd,
+    write: WriteEnd,
+    output: &'static [&'static [u8]],
+}
+
+fn numbers(alloc: Global, all: &[u64]) -> Option<List<u64>> {
+    match Vec::from_slice(alloc, all) {
+        Ok(all) => Some(List::from_vec(all)),
+        Err(_) => None,
+    }
 }
 
 /// A source of bytes, of which each read gives so many.
-fn source_of(alloc: Global, bytes: &[u8], outside: &Outside<'_>) -> Result<MemSource, Fail> {
-    let mut cuts = Vec::new(alloc);
-    for _ in bytes {
-        cuts.push(outside.cut)?;
+fn source_of(alloc: Global, bytes: Octets, cut: usize, reads: &[u64]) -> Option<MemSource> {
+    let failing = numbers(alloc, reads)?;
+    match vec![in alloc; cut; bytes.len()] {
+        Ok(cuts) => Some(MemSource::new(bytes, List::from_vec(cuts), failing)),
+        Err(_) => None,
     }
-    Ok(MemSource::new(
-        List::from_vec(Vec::from_slice(alloc, bytes)?),
-        List::from_vec(cuts),
-        List::from_vec(Vec::from_slice(alloc, outside.reads)?),
-    ))
 }
 
-fn joined(alloc: Global, parts: &[&[u8]]) -> Result<Vec<u8>, Fail> {
-    let mut bytes = Vec::new(alloc);
+/// Puts these parts behind the bytes; whether there was memory.
+fn join(bytes: &mut Octets, parts: &[&[u8]]) -> bool {
     for part in parts {
-        bytes.extend_from_slice(part)?;
+        if bytes.append(part).is_err() {
+            return false;
+        }
     }
-    Ok(bytes)
+    true
+}
+
+fn joined(alloc: Global, parts: &[&[u8]]) -> Option<Octets> {
+    let mut bytes = Octets::new(alloc);
+    if join(&mut bytes, parts) {
+        Some(bytes)
+    } else {
+        None
+    }
 }
 
 /// An open pool of one slot with one connection.
@@ -265,162 +279,188 @@ fn run<R: Threads + Wait + Sync>(
     side_by_side(rt, alloc, setup, &pool, slot, worker, source, sink)
 }
 
-/// What comes of an input over a configuration, of which each read gives so many bytes: how both sides come out, and what is written.
-fn ran<R: Threads + Wait + Sync + Abort>(
-    rt: &R,
-    alloc: Global,
-    config: &[u8],
-    bytes: &[u8],
-    outside: &Outside<'_>,
-) -> Result<(ReadSideEnd, WriteEnd, Vec<u8>), Fail> {
-    let setup = read_setup(alloc, config).ok().ok_or("a setup")?;
-    assert!(rt; setup.slots() == 1 && setup.per_slot() == 1);
-    let all = opened(alloc, setup.pool()).ok_or("memory")?;
-    let source = source_of(alloc, bytes, outside)?;
-    let failing = List::from_vec(Vec::from_slice(alloc, outside.writes)?);
-    let sink = MemSink::new(alloc, List::new(alloc), failing);
-    let (read, write, sink) = run(rt, alloc, &setup, all, source, sink).ok_or("a run")?;
-    Ok((read, write, Vec::from_slice(alloc, sink.held())?))
+/// Whether both sides come out so.
+fn comes_out(came: Option<Came>, row: &Row) -> bool {
+    match came {
+        Some((read, write, sink)) => {
+            read == row.read && write == row.write && is_joined(sink.held(), row.output)
+        }
+        None => false,
+    }
 }
 
-/// A row: a configuration, the input, how the reads and writes are cut and fail, how both sides come out, and what is written.
-type Row<'a> = (
-    &'a [u8],
-    &'a [&'a [u8]],
-    Outside<'a>,
-    ReadSideEnd,
-    WriteEnd,
-    &'a [&'a [u8]],
-);
-
-/// Whether a row comes out so.
-fn holds<R: Threads + Wait + Sync + Abort>(
+fn runs<R: Threads + Wait + Sync>(
     rt: &R,
     alloc: Global,
-    row: &Row<'_>,
-) -> Result<bool, Fail> {
-    let (config, input, outside, read, write, output) = row;
-    let input = joined(alloc, input)?;
-    let output = joined(alloc, output)?;
-    let came = ran(rt, alloc, config, input.as_slice(), outside)?;
-    Ok(came.0 == *read && came.1 == *write && came.2.as_slice() == output.as_slice())
+    setup: &Setup,
+    source: MemSource,
+    sink: MemSink,
+    row: &Row,
+) -> bool {
+    if setup.slots() != 1 || setup.per_slot() != 1 {
+        return false;
+    }
+    match opened(alloc, setup.pool()) {
+        Some(all) => comes_out(run(rt, alloc, setup, all, source, sink), row),
+        None => false,
+    }
+}
+
+fn runs_over<R: Threads + Wait + Sync>(
+    rt: &R,
+    alloc: Global,
+    setup: &Setup,
+    cut: usize,
+    row: &Row,
+) -> bool {
+    let Some(bytes) = joined(alloc, row.input) else {
+        return false;
+    };
+    let Some(source) = source_of(alloc, bytes, cut, row.reads) else {
+        return false;
+    };
+    match numbers(alloc, row.writes) {
+        Some(failing) => {
+            let sink = MemSink::new(alloc, List::new(alloc), failing);
+            runs(rt, alloc, setup, source, sink, row)
+        }
+        None => false,
+    }
+}
+
+fn holds<R: Threads + Wait + Sync>(rt: &R, alloc: Global, cut: usize, row: &Row) -> bool {
+    match read_setup(alloc, row.config) {
+        Ok(setup) => runs_over(rt, alloc, &setup, cut, row),
+        Err(_) => false,
+    }
+}
+
+/// Whether these rows come out so where each read gives so many bytes.
+fn all_hold<R: Threads + Wait + Sync>(rt: &R, alloc: Global, cut: usize, rows: &[Row]) -> bool {
+    for row in rows {
+        if !holds(rt, alloc, cut, row) {
+            return false;
+        }
+    }
+    true
 }
 
 /// The reading came to the end of the input, or to a CloseConnection.
 const ENDED: ReadSideEnd = ReadSideEnd::Read(ReadEnd::Ended(Ending::Ended));
 
-#[test]
-fn both_sides_come_out_by_the_input(rt: HostRuntime) -> Result<(), Fail> {
-    let alloc = rt.alloc();
-    let cut = ReadSideEnd::Read(ReadEnd::Ended(Ending::Cut(48)));
-    let broken = ReadSideEnd::Read(ReadEnd::Ended(Ending::Broken {
-        offset: 96,
-        fault: Fault::Frame(FrameCause::BadMagic),
-    }));
-    for pieces in [1, 7, 48, 4096] {
-        let steady = Outside {
-            cut: pieces,
-            reads: &[],
-            writes: &[],
-        };
-        let table: [Row<'_>; 6] = [
-            (
-                PLAIN,
-                &[FIRST, SECOND],
-                steady,
-                ENDED,
-                WriteEnd::Done,
-                &[REPLY_1, REPLY_2],
-            ),
-            (
-                PLAIN,
-                &[UNKNOWN, LOCATE],
-                steady,
-                ENDED,
-                WriteEnd::Done,
-                &[REPLY_3, HERE_4],
-            ),
-            (
-                PLAIN,
-                &[FIRST, CLOSE, SECOND],
-                steady,
-                ENDED,
-                WriteEnd::Done,
-                &[REPLY_1],
-            ),
-            (
-                PLAIN,
-                &[FIRST, UNFINISHED],
-                steady,
-                cut,
-                WriteEnd::Done,
-                &[REPLY_1],
-            ),
-            (
-                PLAIN,
-                &[FIRST, SECOND, BROKEN],
-                steady,
-                broken,
-                WriteEnd::Error,
-                &[REPLY_1, REPLY_2, ERROR],
-            ),
-            (
-                ONE_CALL,
-                &[FIRST, SECOND],
-                steady,
-                ReadSideEnd::RunClosed,
-                WriteEnd::Closed,
-                &[REPLY_1, CLOSE],
-            ),
-        ];
-        for row in &table {
-            assert!(&rt; holds(&rt, alloc, row)?);
-        }
-    }
-    Ok(())
-}
+const BROKEN_AT_96: ReadSideEnd = ReadSideEnd::Read(ReadEnd::Ended(Ending::Broken {
+    offset: 96,
+    fault: Fault::Frame(FrameCause::BadMagic),
+}));
+
+const INPUTS: &[Row] = &[
+    Row {
+        config: PLAIN,
+        input: &[FIRST, SECOND],
+        reads: &[],
+        writes: &[],
+        read: ENDED,
+        write: WriteEnd::Done,
+        output: &[REPLY_1, REPLY_2],
+    },
+    Row {
+        config: PLAIN,
+        input: &[UNKNOWN, LOCATE],
+        reads: &[],
+        writes: &[],
+        read: ENDED,
+        write: WriteEnd::Done,
+        output: &[REPLY_3, HERE_4],
+    },
+    Row {
+        config: PLAIN,
+        input: &[FIRST, CLOSE, SECOND],
+        reads: &[],
+        writes: &[],
+        read: ENDED,
+        write: WriteEnd::Done,
+        output: &[REPLY_1],
+    },
+    Row {
+        config: PLAIN,
+        input: &[FIRST, UNFINISHED],
+        reads: &[],
+        writes: &[],
+        read: ReadSideEnd::Read(ReadEnd::Ended(Ending::Cut(48))),
+        write: WriteEnd::Done,
+        output: &[REPLY_1],
+    },
+    Row {
+        config: PLAIN,
+        input: &[FIRST, SECOND, BROKEN],
+        reads: &[],
+        writes: &[],
+        read: BROKEN_AT_96,
+        write: WriteEnd::Error,
+        output: &[REPLY_1, REPLY_2, ERROR],
+    },
+    Row {
+        config: ONE_CALL,
+        input: &[FIRST, SECOND],
+        reads: &[],
+        writes: &[],
+        read: ReadSideEnd::RunClosed,
+        write: WriteEnd::Closed,
+        output: &[REPLY_1, CLOSE],
+    },
+];
 
 #[test]
-fn failed_reads_and_writes_are_told(rt: HostRuntime) -> Result<(), Fail> {
-    let alloc = rt.alloc();
-    let read_fails = Outside {
-        cut: 48,
+fn both_sides_come_out_by_the_input(rt: HostRuntime) {
+    assert!(&rt; all_hold(&rt, rt.alloc(), 1, INPUTS));
+    assert!(&rt; all_hold(&rt, rt.alloc(), 7, INPUTS));
+    assert!(&rt; all_hold(&rt, rt.alloc(), 48, INPUTS));
+    assert!(&rt; all_hold(&rt, rt.alloc(), 4096, INPUTS));
+}
+
+const FAULTS: &[Row] = &[
+    Row {
+        config: PLAIN,
+        input: &[FIRST, SECOND],
         reads: &[1],
         writes: &[],
-    };
-    let first_fails = Outside {
-        cut: 48,
+        read: ReadSideEnd::Read(ReadEnd::ReadFault),
+        write: WriteEnd::Done,
+        output: &[REPLY_1],
+    },
+    Row {
+        config: PLAIN,
+        input: &[FIRST, SECOND],
         reads: &[],
         writes: &[0],
-    };
-    let second_fails = Outside {
-        cut: 48,
+        read: ENDED,
+        write: WriteEnd::WriteFault(LastCollect::Done),
+        output: &[],
+    },
+    Row {
+        config: PLAIN,
+        input: &[FIRST, SECOND],
         reads: &[],
         writes: &[1],
-    };
-    let fault = ReadSideEnd::Read(ReadEnd::ReadFault);
-    let failed = WriteEnd::WriteFault(LastCollect::Done);
-    let table: [Row<'_>; 3] = [
-        (
-            PLAIN,
-            &[FIRST, SECOND],
-            read_fails,
-            fault,
-            WriteEnd::Done,
-            &[REPLY_1],
-        ),
-        (PLAIN, &[FIRST, SECOND], first_fails, ENDED, failed, &[]),
-        (
-            PLAIN,
-            &[FIRST, SECOND],
-            second_fails,
-            ENDED,
-            failed,
-            &[REPLY_1],
-        ),
-    ];
-    for row in &table {
-        assert!(&rt; holds(&rt, alloc, row)?);
+        read: ENDED,
+        write: WriteEnd::WriteFault(LastCollect::Done),
+        output: &[REPLY_1],
+    },
+];
+
+#[test]
+fn failed_reads_and_writes_are_told(rt: HostRuntime) {
+    assert!(&rt; all_hold(&rt, rt.alloc(), 48, FAULTS));
+}
+
+/// Whether the bytes are these parts, one behind the other.
+fn is_joined(bytes: &[u8], parts: &[&[u8]]) -> bool {
+    let mut rest = bytes;
+    for part in parts {
+        match rest.strip_prefix(*part) {
+            Some(after) => rest = after,
+            None => return false,
+        }
     }
-    Ok(())
+    rest.is_empty()
 }

@@ -5,173 +5,286 @@ use orb_base::{
 use orb_nets::*;
 use std::alloc::Global;
 use std::collections::LinkedList;
-use std::test::Fail;
 
-fn octets(alloc: Global, bytes: &[u8]) -> Result<Octets, Fail> {
-    Ok(List::from_vec(Vec::from_slice(alloc, bytes)?))
+fn numbers(alloc: Global, all: &[u64]) -> Option<List<u64>> {
+    match Vec::from_slice(alloc, all) {
+        Ok(all) => Some(List::from_vec(all)),
+        Err(_) => None,
+    }
+}
+
+/// A link by which these bytes come.
+fn link(alloc: Global, bytes: Octets) -> MemLink {
+    MemLink::new(
+        MemSource::new(bytes, List::new(alloc), List::new(alloc)),
+        MemSink::new(alloc, List::new(alloc), List::new(alloc)),
+    )
+}
+
+/// Puts a link by which these bytes come behind the others; whether there was memory.
+fn add_link(alloc: Global, links: &mut LinkedList<MemLink>, bytes: &[u8]) -> bool {
+    match Vec::from_slice(alloc, bytes) {
+        Ok(bytes) => links.push_back(link(alloc, List::from_vec(bytes))).is_ok(),
+        Err(_) => false,
+    }
+}
+
+fn add_links(alloc: Global, links: &mut LinkedList<MemLink>, all: &[&[u8]]) -> bool {
+    for bytes in all {
+        if !add_link(alloc, links, bytes) {
+            return false;
+        }
+    }
+    true
 }
 
 /// Links by which these bytes come.
-fn links(alloc: Global, all: &[&[u8; 3]]) -> Result<LinkedList<MemLink>, Fail> {
+fn links(alloc: Global, all: &[&[u8]]) -> Option<LinkedList<MemLink>> {
     let mut links = LinkedList::new(alloc);
-    for bytes in all {
-        let source = MemSource::new(
-            octets(alloc, bytes.as_slice())?,
-            List::new(alloc),
-            List::new(alloc),
-        );
-        let sink = MemSink::new(alloc, List::new(alloc), List::new(alloc));
-        links
-            .push_back(MemLink::new(source, sink))
-            .map_err(|_| "memory")?;
+    if add_links(alloc, &mut links, all) {
+        Some(links)
+    } else {
+        None
     }
-    Ok(links)
 }
 
-fn numbers(alloc: Global, all: &[u64]) -> Result<List<u64>, Fail> {
-    Ok(List::from_vec(Vec::from_slice(alloc, all)?))
+/// A slot with links, the accepts of which fail that have these numbers.
+fn slot(alloc: Global, all: &[&[u8]], failing: &[u64]) -> Option<MemSlot> {
+    let failing = numbers(alloc, failing)?;
+    match links(alloc, all) {
+        Some(links) => Some(MemSlot { links, failing }),
+        None => None,
+    }
+}
+
+fn add_slot(
+    alloc: Global,
+    slots: &mut LinkedList<MemSlot>,
+    all: &[&[u8]],
+    failing: &[u64],
+) -> bool {
+    match slot(alloc, all, failing) {
+        Some(slot) => slots.push_back(slot).is_ok(),
+        None => false,
+    }
 }
 
 /// Two slots, with three links and with one; at the second one the accept of number 0 fails.
-fn slots(alloc: Global) -> Result<LinkedList<MemSlot>, Fail> {
+fn slots(alloc: Global) -> Option<LinkedList<MemSlot>> {
     let mut slots = LinkedList::new(alloc);
-    for (bytes, failing) in [
-        ([b"abc", b"def", b"ghi"].as_slice(), [].as_slice()),
-        ([b"jkl"].as_slice(), [0].as_slice()),
-    ] {
-        let slot = MemSlot {
-            links: links(alloc, bytes)?,
-            failing: numbers(alloc, failing)?,
-        };
-        slots.push_back(slot).map_err(|_| "memory")?;
-    }
-    Ok(slots)
+    let is_made = add_slot(alloc, &mut slots, &[b"abc", b"def", b"ghi"], &[])
+        && add_slot(alloc, &mut slots, &[b"jkl"], &[0]);
+    if is_made { Some(slots) } else { None }
 }
 
-/// What a call gave: the first bytes of a link, no link, a fault, or the answer to want of memory.
-#[derive(Clone, Copy, Debug, PartialEq, Eq)]
-enum Gave {
-    Link([u8; 3]),
+/// What a call gives: the first bytes of a link, no link, or a fault.
+#[derive(Clone, Copy)]
+enum Gives {
+    Link(&'static [u8]),
     Done,
     Failed,
-    NoMemory,
 }
 
-/// Reads from a link that was given, and writes to it.
-fn used<I: Source + Drop, O: Sink + Drop>(mut source: I, mut sink: O) -> Gave {
+/// Whether a link that was given is this one. It is read from and written to.
+fn is_link<I: Source + Drop, O: Sink + Drop>(source: I, sink: O, want: Gives) -> bool {
+    let mut source = source;
+    let mut sink = sink;
     let mut into = [b'-'; 3];
     let _got: Got = source.read(&mut into);
     let _put: Put = sink.write(b"xyz");
     sink.close();
-    Gave::Link(into)
+    match want {
+        Gives::Link(bytes) => into.as_slice() == bytes,
+        _ => false,
+    }
 }
 
-fn refused(fault: NetFault) -> Gave {
+fn is_refused(fault: NetFault, want: Gives) -> bool {
     match fault {
-        NetFault::Failed => Gave::Failed,
-        NetFault::NoMemory => Gave::NoMemory,
+        NetFault::Failed => matches!(want, Gives::Failed),
+        NetFault::NoMemory => false,
     }
 }
 
-/// What a connect gives.
-fn connected<N: Net>(net: &mut N, host: &Text) -> Gave {
+/// Whether a connect gives this.
+fn connects<N: Net>(net: &mut N, host: &Text, want: Gives) -> bool {
     match net.connect(host, 2809) {
-        Ok((source, sink)) => used(source, sink),
-        Err(fault) => refused(fault),
+        Ok((source, sink)) => is_link(source, sink, want),
+        Err(fault) => is_refused(fault, want),
     }
 }
 
-/// What an accept gives.
-fn accepted<A: Acceptor>(acceptor: &mut A) -> Gave {
+/// Whether an accept gives this.
+fn accepts<A: Acceptor>(acceptor: &mut A, want: Gives) -> bool {
     match acceptor.accept() {
-        Accepted::Link(source, sink) => used(source, sink),
-        Accepted::Done => Gave::Done,
-        Accepted::Failed => Gave::Failed,
+        Accepted::Link(source, sink) => is_link(source, sink, want),
+        Accepted::Done => matches!(want, Gives::Done),
+        Accepted::Failed => matches!(want, Gives::Failed),
     }
 }
 
-/// A listen with two slots of at most two links each: what three accepts give at each of them, one after the other.
-fn listened<N: Net>(alloc: Global, net: &mut N, host: &Text) -> Result<Vec<Gave>, Fail> {
-    let mut gave = Vec::new(alloc);
-    match net.listen(host, 2809, 2, 2) {
-        Ok(acceptors) => {
-            for mut acceptor in acceptors.into_vec() {
-                for _ in 0..3 {
-                    gave.push(accepted(&mut acceptor))?;
-                }
-            }
+/// Whether as many accepts give these, in order.
+fn accepts_each<A: Acceptor>(acceptor: &mut A, want: &[Gives]) -> bool {
+    for gives in want {
+        if !accepts(acceptor, *gives) {
+            return false;
         }
-        Err(fault) => gave.push(refused(fault))?,
     }
-    Ok(gave)
+    true
+}
+
+/// What a listen with two slots of at most two links each gives: a fault, or what three accepts give at each of them, one after the other.
+#[derive(Clone, Copy)]
+enum Listened {
+    Refused(Gives),
+    Opened(&'static [Gives], &'static [Gives]),
+}
+
+/// Whether there are two acceptors, and they give these.
+fn both_accept<A: Acceptor>(acceptors: &mut [A], first: &[Gives], second: &[Gives]) -> bool {
+    match acceptors {
+        [a, b] => accepts_each(a, first) && accepts_each(b, second),
+        _ => false,
+    }
+}
+
+fn is_opened<A: Acceptor + Drop>(acceptors: List<A>, want: Listened) -> bool {
+    let mut acceptors = acceptors.into_vec();
+    match want {
+        Listened::Opened(first, second) => { both_accept(acceptors.as_mut_slice(), first, second) }
+        Listened::Refused(_) => false,
+    }
+}
+
+fn listens<N: Net>(net: &mut N, host: &Text, want: Listened) -> bool {
+    match net.listen(host, 2809, 2, 2) {
+        Ok(acceptors) => is_opened(acceptors, want),
+        Err(fault) => match want {
+            Listened::Refused(gives) => is_refused(fault, gives),
+            Listened::Opened(..) => false,
+        },
+    }
+}
+
+/// The first and the third listen fail.
+const LISTENED: &[Listened] = &[
+    Listened::Refused(Gives::Failed),
+    Listened::Opened(
+        &[Gives::Link(b"abc"), Gives::Link(b"def"), Gives::Done],
+        &[Gives::Failed, Gives::Link(b"jkl"), Gives::Done],
+    ),
+    Listened::Refused(Gives::Failed),
+    Listened::Opened(
+        &[Gives::Done, Gives::Done, Gives::Done],
+        &[Gives::Done, Gives::Done, Gives::Done],
+    ),
+];
+
+fn listens_each(net: &mut MemNet, host: &Text) -> bool {
+    for want in LISTENED {
+        if !listens(net, host, *want) {
+            return false;
+        }
+    }
+    true
+}
+
+fn opening_net(alloc: Global) -> Option<MemNet> {
+    let failing = numbers(alloc, &[0, 2])?;
+    match slots(alloc) {
+        Some(slots) => Some(MemNet::new(alloc, slots, LinkedList::new(alloc), failing)),
+        None => None,
+    }
+}
+
+fn opens_in_order(alloc: Global, host: &Text) -> bool {
+    match opening_net(alloc) {
+        Some(mut net) => listens_each(&mut net, host),
+        None => false,
+    }
+}
+
+/// Which of these nets in memory is asked.
+#[derive(Clone, Copy)]
+enum Asked {
+    Opening,
+    Connecting,
+    Steady,
+}
+
+fn holds_at(alloc: Global, asked: Asked, host: &Text) -> bool {
+    match asked {
+        Asked::Opening => opens_in_order(alloc, host),
+        Asked::Connecting => connects_in_order(alloc, host),
+        Asked::Steady => never_fails(alloc, host),
+    }
+}
+
+fn holds(alloc: Global, asked: Asked) -> bool {
+    match Text::new(alloc, b"localhost") {
+        Ok(host) => holds_at(alloc, asked, &host),
+        Err(_) => false,
+    }
 }
 
 #[test]
-fn slots_are_opened_in_order(rt: HostRuntime) -> Result<(), Fail> {
-    let alloc = rt.alloc();
-    let host = Text::new(alloc, b"localhost")?;
-    let mut net = MemNet::new(
-        alloc,
-        slots(alloc)?,
-        LinkedList::new(alloc),
-        numbers(alloc, &[0, 2])?,
-    );
-    let opened = [
-        Gave::Link(*b"abc"),
-        Gave::Link(*b"def"),
-        Gave::Done,
-        Gave::Failed,
-        Gave::Link(*b"jkl"),
-        Gave::Done,
-    ];
-    let failed = [Gave::Failed];
-    let behind = [Gave::Done; 6];
-    for gave in [
-        failed.as_slice(),
-        opened.as_slice(),
-        failed.as_slice(),
-        behind.as_slice(),
-    ] {
-        assert_eq!(rt; listened(alloc, &mut net, &host)?.as_slice(), gave);
-    }
-    Ok(())
+fn slots_are_opened_in_order(rt: HostRuntime) {
+    assert!(rt; holds(rt.alloc(), Asked::Opening));
 }
 
-#[test]
-fn peers_are_connected_in_order(rt: HostRuntime) -> Result<(), Fail> {
-    let alloc = rt.alloc();
-    let host = Text::new(alloc, b"localhost")?;
-    let peers = links(alloc, &[b"abc", b"def"])?;
+/// The second connect fails, and so does the one without a peer.
+const CONNECTS: &[Gives] = &[
+    Gives::Link(b"abc"),
+    Gives::Failed,
+    Gives::Link(b"def"),
+    Gives::Failed,
+];
+
+fn connects_each(net: &mut MemNet, host: &Text) -> bool {
+    for want in CONNECTS {
+        if !connects(net, host, *want) {
+            return false;
+        }
+    }
+    true
+}
+
+fn connecting_net(alloc: Global) -> Option<MemNet> {
     let failing = numbers(alloc, &[1])?;
-    let mut net = MemNet::new(alloc, LinkedList::new(alloc), peers, failing);
-    for gave in [
-        Gave::Link(*b"abc"),
-        Gave::Failed,
-        Gave::Link(*b"def"),
-        Gave::Failed,
-    ] {
-        assert_eq!(rt; connected(&mut net, &host), gave);
+    match links(alloc, &[b"abc", b"def"]) {
+        Some(peers) => Some(MemNet::new(alloc, LinkedList::new(alloc), peers, failing)),
+        None => None,
     }
-    Ok(())
+}
+
+fn connects_in_order(alloc: Global, host: &Text) -> bool {
+    match connecting_net(alloc) {
+        Some(mut net) => connects_each(&mut net, host),
+        None => false,
+    }
 }
 
 #[test]
-fn steady_net_never_fails(rt: HostRuntime) -> Result<(), Fail> {
-    let alloc = rt.alloc();
-    let host = Text::new(alloc, b"localhost")?;
-    let mut net = SteadyNet::new(alloc, slots(alloc)?);
-    let opened = [
-        Gave::Link(*b"abc"),
-        Gave::Link(*b"def"),
-        Gave::Done,
-        Gave::Link(*b"jkl"),
-        Gave::Done,
-        Gave::Done,
-    ];
-    assert_eq!(rt;
-        listened(alloc, &mut net, &host)?.as_slice(),
-        opened.as_slice()
-    );
-    assert_eq!(rt; connected(&mut net, &host), Gave::Link(*b"---"));
-    Ok(())
+fn peers_are_connected_in_order(rt: HostRuntime) {
+    assert!(rt; holds(rt.alloc(), Asked::Connecting));
+}
+
+const STEADY: Listened = Listened::Opened(
+    &[Gives::Link(b"abc"), Gives::Link(b"def"), Gives::Done],
+    &[Gives::Link(b"jkl"), Gives::Done, Gives::Done],
+);
+
+fn never_fails(alloc: Global, host: &Text) -> bool {
+    match slots(alloc) {
+        Some(slots) => {
+            let mut net = SteadyNet::new(alloc, slots);
+            listens(&mut net, host, STEADY) && connects(&mut net, host, Gives::Link(b"---"))
+        }
+        None => false,
+    }
+}
+
+#[test]
+fn steady_net_never_fails(rt: HostRuntime) {
+    assert!(rt; holds(rt.alloc(), Asked::Steady));
 }

@@ -9,15 +9,14 @@ use heard_calls::Ending;
 use lane_machine::{LaneCall, Lanes};
 use orb_base::{
     Accepted, Acceptor, Completed, ConnId, Gate, Got, Job, List, MemAcceptor, MemLink, MemSink,
-    MemSource, NoMemory, Outcome, Put, Serving, SharedOctets, Sink, Source, Sys, SysName, Text,
+    MemSource, NoMemory, Octets, Outcome, Put, Serving, SharedOctets, Sink, Source, Sys, SysName,
+    Text,
 };
 use orb_server::*;
 use std::alloc::Global;
 use std::collections::LinkedList;
-use std::process::Abort;
 use std::sync::Wait;
 use std::sync::atomic::{AtomicU64, Ordering};
-use std::test::Fail;
 use std::thread;
 use std::thread::Threads;
 use turn_cell::Entry;
@@ -43,63 +42,29 @@ impl Serving for Quick {
     }
 }
 
-/// Holds nobody.
+/// Holds the worker of request 1 until a number is 1, as it is once request 2 was carried out.
 #[derive(Drop)]
-struct Free;
-
-impl Gate for Free {
-    fn enter(&self, _job: &Job) {}
-
-    fn leave(&self, _job: &Job) {}
-}
-
-/// Holds the worker of request 1 until request 2 was carried out.
-#[derive(Drop)]
-struct Behind {
-    /// 1 once request 2 was carried out.
-    second: AtomicU64,
+struct Held<'a> {
+    until: &'a AtomicU64,
     /// 1 where the worker of request 1 looked too often.
-    missed: AtomicU64,
+    missed: &'a AtomicU64,
 }
 
 /// How often the worker of request 1 looks.
 const LOOKS: u64 = 100_000_000;
 
-impl Gate for Behind {
+impl Gate for Held<'_> {
     fn enter(&self, job: &Job) {
-        if job.id != 1 {
-            return;
+        if job.id == 1 && !look(self.until, 1) {
+            self.missed.store(1, Ordering::SeqCst);
         }
-        for _ in 0..LOOKS {
-            if self.second.load(Ordering::SeqCst) == 1 {
-                return;
-            }
-            thread::yield_now();
-        }
-        self.missed.store(1, Ordering::SeqCst);
     }
 
     fn leave(&self, job: &Job) {
         if job.id == 2 {
-            self.second.store(1, Ordering::SeqCst);
+            self.until.store(1, Ordering::SeqCst);
         }
     }
-}
-
-/// Holds the worker of request 1 until the source has met its end.
-#[derive(Drop)]
-struct Until<'a> {
-    met: &'a AtomicU64,
-}
-
-impl Gate for Until<'_> {
-    fn enter(&self, job: &Job) {
-        if job.id == 1 {
-            let _ = look(self.met, 1);
-        }
-    }
-
-    fn leave(&self, _job: &Job) {}
 }
 
 /// Looks until a number is at least this; whether it was, before it was looked at too often.
@@ -116,7 +81,8 @@ fn look(at: &AtomicU64, least: u64) -> bool {
 /// A source that gives its second piece once so many bytes were written, or not at all, and then tells that it met its end.
 #[derive(Drop)]
 struct Asking<'a> {
-    pieces: [&'a [u8]; 2],
+    first: &'a [u8],
+    second: &'a [u8],
     given: usize,
     written: &'a AtomicU64,
     least: u64,
@@ -132,12 +98,8 @@ impl Source for Asking<'_> {
     fn read(&mut self, into: &mut [u8]) -> Got {
         let given = self.given;
         let comes = given == 0 || look(self.written, self.least);
-        if comes
-            && given < 2
-            && self.pieces[given].len() <= into.len()
-            && !self.pieces[given].is_empty()
-        {
-            let piece = self.pieces[given];
+        let piece = if given == 0 { self.first } else { self.second };
+        if comes && given < 2 && piece.len() <= into.len() && !piece.is_empty() {
             into[..piece.len()].copy_from_slice(piece);
             self.given = given + 1;
             return Got::Bytes(piece.len());
@@ -175,7 +137,8 @@ impl Sink for Telling<'_> {
 #[derive(Drop)]
 struct Once<'a> {
     alloc: Global,
-    pieces: [&'a [u8]; 2],
+    first: &'a [u8],
+    second: &'a [u8],
     written: &'a AtomicU64,
     least: u64,
     met: &'a AtomicU64,
@@ -199,7 +162,8 @@ impl<'a> Acceptor for Once<'a> {
         }
         self.left = false;
         let source = Asking {
-            pieces: self.pieces,
+            first: self.first,
+            second: self.second,
             given: 0,
             written: self.written,
             least: self.least,
@@ -212,24 +176,6 @@ impl<'a> Acceptor for Once<'a> {
         };
         Accepted::Link(source, sink)
     }
-}
-
-/// What one connection of two pieces leaves, the second of which comes once so many bytes were written: its output, and how many requests
-/// were finished.
-fn asked<'a, G: Gate + Sync, R: Abort + Wait + Threads + Sync>(
-    rt: &R,
-    alloc: Global,
-    gate: &G,
-    once: Once<'a>,
-) -> Result<(Vec<u8>, u32), Fail> {
-    let setup = read_setup(alloc, QUEUE).ok().ok_or("a setup")?;
-    let mut slots = List::new(alloc);
-    slots.push(once).ok().ok_or("memory")?;
-    assert!(rt; slots.len() == usize::from(setup.slots()));
-    let run = serve_run(rt, alloc, &setup, &Quick { alloc }, &mut slots, gate)?;
-    let log = run.conns.get(0).ok_or("a connection")?;
-    let held = Vec::from_slice(alloc, log.sink.held.held())?;
-    Ok((held, count_finished(run.history.as_slice())))
 }
 
 /// One slot of one connection, one thread, and room for three requests.
@@ -254,87 +200,46 @@ const LANES: &[u8] =
 /// CloseConnection: CORBA 3.0.3, section 15.4.7.
 const CLOSE: &[u8] = b"GIOP\x01\x02\0\x05\0\0\0\0";
 
-/// Appends a request of this id for `current` of the object of a key, of 48 bytes: CORBA 3.0.3, section 15.4.2.
-fn put_request(bytes: &mut Vec<u8>, id: u8, key: &[u8; 4]) -> Result<(), Fail> {
-    bytes.extend_from_slice(b"GIOP\x01\x02\0\0\0\0\0\x24\0\0\0".as_slice())?;
-    bytes.push(id)?;
-    bytes.extend_from_slice(b"\x03\0\0\0\0\0\0\0\0\0\0\x04".as_slice())?;
-    bytes.extend_from_slice(key.as_slice())?;
-    bytes.extend_from_slice(b"\0\0\0\x08current\0\0\0\0\0".as_slice())?;
-    Ok(())
+/// Eight slots of sixteen connections each over three lanes, with an object in each lane.
+const MANY: &[u8] =
+    b"server = { slots = 8, per_slot = 16 }\npool = { borrowing = true, buffering = true, max_buffered_requests = 500, max_request_buffer_size = 1000000, lanes = [{ priority = 10, static = 1, dynamic = 0 }, { priority = 20, static = 1, dynamic = 0 }, { priority = 30, static = 1, dynamic = 0 }] }\nadapter = [{ name = \"low\", model = \"SERVER_DECLARED\", priority = 10 }, { name = \"high\", model = \"SERVER_DECLARED\", priority = 20 }, { name = \"top\", model = \"SERVER_DECLARED\", priority = 30 }]\nobject = [{ key = \"slow\", adapter = \"low\", interface = \"i\" }, { key = \"fast\", adapter = \"high\", interface = \"i\" }, { key = \"best\", adapter = \"top\", interface = \"i\" }]\n";
+
+/// The request of id 2 for `current` of `ping`: CORBA 3.0.3, section 15.4.2.
+const PING_2: &[u8] =
+    b"GIOP\x01\x02\0\0\0\0\0\x24\0\0\0\x02\x03\0\0\0\0\0\0\0\0\0\0\x04ping\0\0\0\x08current\0\0\0\0\0";
+
+/// The replies of id 1, 2, 3 and 7, without contexts and body, of 24 bytes: CORBA 3.0.3, section 15.4.3.
+const REPLY_1: &[u8] = b"GIOP\x01\x02\0\x01\0\0\0\x0c\0\0\0\x01\0\0\0\0\0\0\0\0";
+
+const REPLY_2: &[u8] = b"GIOP\x01\x02\0\x01\0\0\0\x0c\0\0\0\x02\0\0\0\0\0\0\0\0";
+
+const REPLY_3: &[u8] = b"GIOP\x01\x02\0\x01\0\0\0\x0c\0\0\0\x03\0\0\0\0\0\0\0\0";
+
+const REPLY_7: &[u8] = b"GIOP\x01\x02\0\x01\0\0\0\x0c\0\0\0\x07\0\0\0\0\0\0\0\0";
+
+/// A request for `current`: its id, and the key of its object, of 4 bytes.
+type Asked = (u8, &'static [u8]);
+
+/// Puts a request of 48 bytes behind the bytes; whether there was memory.
+fn put_request(bytes: &mut Octets, id: u8, key: &[u8]) -> bool {
+    bytes.append(b"GIOP\x01\x02\0\0\0\0\0\x24\0\0\0").is_ok()
+        && bytes.push(id).is_ok()
+        && bytes.append(b"\x03\0\0\0\0\0\0\0\0\0\0\x04").is_ok()
+        && bytes.append(key).is_ok()
+        && bytes.append(b"\0\0\0\x08current\0\0\0\0\0").is_ok()
 }
 
-/// Appends its reply, without contexts and body, of 24 bytes: CORBA 3.0.3, section 15.4.3.
-fn put_reply(bytes: &mut Vec<u8>, id: u8) -> Result<(), Fail> {
-    bytes.extend_from_slice(b"GIOP\x01\x02\0\x01\0\0\0\x0c\0\0\0".as_slice())?;
-    bytes.push(id)?;
-    bytes.extend_from_slice(b"\0\0\0\0\0\0\0\0".as_slice())?;
-    Ok(())
-}
-
-/// The requests of these ids for `ping`.
-fn pings(alloc: Global, ids: &[u8]) -> Result<Vec<u8>, Fail> {
-    let mut bytes = Vec::new(alloc);
-    for id in ids {
-        put_request(&mut bytes, *id, b"ping")?;
+fn put_requests(bytes: &mut Octets, requests: &[Asked]) -> bool {
+    for (id, key) in requests {
+        if !put_request(bytes, *id, key) {
+            return false;
+        }
     }
-    Ok(bytes)
+    true
 }
 
-/// The replies of these ids.
-fn replies(alloc: Global, ids: &[u8]) -> Result<Vec<u8>, Fail> {
-    let mut bytes = Vec::new(alloc);
-    for id in ids {
-        put_reply(&mut bytes, *id)?;
-    }
-    Ok(bytes)
-}
-
-/// A link that gives these bytes, and whose writes of these numbers fail.
-fn link(alloc: Global, bytes: Vec<u8>, failing: &[u64]) -> Result<MemLink, Fail> {
-    let failing = List::from_vec(Vec::from_slice(alloc, failing)?);
-    Ok(MemLink::new(
-        MemSource::new(List::from_vec(bytes), List::new(alloc), List::new(alloc)),
-        MemSink::new(alloc, List::new(alloc), failing),
-    ))
-}
-
-/// An acceptor of one link.
-fn acceptor(alloc: Global, link: MemLink) -> Result<MemAcceptor, Fail> {
-    let mut links = LinkedList::new(alloc);
-    links.push_back(link).ok().ok_or("memory")?;
-    Ok(MemAcceptor::new(links, 9, List::new(alloc)))
-}
-
-/// What a run over these acceptors leaves.
-fn run<G: Gate + Sync, R: Abort + Wait + Threads + Sync>(
-    rt: &R,
-    alloc: Global,
-    config: &[u8],
-    acceptors: Vec<MemAcceptor>,
-    gate: &G,
-) -> Result<Run<MemSource, MemSink>, Fail> {
-    let setup = read_setup(alloc, config).ok().ok_or("a setup")?;
-    let mut slots = List::from_vec(acceptors);
-    assert!(rt; slots.len() == usize::from(setup.slots()));
-    Ok(serve_run(rt, alloc, &setup, &Quick { alloc }, &mut slots, gate)?)
-}
-
-/// What the sink of the connection of this number holds.
-fn held<I>(run: &Run<I, MemSink>, n: usize) -> Option<&[u8]> {
-    match run.conns.get(n) {
-        Some(log) => Some(log.sink.held()),
-        None => None,
-    }
-}
-
-/// How the two sides of the connection of this number came out.
-fn ends<I, O>(run: &Run<I, O>, n: usize) -> Option<(ReadSideEnd, WriteEnd)> {
-    match run.conns.get(n) {
-        Some(log) => Some((log.read, log.write)),
-        None => None,
-    }
-}
+/// The end of an input that was read to its end.
+const ENDED: ReadSideEnd = ReadSideEnd::Read(ReadEnd::Ended(Ending::Ended));
 
 /// How many requests were finished.
 fn count_finished(history: &[Entry<Lanes>]) -> u32 {
@@ -347,206 +252,526 @@ fn count_finished(history: &[Entry<Lanes>]) -> u32 {
     count
 }
 
-/// The end of an input that was read to its end.
-const ENDED: ReadSideEnd = ReadSideEnd::Read(ReadEnd::Ended(Ending::Ended));
+/// A link: the requests that come by it, and the writes to it that fail.
+#[derive(Clone, Copy)]
+struct Comes {
+    requests: &'static [Asked],
+    failing: &'static [u64],
+}
 
-#[test]
-fn two_requests_are_carried_out_at_once(rt: HostRuntime) -> Result<(), Fail> {
-    let alloc = rt.alloc();
-    let gate = Behind {
-        second: AtomicU64::new(0),
-        missed: AtomicU64::new(0),
+/// A slot: the links that come, how many of them it is given at most, and the accepts that fail.
+#[derive(Clone, Copy)]
+struct Slot {
+    links: &'static [Comes],
+    most: u32,
+    failing: &'static [u64],
+}
+
+/// What a connection is answered with: these bytes, or so many.
+#[derive(Clone, Copy)]
+enum Output {
+    Bytes(&'static [&'static [u8]]),
+    Len(usize),
+}
+
+/// How the two sides of a connection come out, and what it is answered with.
+type Left = (ReadSideEnd, WriteEnd, Output);
+
+/// A run over a configuration: its slots, the number that the gate waits for, what each connection leaves, how many requests are finished,
+/// and how the slots come out.
+struct Row {
+    config: &'static [u8],
+    slots: &'static [Slot],
+    until: u64,
+    conns: &'static [Left],
+    finished: u32,
+    ends: &'static [SlotEnd],
+}
+
+fn numbers(alloc: Global, all: &[u64]) -> Option<List<u64>> {
+    match Vec::from_slice(alloc, all) {
+        Ok(all) => Some(List::from_vec(all)),
+        Err(_) => None,
+    }
+}
+
+/// A link that gives these bytes, and whose writes of these numbers fail.
+fn link(alloc: Global, bytes: Octets, failing: List<u64>) -> MemLink {
+    MemLink::new(
+        MemSource::new(bytes, List::new(alloc), List::new(alloc)),
+        MemSink::new(alloc, List::new(alloc), failing),
+    )
+}
+
+fn requests(alloc: Global, all: &[Asked]) -> Option<Octets> {
+    let mut bytes = Octets::new(alloc);
+    if put_requests(&mut bytes, all) {
+        Some(bytes)
+    } else {
+        None
+    }
+}
+
+fn link_of(alloc: Global, comes: &Comes) -> Option<MemLink> {
+    let failing = numbers(alloc, comes.failing)?;
+    match requests(alloc, comes.requests) {
+        Some(bytes) => Some(link(alloc, bytes, failing)),
+        None => None,
+    }
+}
+
+fn add_link(alloc: Global, links: &mut LinkedList<MemLink>, comes: &Comes) -> bool {
+    match link_of(alloc, comes) {
+        Some(link) => links.push_back(link).is_ok(),
+        None => false,
+    }
+}
+
+fn add_links(alloc: Global, links: &mut LinkedList<MemLink>, all: &[Comes]) -> bool {
+    for comes in all {
+        if !add_link(alloc, links, comes) {
+            return false;
+        }
+    }
+    true
+}
+
+fn links_of(alloc: Global, all: &[Comes]) -> Option<LinkedList<MemLink>> {
+    let mut links = LinkedList::new(alloc);
+    if add_links(alloc, &mut links, all) {
+        Some(links)
+    } else {
+        None
+    }
+}
+
+fn acceptor_of(alloc: Global, slot: &Slot) -> Option<MemAcceptor> {
+    let failing = numbers(alloc, slot.failing)?;
+    match links_of(alloc, slot.links) {
+        Some(links) => Some(MemAcceptor::new(links, slot.most, failing)),
+        None => None,
+    }
+}
+
+fn add_slot(alloc: Global, slots: &mut List<MemAcceptor>, slot: &Slot) -> bool {
+    match acceptor_of(alloc, slot) {
+        Some(acceptor) => slots.push(acceptor).is_ok(),
+        None => false,
+    }
+}
+
+fn add_slots(alloc: Global, slots: &mut List<MemAcceptor>, all: &[Slot]) -> bool {
+    for slot in all {
+        if !add_slot(alloc, slots, slot) {
+            return false;
+        }
+    }
+    true
+}
+
+fn is_output(bytes: &[u8], want: Output) -> bool {
+    match want {
+        Output::Bytes(parts) => is_joined(bytes, parts),
+        Output::Len(len) => bytes.len() == len,
+    }
+}
+
+fn has_left(log: &ConnLog<MemSource, MemSink>, want: Left) -> bool {
+    let (read, write, output) = want;
+    log.read == read && log.write == write && is_output(log.sink.held(), output)
+}
+
+/// Whether the connections leave this, in order.
+fn have_left(conns: &[ConnLog<MemSource, MemSink>], want: &[Left]) -> bool {
+    let mut left = want;
+    for log in conns {
+        match left.split_first() {
+            Some((first, rest)) if has_left(log, *first) => left = rest,
+            _ => return false,
+        }
+    }
+    left.is_empty()
+}
+
+/// Whether the first connection is that of the first slot.
+fn begins(conns: &[ConnLog<MemSource, MemSink>]) -> bool {
+    match conns.first() {
+        Some(log) => log.id.is_same(ConnId { slot: 0, nth: 0 }),
+        None => false,
+    }
+}
+
+fn comes_out(run: &Run<MemSource, MemSink>, row: &Row) -> bool {
+    begins(run.conns.as_slice())
+        && have_left(run.conns.as_slice(), row.conns)
+        && count_finished(run.history.as_slice()) == row.finished
+        && run.slots.as_slice() == row.ends
+}
+
+fn serves<R: Wait + Threads + Sync>(
+    rt: &R,
+    alloc: Global,
+    setup: &Setup,
+    slots: &mut List<MemAcceptor>,
+    gate: &Held<'_>,
+    row: &Row,
+) -> bool {
+    if slots.len() != usize::from(setup.slots()) {
+        return false;
+    }
+    let quick = Quick { alloc };
+    match serve_run(rt, alloc, setup, &quick, slots, gate) {
+        Ok(run) => comes_out(&run, row),
+        Err(_) => false,
+    }
+}
+
+/// Whether a run comes out so, and the gate held nobody too long.
+fn serves_held<R: Wait + Threads + Sync>(
+    rt: &R,
+    alloc: Global,
+    setup: &Setup,
+    slots: &mut List<MemAcceptor>,
+    row: &Row,
+) -> bool {
+    let until = AtomicU64::new(row.until);
+    let missed = AtomicU64::new(0);
+    let gate = Held {
+        until: &until,
+        missed: &missed,
     };
-    let mut slots = Vec::new(alloc);
-    slots.push(acceptor(alloc, link(alloc, pings(alloc, &[1])?, &[])?)?)?;
-    slots.push(acceptor(alloc, link(alloc, pings(alloc, &[2])?, &[])?)?)?;
-    let run = run(&rt, alloc, PAIR, slots, &gate)?;
-    assert!(rt; gate.missed.load(Ordering::SeqCst) == 0);
-    assert!(rt; held(&run, 0) == Some(replies(alloc, &[1])?.as_slice()));
-    assert!(rt; held(&run, 1) == Some(replies(alloc, &[2])?.as_slice()));
-    assert!(rt; run.slots.as_slice() == [SlotEnd::Served, SlotEnd::Served].as_slice());
-    Ok(())
+    serves(rt, alloc, setup, slots, &gate, row) && missed.load(Ordering::SeqCst) == 0
 }
+
+fn runs<R: Wait + Threads + Sync>(rt: &R, alloc: Global, setup: &Setup, row: &Row) -> bool {
+    let mut slots = List::new(alloc);
+    add_slots(alloc, &mut slots, row.slots) && serves_held(rt, alloc, setup, &mut slots, row)
+}
+
+fn holds<R: Wait + Threads + Sync>(rt: &R, alloc: Global, row: &Row) -> bool {
+    match read_setup(alloc, row.config) {
+        Ok(setup) => runs(rt, alloc, &setup, row),
+        Err(_) => false,
+    }
+}
+
+const AT_ONCE: Row = Row {
+    config: PAIR,
+    slots: &[
+        Slot {
+            links: &[Comes {
+                requests: &[(1, b"ping")],
+                failing: &[],
+            }],
+            most: 9,
+            failing: &[],
+        },
+        Slot {
+            links: &[Comes {
+                requests: &[(2, b"ping")],
+                failing: &[],
+            }],
+            most: 9,
+            failing: &[],
+        },
+    ],
+    until: 0,
+    conns: &[
+        (ENDED, WriteEnd::Done, Output::Bytes(&[REPLY_1])),
+        (ENDED, WriteEnd::Done, Output::Bytes(&[REPLY_2])),
+    ],
+    finished: 2,
+    ends: &[SlotEnd::Served, SlotEnd::Served],
+};
 
 #[test]
-fn a_failed_write_touches_its_own_connection_alone(rt: HostRuntime) -> Result<(), Fail> {
-    let alloc = rt.alloc();
-    let mut slots = Vec::new(alloc);
-    slots.push(acceptor(alloc, link(alloc, pings(alloc, &[1, 2])?, &[1])?)?)?;
-    slots.push(acceptor(alloc, link(alloc, pings(alloc, &[3, 4])?, &[])?)?)?;
-    let run = run(&rt, alloc, PAIR, slots, &Free)?;
-    let fault = WriteEnd::WriteFault(LastCollect::Done);
-    assert!(rt; ends(&run, 0) == Some((ENDED, fault)));
-    assert!(rt; ends(&run, 1) == Some((ENDED, WriteEnd::Done)));
-    let first = held(&run, 0).ok_or("a connection")?;
-    assert!(rt; first.len() == 24);
-    let second = held(&run, 1).ok_or("a connection")?;
-    assert!(rt; second.len() == 48);
-    assert!(rt; count_finished(run.history.as_slice()) == 4);
-    Ok(())
+fn two_requests_are_carried_out_at_once(rt: HostRuntime) {
+    assert!(&rt; holds(&rt, rt.alloc(), &AT_ONCE));
 }
+
+const WRITE_FAILS: Row = Row {
+    config: PAIR,
+    slots: &[
+        Slot {
+            links: &[Comes {
+                requests: &[(1, b"ping"), (2, b"ping")],
+                failing: &[1],
+            }],
+            most: 9,
+            failing: &[],
+        },
+        Slot {
+            links: &[Comes {
+                requests: &[(3, b"ping"), (4, b"ping")],
+                failing: &[],
+            }],
+            most: 9,
+            failing: &[],
+        },
+    ],
+    until: 1,
+    conns: &[
+        (
+            ENDED,
+            WriteEnd::WriteFault(LastCollect::Done),
+            Output::Len(24),
+        ),
+        (ENDED, WriteEnd::Done, Output::Len(48)),
+    ],
+    finished: 4,
+    ends: &[SlotEnd::Served, SlotEnd::Served],
+};
 
 #[test]
-fn a_run_at_its_limit_closes_its_connections(rt: HostRuntime) -> Result<(), Fail> {
-    let alloc = rt.alloc();
-    let mut links = LinkedList::new(alloc);
-    links
-        .push_back(link(alloc, pings(alloc, &[1, 2])?, &[])?)
-        .ok()
-        .ok_or("memory")?;
-    links
-        .push_back(link(alloc, pings(alloc, &[3])?, &[])?)
-        .ok()
-        .ok_or("memory")?;
-    let mut slots = Vec::new(alloc);
-    slots.push(MemAcceptor::new(links, 9, List::new(alloc)))?;
-    let run = run(&rt, alloc, ONE_CALL, slots, &Free)?;
-    assert!(rt; run.conns.len() == 1);
-    assert!(rt; ends(&run, 0) == Some((ReadSideEnd::RunClosed, WriteEnd::Closed)));
-    let mut wanted = replies(alloc, &[1])?;
-    wanted.extend_from_slice(CLOSE)?;
-    assert!(rt; held(&run, 0) == Some(wanted.as_slice()));
-    assert!(rt; run.slots.as_slice() == [SlotEnd::Closed].as_slice());
-    Ok(())
+fn a_failed_write_touches_its_own_connection_alone(rt: HostRuntime) {
+    assert!(&rt; holds(&rt, rt.alloc(), &WRITE_FAILS));
 }
 
-/// An acceptor of three links, each of two requests for each lane, whose second accept fails where that is told.
-fn busy(alloc: Global, fails: bool) -> Result<MemAcceptor, Fail> {
-    let mut links = LinkedList::new(alloc);
-    for _ in 0..3 {
-        let mut bytes = Vec::new(alloc);
-        put_request(&mut bytes, 1, b"slow")?;
-        put_request(&mut bytes, 2, b"fast")?;
-        put_request(&mut bytes, 3, b"slow")?;
-        put_request(&mut bytes, 4, b"fast")?;
-        links
-            .push_back(link(alloc, bytes, &[])?)
-            .ok()
-            .ok_or("memory")?;
-    }
-    let mut failing = List::new(alloc);
-    if fails {
-        failing.push(1).ok().ok_or("memory")?;
-    }
-    Ok(MemAcceptor::new(links, 3, failing))
-}
+const AT_LIMIT: Row = Row {
+    config: ONE_CALL,
+    slots: &[Slot {
+        links: &[
+            Comes {
+                requests: &[(1, b"ping"), (2, b"ping")],
+                failing: &[],
+            },
+            Comes {
+                requests: &[(3, b"ping")],
+                failing: &[],
+            },
+        ],
+        most: 9,
+        failing: &[],
+    }],
+    until: 1,
+    conns: &[(
+        ReadSideEnd::RunClosed,
+        WriteEnd::Closed,
+        Output::Bytes(&[REPLY_1, CLOSE]),
+    )],
+    finished: 1,
+    ends: &[SlotEnd::Closed],
+};
 
 #[test]
-fn slots_serve_their_connections_over_lanes(rt: HostRuntime) -> Result<(), Fail> {
-    let alloc = rt.alloc();
-    let mut slots = Vec::new(alloc);
-    for fails in [false, false, true, false] {
-        slots.push(busy(alloc, fails)?)?;
-    }
-    let run = run(&rt, alloc, LANES, slots, &Free)?;
-    // The third slot served one connection.
-    assert!(rt; run.conns.len() == 10);
-    for log in run.conns.as_slice() {
-        assert!(rt; log.read == ENDED && log.write == WriteEnd::Done);
-        assert!(rt; log.sink.held().len() == 96);
-    }
-    assert!(rt; count_finished(run.history.as_slice()) == 40);
-    let wanted = [
+fn a_run_at_its_limit_closes_its_connections(rt: HostRuntime) {
+    assert!(&rt; holds(&rt, rt.alloc(), &AT_LIMIT));
+}
+
+/// Two requests for each lane.
+const BUSY: Comes = Comes {
+    requests: &[(1, b"slow"), (2, b"fast"), (3, b"slow"), (4, b"fast")],
+    failing: &[],
+};
+
+const THREE: Slot = Slot {
+    links: &[BUSY; 3],
+    most: 3,
+    failing: &[],
+};
+
+/// The third slot serves one connection.
+const OVER_LANES: Row = Row {
+    config: LANES,
+    slots: &[
+        THREE,
+        THREE,
+        Slot {
+            links: &[BUSY; 3],
+            most: 3,
+            failing: &[1],
+        },
+        THREE,
+    ],
+    until: 1,
+    conns: &[(ENDED, WriteEnd::Done, Output::Len(96)); 10],
+    finished: 40,
+    ends: &[
         SlotEnd::Served,
         SlotEnd::Served,
         SlotEnd::AcceptFault,
         SlotEnd::Served,
-    ];
-    assert!(rt; run.slots.as_slice() == wanted.as_slice());
-    Ok(())
-}
+    ],
+};
 
 #[test]
-fn a_slot_is_done_where_no_link_is_left(rt: HostRuntime) -> Result<(), Fail> {
-    let alloc = rt.alloc();
-    let mut slots = Vec::new(alloc);
-    slots.push(acceptor(alloc, link(alloc, pings(alloc, &[7])?, &[])?)?)?;
-    slots.push(MemAcceptor::new(LinkedList::new(alloc), 1, List::new(alloc)))?;
-    let run = run(&rt, alloc, PAIR, slots, &Free)?;
-    assert!(rt; run.slots.as_slice() == [SlotEnd::Served, SlotEnd::Done].as_slice());
-    let first = run.conns.get(0).ok_or("a connection")?;
-    assert!(rt; first.id.is_same(ConnId { slot: 0, nth: 0 }));
-    Ok(())
+fn slots_serve_their_connections_over_lanes(rt: HostRuntime) {
+    assert!(&rt; holds(&rt, rt.alloc(), &OVER_LANES));
 }
 
+const NO_LINK: Row = Row {
+    config: PAIR,
+    slots: &[
+        Slot {
+            links: &[Comes {
+                requests: &[(7, b"ping")],
+                failing: &[],
+            }],
+            most: 9,
+            failing: &[],
+        },
+        Slot {
+            links: &[],
+            most: 1,
+            failing: &[],
+        },
+    ],
+    until: 1,
+    conns: &[(ENDED, WriteEnd::Done, Output::Bytes(&[REPLY_7]))],
+    finished: 1,
+    ends: &[SlotEnd::Served, SlotEnd::Done],
+};
+
 #[test]
-fn a_reply_comes_before_the_next_request_is_sent(rt: HostRuntime) -> Result<(), Fail> {
-    let alloc = rt.alloc();
-    let written = AtomicU64::new(0);
-    let met = AtomicU64::new(0);
-    let first = pings(alloc, &[1])?;
-    let second = pings(alloc, &[2])?;
-    let once = Once {
-        alloc,
-        pieces: [first.as_slice(), second.as_slice()],
-        written: &written,
-        least: 24,
-        met: &met,
-        left: true,
-        ends: 0,
-    };
-    let (held, finished) = asked(&rt, alloc, &Free, once)?;
-    assert!(rt; held.as_slice() == replies(alloc, &[1, 2])?.as_slice());
-    assert_eq!(rt; finished, 2);
-    Ok(())
+fn a_slot_is_done_where_no_link_is_left(rt: HostRuntime) {
+    assert!(&rt; holds(&rt, rt.alloc(), &NO_LINK));
 }
 
+/// Ten requests over the three lanes.
+const TEN: Comes = Comes {
+    requests: &[
+        (1, b"fast"),
+        (2, b"best"),
+        (3, b"slow"),
+        (4, b"fast"),
+        (5, b"best"),
+        (6, b"slow"),
+        (7, b"fast"),
+        (8, b"best"),
+        (9, b"slow"),
+        (10, b"fast"),
+    ],
+    failing: &[],
+};
+
+const SIXTEEN: Slot = Slot {
+    links: &[TEN; 16],
+    most: 16,
+    failing: &[],
+};
+
+const OVER_THREE_LANES: Row = Row {
+    config: MANY,
+    slots: &[SIXTEEN; 8],
+    until: 1,
+    conns: &[(ENDED, WriteEnd::Done, Output::Len(240)); 128],
+    finished: 1_280,
+    ends: &[SlotEnd::Served; 8],
+};
+
 #[test]
-fn a_cancelled_request_never_runs(rt: HostRuntime) -> Result<(), Fail> {
-    let alloc = rt.alloc();
-    let written = AtomicU64::new(0);
-    let met = AtomicU64::new(0);
-    let requests = pings(alloc, &[1, 2, 3])?;
-    let cancel = Vec::from_slice(alloc, CANCEL_2)?;
-    let gate = Until { met: &met };
-    let once = Once {
-        alloc,
-        pieces: [requests.as_slice(), cancel.as_slice()],
-        written: &written,
-        least: 0,
-        met: &met,
-        left: true,
-        ends: 0,
-    };
-    let (held, finished) = asked(&rt, alloc, &gate, once)?;
-    assert!(rt; held.as_slice() == replies(alloc, &[1, 3])?.as_slice());
-    assert_eq!(rt; finished, 2);
-    Ok(())
+fn many_connections_are_served_over_three_lanes(rt: HostRuntime) {
+    assert!(&rt; holds(&rt, rt.alloc(), &OVER_THREE_LANES));
 }
 
-/// Eight slots of sixteen connections each over three lanes, with an object in each lane.
-const MANY: &[u8] =
-    b"server = { slots = 8, per_slot = 16 }\npool = { borrowing = true, buffering = true, max_buffered_requests = 500, max_request_buffer_size = 1000000, lanes = [{ priority = 10, static = 1, dynamic = 0 }, { priority = 20, static = 1, dynamic = 0 }, { priority = 30, static = 1, dynamic = 0 }] }\nadapter = [{ name = \"low\", model = \"SERVER_DECLARED\", priority = 10 }, { name = \"high\", model = \"SERVER_DECLARED\", priority = 20 }, { name = \"top\", model = \"SERVER_DECLARED\", priority = 30 }]\nobject = [{ key = \"slow\", adapter = \"low\", interface = \"i\" }, { key = \"fast\", adapter = \"high\", interface = \"i\" }, { key = \"best\", adapter = \"top\", interface = \"i\" }]\n";
+/// One connection: the requests that it begins with, and the piece behind them, which comes once so many bytes were written; the number that
+/// the gate waits for, which is 1 at the latest when the input has met its end; and its replies.
+struct Talk {
+    first: &'static [Asked],
+    second: &'static [u8],
+    least: u64,
+    until: u64,
+    replies: &'static [&'static [u8]],
+}
 
-#[test]
-fn many_connections_are_served_over_three_lanes(rt: HostRuntime) -> Result<(), Fail> {
-    let alloc = rt.alloc();
-    let mut slots = Vec::new(alloc);
-    for _ in 0..8 {
-        let mut links = LinkedList::new(alloc);
-        for _ in 0..16 {
-            let mut bytes = Vec::new(alloc);
-            for id in 1..11 {
-                let key = match id % 3 {
-                    0 => b"slow",
-                    1 => b"fast",
-                    _ => b"best",
-                };
-                put_request(&mut bytes, id, key)?;
-            }
-            links
-                .push_back(link(alloc, bytes, &[])?)
-                .ok()
-                .ok_or("memory")?;
+/// Whether the first connection holds these replies, and two requests were finished.
+fn has_replied(run: &Run<Asking<'_>, Telling<'_>>, replies: &[&[u8]]) -> bool {
+    match run.conns.get(0) {
+        Some(log) => {
+            is_joined(log.sink.held.held(), replies) && count_finished(run.history.as_slice()) == 2
         }
-        slots.push(MemAcceptor::new(links, 16, List::new(alloc)))?;
+        None => false,
     }
-    let run = run(&rt, alloc, MANY, slots, &Free)?;
-    assert_eq!(rt; run.conns.len(), 128);
-    for log in run.conns.as_slice() {
-        assert!(rt; log.read == ENDED && log.write == WriteEnd::Done);
-        assert!(rt; log.sink.held().len() == 240);
+}
+
+fn replies<'a, R: Wait + Threads + Sync>(
+    rt: &R,
+    alloc: Global,
+    setup: &Setup,
+    gate: &Held<'_>,
+    once: Once<'a>,
+    talk: &Talk,
+) -> bool {
+    let mut slots = List::new(alloc);
+    if slots.push(once).is_err() || slots.len() != usize::from(setup.slots()) {
+        return false;
     }
-    assert_eq!(rt; count_finished(run.history.as_slice()), 1_280);
-    Ok(())
+    let quick = Quick { alloc };
+    match serve_run(rt, alloc, setup, &quick, &mut slots, gate) {
+        Ok(run) => has_replied(&run, talk.replies),
+        Err(_) => false,
+    }
+}
+
+fn talks_over<R: Wait + Threads + Sync>(rt: &R, alloc: Global, setup: &Setup, talk: &Talk) -> bool {
+    let mut first = Octets::new(alloc);
+    let Ok(second) = Vec::from_slice(alloc, talk.second) else {
+        return false;
+    };
+    if !put_requests(&mut first, talk.first) {
+        return false;
+    }
+    let written = AtomicU64::new(0);
+    let met = AtomicU64::new(talk.until);
+    let missed = AtomicU64::new(0);
+    let gate = Held {
+        until: &met,
+        missed: &missed,
+    };
+    let once = Once {
+        alloc,
+        first: first.as_slice(),
+        second: second.as_slice(),
+        written: &written,
+        least: talk.least,
+        met: &met,
+        left: true,
+        ends: 0,
+    };
+    replies(rt, alloc, setup, &gate, once, talk)
+}
+
+fn talks<R: Wait + Threads + Sync>(rt: &R, alloc: Global, talk: &Talk) -> bool {
+    match read_setup(alloc, QUEUE) {
+        Ok(setup) => talks_over(rt, alloc, &setup, talk),
+        Err(_) => false,
+    }
+}
+
+const BY_TURNS: Talk = Talk {
+    first: &[(1, b"ping")],
+    second: PING_2,
+    least: 24,
+    until: 1,
+    replies: &[REPLY_1, REPLY_2],
+};
+
+#[test]
+fn a_reply_comes_before_the_next_request_is_sent(rt: HostRuntime) {
+    assert!(&rt; talks(&rt, rt.alloc(), &BY_TURNS));
+}
+
+const CANCELLED: Talk = Talk {
+    first: &[(1, b"ping"), (2, b"ping"), (3, b"ping")],
+    second: CANCEL_2,
+    least: 0,
+    until: 0,
+    replies: &[REPLY_1, REPLY_3],
+};
+
+#[test]
+fn a_cancelled_request_never_runs(rt: HostRuntime) {
+    assert!(&rt; talks(&rt, rt.alloc(), &CANCELLED));
+}
+
+/// Whether the bytes are these parts, one behind the other.
+fn is_joined(bytes: &[u8], parts: &[&[u8]]) -> bool {
+    let mut rest = bytes;
+    for part in parts {
+        match rest.strip_prefix(*part) {
+            Some(after) => rest = after,
+            None => return false,
+        }
+    }
+    rest.is_empty()
 }

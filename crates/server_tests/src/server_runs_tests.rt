@@ -6,15 +6,16 @@ use adapter_policies::{Setup, read_setup};
 use lane_machine::{How, LaneCall, LaneReply, Lanes};
 use object_lines::{Address, read_address};
 use orb_base::{
-    Completed, ConnId, Job, List, MemLink, MemSink, MemSource, NoMemory, Outcome, Serving,
-    SharedOctets, Sys, SysName, Text,
+    Completed, ConnId, Job, List, MemAcceptor, MemLink, MemSink, MemSource, NoMemory, Outcome,
+    Serving, SharedOctets, Sys, SysName, Text,
 };
 use orb_nets::{MemNet, MemSlot};
-use orb_server::SlotEnd;
+use orb_server::{Run, SlotEnd};
 use server_runs::*;
 use std::alloc::Global;
 use std::collections::LinkedList;
-use std::test::Fail;
+use std::sync::Wait;
+use std::thread::Threads;
 use turn_cell::Entry;
 
 /// Answers each request with an empty body.
@@ -50,150 +51,293 @@ const REPLY: &[u8] = b"GIOP\x01\x02\0\x01\0\0\0\x0c\0\0\0\x01\0\0\0\0\0\0\0\0";
 
 const LINE: &[u8] = b"calls 1 run 1 lent 0 kept 0 full 0 removed 0 connections 1\n";
 
-fn setup(alloc: Global) -> Result<Setup, Fail> {
-    Ok(read_setup(alloc, ONE).ok().ok_or("a setup")?)
+/// A run over a net whose calls of these numbers fail, with a summary whose writes of these numbers fail: how it comes out, what is written,
+/// and how many acceptors the net gives. Where it gives one, its slot serves the one link.
+struct Row {
+    failing: &'static [u64],
+    writes: &'static [u64],
+    end: ServeEnd,
+    line: &'static [u8],
+    acceptors: usize,
 }
 
-fn address(alloc: Global) -> Result<Address, Fail> {
-    Ok(read_address(alloc, b"h:7")?.ok_or("an address")?)
+fn numbers(alloc: Global, all: &[u64]) -> Option<List<u64>> {
+    match Vec::from_slice(alloc, all) {
+        Ok(all) => Some(List::from_vec(all)),
+        Err(_) => None,
+    }
 }
 
-/// A net with one slot, at which one link gives these bytes, and whose calls of these numbers fail.
-fn net(alloc: Global, bytes: &[u8], failing: &[u64]) -> Result<MemNet, Fail> {
-    let bytes = List::from_vec(Vec::from_slice(alloc, bytes)?);
-    let mut links = LinkedList::new(alloc);
-    links
-        .push_back(MemLink::new(
-            MemSource::new(bytes, List::new(alloc), List::new(alloc)),
+/// The link by which the request comes.
+fn link(alloc: Global) -> Option<MemLink> {
+    match Vec::from_slice(alloc, PING) {
+        Ok(bytes) => Some(MemLink::new(
+            MemSource::new(List::from_vec(bytes), List::new(alloc), List::new(alloc)),
             MemSink::new(alloc, List::new(alloc), List::new(alloc)),
-        ))
-        .ok()
-        .ok_or("memory")?;
-    let mut slots = LinkedList::new(alloc);
-    slots
-        .push_back(MemSlot {
+        )),
+        Err(_) => None,
+    }
+}
+
+fn add_link(alloc: Global, links: &mut LinkedList<MemLink>) -> bool {
+    match link(alloc) {
+        Some(link) => links.push_back(link).is_ok(),
+        None => false,
+    }
+}
+
+/// A slot with that link.
+fn slot(alloc: Global) -> Option<MemSlot> {
+    let mut links = LinkedList::new(alloc);
+    if add_link(alloc, &mut links) {
+        Some(MemSlot {
             links,
             failing: List::new(alloc),
         })
-        .ok()
-        .ok_or("memory")?;
-    let failing = List::from_vec(Vec::from_slice(alloc, failing)?);
-    Ok(MemNet::new(alloc, slots, LinkedList::new(alloc), failing))
-}
-
-#[test]
-fn a_request_is_served_and_counted(rt: HostRuntime) -> Result<(), Fail> {
-    let alloc = rt.alloc();
-    let mut net = net(alloc, PING, &[])?;
-    let mut out = MemSink::new(alloc, List::new(alloc), List::new(alloc));
-    let setup = setup(alloc)?;
-    let at = address(alloc)?;
-    let served = serve_at(
-        &rt,
-        alloc,
-        &mut net,
-        &setup,
-        &Quick { alloc },
-        &at,
-        &mut out,
-    );
-    assert_eq!(rt; served.end, ServeEnd::Done);
-    assert!(rt; out.held() == LINE);
-    assert!(rt; served.acceptors.len() == 1);
-    let run = served.run.as_ref().ok_or("a run")?;
-    assert!(rt; run.slots.as_slice() == [SlotEnd::Served].as_slice());
-    let log = run.conns.get(0).ok_or("a connection")?;
-    assert!(rt; log.sink.held() == REPLY);
-    Ok(())
-}
-
-#[test]
-fn what_fails_is_told(rt: HostRuntime) -> Result<(), Fail> {
-    let alloc = rt.alloc();
-    let setup = setup(alloc)?;
-    let at = address(alloc)?;
-    for (failing, writes, end, acceptors) in [
-        ([0u64].as_slice(), [].as_slice(), ServeEnd::NetFault, 0),
-        ([1].as_slice(), [0u64].as_slice(), ServeEnd::WriteFault, 1),
-    ] {
-        let mut net = net(alloc, PING, failing)?;
-        let writes = List::from_vec(Vec::from_slice(alloc, writes)?);
-        let mut out = MemSink::new(alloc, List::new(alloc), writes);
-        let served = serve_at(
-            &rt,
-            alloc,
-            &mut net,
-            &setup,
-            &Quick { alloc },
-            &at,
-            &mut out,
-        );
-        assert_eq!(rt; served.end, end);
-        assert!(rt; out.held().is_empty());
-        assert!(rt; served.acceptors.len() == acceptors);
-        assert!(rt; served.run.is_some() == (acceptors == 1));
+    } else {
+        None
     }
-    Ok(())
 }
 
+fn add_slot(alloc: Global, slots: &mut LinkedList<MemSlot>) -> bool {
+    match slot(alloc) {
+        Some(slot) => slots.push_back(slot).is_ok(),
+        None => false,
+    }
+}
+
+fn slots(alloc: Global) -> Option<LinkedList<MemSlot>> {
+    let mut slots = LinkedList::new(alloc);
+    if add_slot(alloc, &mut slots) {
+        Some(slots)
+    } else {
+        None
+    }
+}
+
+/// A net with that slot, and whose calls of these numbers fail.
+fn net(alloc: Global, failing: &[u64]) -> Option<MemNet> {
+    let failing = numbers(alloc, failing)?;
+    match slots(alloc) {
+        Some(slots) => Some(MemNet::new(alloc, slots, LinkedList::new(alloc), failing)),
+        None => None,
+    }
+}
+
+/// Whether one slot was served, and the first link answered.
+fn has_served(run: &Run<MemSource, MemSink>) -> bool {
+    match run.conns.get(0) {
+        Some(log) => {
+            log.sink.held() == REPLY && run.slots.as_slice() == [SlotEnd::Served].as_slice()
+        }
+        None => false,
+    }
+}
+
+fn comes_out(served: &Served<MemAcceptor, MemSource, MemSink>, row: &Row) -> bool {
+    let is_run = match &served.run {
+        Some(run) => row.acceptors == 1 && has_served(run),
+        None => row.acceptors == 0,
+    };
+    is_run && served.end == row.end && served.acceptors.len() == row.acceptors
+}
+
+fn same(held: &[u8], line: &[u8]) -> bool {
+    held == line
+}
+
+fn serves<R: Wait + Threads + Sync>(
+    rt: &R,
+    alloc: Global,
+    setup: &Setup,
+    at: &Address,
+    net: &mut MemNet,
+    out: &mut MemSink,
+    row: &Row,
+) -> bool {
+    let quick = Quick { alloc };
+    let served = serve_at(rt, alloc, net, setup, &quick, at, out);
+    comes_out(&served, row) && same(out.held(), row.line)
+}
+
+fn serves_net<R: Wait + Threads + Sync>(
+    rt: &R,
+    alloc: Global,
+    setup: &Setup,
+    at: &Address,
+    net: &mut MemNet,
+    row: &Row,
+) -> bool {
+    match numbers(alloc, row.writes) {
+        Some(failing) => {
+            let mut out = MemSink::new(alloc, List::new(alloc), failing);
+            serves(rt, alloc, setup, at, net, &mut out, row)
+        }
+        None => false,
+    }
+}
+
+fn serves_at<R: Wait + Threads + Sync>(
+    rt: &R,
+    alloc: Global,
+    setup: &Setup,
+    at: &Address,
+    row: &Row,
+) -> bool {
+    match net(alloc, row.failing) {
+        Some(mut net) => serves_net(rt, alloc, setup, at, &mut net, row),
+        None => false,
+    }
+}
+
+fn each_holds<R: Wait + Threads + Sync>(
+    rt: &R,
+    alloc: Global,
+    setup: &Setup,
+    at: &Address,
+    rows: &[Row],
+) -> bool {
+    for row in rows {
+        if !serves_at(rt, alloc, setup, at, row) {
+            return false;
+        }
+    }
+    true
+}
+
+fn hold_over<R: Wait + Threads + Sync>(rt: &R, alloc: Global, setup: &Setup, rows: &[Row]) -> bool {
+    match read_address(alloc, b"h:7") {
+        Ok(Some(at)) => each_holds(rt, alloc, setup, &at, rows),
+        _ => false,
+    }
+}
+
+fn all_hold<R: Wait + Threads + Sync>(rt: &R, alloc: Global, rows: &[Row]) -> bool {
+    match read_setup(alloc, ONE) {
+        Ok(setup) => hold_over(rt, alloc, &setup, rows),
+        Err(_) => false,
+    }
+}
+
+const SERVED: &[Row] = &[Row {
+    failing: &[],
+    writes: &[],
+    end: ServeEnd::Done,
+    line: LINE,
+    acceptors: 1,
+}];
+
 #[test]
-fn each_kind_of_entry_is_counted(rt: HostRuntime) -> Result<(), Fail> {
-    let alloc = rt.alloc();
-    let conn = ConnId { slot: 0, nth: 0 };
-    let withdrawn = || LaneCall::Cancel { conn, id: 1 };
-    let mut history: Vec<Entry<Lanes>> = Vec::new(alloc);
-    for (call, reply) in [
-        (withdrawn(), LaneReply::Removed),
-        (withdrawn(), LaneReply::Nothing),
-        (withdrawn(), LaneReply::Closing),
-        (
-            LaneCall::Leave { slot: 0 },
-            LaneReply::Run {
-                thread: 0,
-                lent: false,
-            },
-        ),
-        (
-            LaneCall::Leave { slot: 0 },
-            LaneReply::Run {
-                thread: 1,
-                lent: true,
-            },
-        ),
-        (
-            LaneCall::Leave { slot: 0 },
-            LaneReply::Run {
-                thread: 2,
-                lent: true,
-            },
-        ),
-        (LaneCall::Leave { slot: 0 }, LaneReply::Kept),
-        (LaneCall::Leave { slot: 0 }, LaneReply::Full),
-        (
-            LaneCall::End {
-                conn,
-                how: How::Quiet,
-            },
-            LaneReply::Noted,
-        ),
-        (
-            LaneCall::End {
-                conn,
-                how: How::Bad,
-            },
-            LaneReply::Noted,
-        ),
-    ] {
-        history.push(Entry {
+fn a_request_is_served_and_counted(rt: HostRuntime) {
+    assert!(&rt; all_hold(&rt, rt.alloc(), SERVED));
+}
+
+const FAULTS: &[Row] = &[
+    Row {
+        failing: &[0],
+        writes: &[],
+        end: ServeEnd::NetFault,
+        line: b"",
+        acceptors: 0,
+    },
+    Row {
+        failing: &[1],
+        writes: &[0],
+        end: ServeEnd::WriteFault,
+        line: b"",
+        acceptors: 1,
+    },
+];
+
+#[test]
+fn what_fails_is_told(rt: HostRuntime) {
+    assert!(&rt; all_hold(&rt, rt.alloc(), FAULTS));
+}
+
+const CONN: ConnId = ConnId { slot: 0, nth: 0 };
+
+/// An entry: a cancel, a leave that is answered so, or the end of a connection.
+#[derive(Clone, Copy)]
+enum Kind {
+    Removed,
+    Nothing,
+    Closing,
+    Run(u8, bool),
+    Kept,
+    Full,
+    End(How),
+}
+
+fn call_of(kind: Kind) -> LaneCall {
+    match kind {
+        Kind::Removed | Kind::Nothing | Kind::Closing => LaneCall::Cancel { conn: CONN, id: 1 },
+        Kind::End(how) => LaneCall::End { conn: CONN, how },
+        _ => LaneCall::Leave { slot: 0 },
+    }
+}
+
+fn reply_of(kind: Kind) -> LaneReply {
+    match kind {
+        Kind::Removed => LaneReply::Removed,
+        Kind::Nothing => LaneReply::Nothing,
+        Kind::Closing => LaneReply::Closing,
+        Kind::Run(thread, lent) => LaneReply::Run { thread, lent },
+        Kind::Kept => LaneReply::Kept,
+        Kind::Full => LaneReply::Full,
+        Kind::End(_) => LaneReply::Noted,
+    }
+}
+
+const HISTORY: [Kind; 10] = [
+    Kind::Removed,
+    Kind::Nothing,
+    Kind::Closing,
+    Kind::Run(0, false),
+    Kind::Run(1, true),
+    Kind::Run(2, true),
+    Kind::Kept,
+    Kind::Full,
+    Kind::End(How::Quiet),
+    Kind::End(How::Bad),
+];
+
+fn add(history: &mut List<Entry<Lanes>>, kind: Kind) -> bool {
+    history
+        .push(Entry {
             caller: 1,
-            call,
-            reply,
-        })?;
+            call: call_of(kind),
+            reply: reply_of(kind),
+        })
+        .is_ok()
+}
+
+fn add_each(history: &mut List<Entry<Lanes>>) -> bool {
+    for kind in HISTORY {
+        if !add(history, kind) {
+            return false;
+        }
     }
-    let text = summary_of(history.as_slice()).to_string(alloc)?;
-    assert_eq!(rt;
-        text.as_str(),
-        "calls 2 run 1 lent 2 kept 1 full 1 removed 1 connections 2\n"
-    );
-    Ok(())
+    true
+}
+
+fn reads(alloc: Global, history: &[Entry<Lanes>], want: &str) -> bool {
+    match summary_of(history).to_string(alloc) {
+        Ok(text) => text.as_str() == want,
+        Err(_) => false,
+    }
+}
+
+fn counts_each(alloc: Global) -> bool {
+    let mut history = List::new(alloc);
+    add_each(&mut history)
+        && reads(
+            alloc,
+            history.as_slice(),
+            "calls 2 run 1 lent 2 kept 1 full 1 removed 1 connections 2\n",
+        )
+}
+
+#[test]
+fn each_kind_of_entry_is_counted(rt: HostRuntime) {
+    assert!(rt; counts_each(rt.alloc()));
 }
