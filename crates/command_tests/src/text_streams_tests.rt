@@ -1,179 +1,243 @@
 //! Whole reads and writes over memory, and octets as they are shown.
 
-use orb_base::{CountingSink, List, MemSink, MemSource, SteadySource};
+pub mod devices;
+
+use self::devices::{list, sink, source};
+use orb_base::{CountingSink, MemSource};
 use std::alloc::Global;
-use std::test::Fail;
 use text_streams::*;
 
-fn list<T: Copy>(alloc: Global, items: &[T]) -> Result<List<T>, Fail> {
-    Ok(List::from_vec(Vec::from_slice(alloc, items)?))
-}
-
-/// What a whole read came to, without the bytes.
-#[derive(Clone, Copy, Debug, PartialEq, Eq)]
+/// What a whole read came to.
+#[derive(Clone, Copy)]
 enum Came {
-    Whole,
+    /// These bytes.
+    Whole(&'static [u8]),
     TooLong,
     Failed,
-    NoMemory,
 }
 
-/// Reads at most `limit` bytes of an input whose reads are cut and fail as told: what came, and the bytes.
-fn read(
-    alloc: Global,
-    limit: usize,
-    input: &[u8],
-    cuts: &[usize],
-    failed: &[u64],
-) -> Result<(Came, Vec<u8>), Fail> {
-    let mut source = MemSource::new(
-        list(alloc, input)?,
-        list(alloc, cuts)?,
-        list(alloc, failed)?,
-    );
-    match read_all(alloc, limit, &mut source) {
-        ReadAll::Whole(bytes) => Ok((Came::Whole, bytes.into_vec())),
-        ReadAll::TooLong => Ok((Came::TooLong, Vec::new(alloc))),
-        ReadAll::Failed(bytes) => Ok((Came::Failed, bytes.into_vec())),
-        ReadAll::NoMemory => Ok((Came::NoMemory, Vec::new(alloc))),
+/// Whole reads of an input whose reads are cut and fail as told, each of them of so many bytes at most.
+struct Reads {
+    input: &'static [u8],
+    cuts: &'static [usize],
+    failed: &'static [u64],
+    came: &'static [(usize, Came)],
+}
+
+const READS: &[Reads] = &[
+    Reads {
+        input: b"GIOP",
+        cuts: &[],
+        failed: &[],
+        came: &[(4, Came::Whole(b"GIOP"))],
+    },
+    Reads {
+        input: b"GIOP",
+        cuts: &[1, 2],
+        failed: &[],
+        came: &[(4, Came::Whole(b"GIOP"))],
+    },
+    Reads {
+        input: b"GIOP",
+        cuts: &[3],
+        failed: &[],
+        came: &[(9, Came::Whole(b"GIOP"))],
+    },
+    Reads {
+        input: b"",
+        cuts: &[],
+        failed: &[],
+        came: &[(0, Came::Whole(b""))],
+    },
+    Reads {
+        input: b"GIOP",
+        cuts: &[],
+        failed: &[],
+        came: &[(3, Came::TooLong)],
+    },
+    Reads {
+        input: b"G",
+        cuts: &[],
+        failed: &[],
+        came: &[(0, Came::TooLong)],
+    },
+    Reads {
+        input: b"GIOP",
+        cuts: &[2],
+        failed: &[1],
+        came: &[(4, Came::Failed)],
+    },
+    Reads {
+        input: b"GIOP",
+        cuts: &[],
+        failed: &[0],
+        came: &[(4, Came::Failed)],
+    },
+];
+
+/// Whether a whole read came to this.
+fn comes_to(read: &ReadAll, came: Came) -> bool {
+    match read {
+        ReadAll::Whole(bytes) => matches!(came, Came::Whole(want) if bytes.as_slice() == want),
+        ReadAll::TooLong => matches!(came, Came::TooLong),
+        ReadAll::Failed(_) => matches!(came, Came::Failed),
+        ReadAll::NoMemory => false,
     }
+}
+
+fn reads_on(alloc: Global, source: &mut MemSource, came: &[(usize, Came)]) -> bool {
+    for (limit, came) in came {
+        if !comes_to(&read_all(alloc, *limit, source), *came) {
+            return false;
+        }
+    }
+    true
+}
+
+fn is_read(alloc: Global, row: &Reads) -> bool {
+    let Ok(input) = list(alloc, row.input) else {
+        return false;
+    };
+    match source(alloc, input, row.cuts, row.failed) {
+        Ok(mut source) => reads_on(alloc, &mut source, row.came),
+        Err(_) => false,
+    }
+}
+
+fn all_read(alloc: Global, rows: &[Reads]) -> bool {
+    for row in rows {
+        if !is_read(alloc, row) {
+            return false;
+        }
+    }
+    true
 }
 
 #[test]
-fn an_input_is_read_to_its_end(rt: HostRuntime) -> Result<(), Fail> {
-    for (limit, input, cuts, failed, wanted) in [
-        (
-            4,
-            b"GIOP".as_slice(),
-            [].as_slice(),
-            [].as_slice(),
-            Came::Whole,
-        ),
-        (
-            4,
-            b"GIOP".as_slice(),
-            [1, 2].as_slice(),
-            [].as_slice(),
-            Came::Whole,
-        ),
-        (
-            9,
-            b"GIOP".as_slice(),
-            [3].as_slice(),
-            [].as_slice(),
-            Came::Whole,
-        ),
-        (0, b"".as_slice(), [].as_slice(), [].as_slice(), Came::Whole),
-        (
-            3,
-            b"GIOP".as_slice(),
-            [].as_slice(),
-            [].as_slice(),
-            Came::TooLong,
-        ),
-        (
-            0,
-            b"G".as_slice(),
-            [].as_slice(),
-            [].as_slice(),
-            Came::TooLong,
-        ),
-        (
-            4,
-            b"GIOP".as_slice(),
-            [2].as_slice(),
-            [1].as_slice(),
-            Came::Failed,
-        ),
-        (
-            4,
-            b"GIOP".as_slice(),
-            [].as_slice(),
-            [0].as_slice(),
-            Came::Failed,
-        ),
-    ] {
-        let (answer, bytes) = read(rt.alloc(), limit, input, cuts, failed)?;
-        assert_eq!(rt; answer, wanted, "{limit}");
-        if answer == Came::Whole {
-            assert_eq!(rt; bytes.as_slice(), input, "{limit}");
-        }
-    }
-    Ok(())
+fn an_input_is_read_to_its_end(rt: HostRuntime) {
+    assert!(rt; all_read(rt.alloc(), READS));
 }
+
+const READ_ON: &[Reads] = &[Reads {
+    input: b"corbaloc",
+    cuts: &[],
+    failed: &[],
+    came: &[(5, Came::TooLong), (5, Came::Whole(b"oc"))],
+}];
 
 /// One more byte than the limit is taken, and no more.
 #[test]
-fn one_byte_more_is_taken(rt: HostRuntime) -> Result<(), Fail> {
-    let alloc = rt.alloc();
-    let mut source = SteadySource::new(list(alloc, b"corbaloc")?, List::new(alloc));
-    assert!(rt; matches!(read_all(alloc, 5, &mut source), ReadAll::TooLong));
-    match read_all(alloc, 5, &mut source) {
-        ReadAll::Whole(rest) => assert_eq!(rt; rest.as_slice(), b"oc".as_slice()),
-        _ => assert!(rt; false),
+fn one_byte_more_is_taken(rt: HostRuntime) {
+    assert!(rt; all_read(rt.alloc(), READ_ON));
+}
+
+/// A whole write to a sink whose writes are cut and fail as told, and what the sink holds then.
+struct Write {
+    bytes: &'static [u8],
+    cuts: &'static [usize],
+    failed: &'static [u64],
+    came: WriteAll,
+    held: &'static [u8],
+}
+
+const WRITES: &[Write] = &[
+    Write {
+        bytes: b"reply",
+        cuts: &[],
+        failed: &[],
+        came: WriteAll::Whole,
+        held: b"reply",
+    },
+    Write {
+        bytes: b"reply",
+        cuts: &[1, 2, 1],
+        failed: &[],
+        came: WriteAll::Whole,
+        held: b"reply",
+    },
+    Write {
+        bytes: b"reply",
+        cuts: &[],
+        failed: &[0],
+        came: WriteAll::Failed,
+        held: b"",
+    },
+    Write {
+        bytes: b"reply",
+        cuts: &[2, 1],
+        failed: &[2],
+        came: WriteAll::Failed,
+        held: b"rep",
+    },
+];
+
+fn is_written(alloc: Global, row: &Write) -> bool {
+    match sink(alloc, row.cuts, row.failed) {
+        Ok(mut sink) => write_all(&mut sink, row.bytes) == row.came && sink.held() == row.held,
+        Err(_) => false,
     }
-    Ok(())
+}
+
+fn all_written(alloc: Global, rows: &[Write]) -> bool {
+    for row in rows {
+        if !is_written(alloc, row) {
+            return false;
+        }
+    }
+    true
 }
 
 #[test]
-fn all_bytes_are_written(rt: HostRuntime) -> Result<(), Fail> {
-    for (cuts, failed, wanted, written) in [
-        (
-            [].as_slice(),
-            [].as_slice(),
-            WriteAll::Whole,
-            b"reply".as_slice(),
-        ),
-        (
-            [1, 2, 1].as_slice(),
-            [].as_slice(),
-            WriteAll::Whole,
-            b"reply".as_slice(),
-        ),
-        (
-            [].as_slice(),
-            [0].as_slice(),
-            WriteAll::Failed,
-            b"".as_slice(),
-        ),
-        (
-            [2, 1].as_slice(),
-            [2].as_slice(),
-            WriteAll::Failed,
-            b"rep".as_slice(),
-        ),
-    ] {
-        let alloc = rt.alloc();
-        let mut sink = MemSink::new(alloc, list(alloc, cuts)?, list(alloc, failed)?);
-        assert_eq!(rt; write_all(&mut sink, b"reply"), wanted);
-        assert_eq!(rt; sink.held(), written);
-    }
-    Ok(())
+fn all_bytes_are_written(rt: HostRuntime) {
+    assert!(rt; all_written(rt.alloc(), WRITES));
 }
 
-#[test]
-fn no_byte_is_no_write(rt: HostRuntime) -> Result<(), Fail> {
-    let alloc = rt.alloc();
-    let mut failing = MemSink::new(alloc, List::new(alloc), list(alloc, &[0])?);
-    assert_eq!(rt; write_all(&mut failing, b""), WriteAll::Whole);
+const NO_BYTE: &[Write] = &[Write {
+    bytes: b"",
+    cuts: &[],
+    failed: &[0],
+    came: WriteAll::Whole,
+    held: b"",
+}];
+
+fn counts_its_bytes() -> bool {
     let mut counting = CountingSink::new();
-    assert_eq!(rt; write_all(&mut counting, b"seven.."), WriteAll::Whole);
-    assert_eq!(rt; counting.bytes(), 7);
-    Ok(())
+    write_all(&mut counting, b"seven..") == WriteAll::Whole && counting.bytes() == 7
 }
 
 #[test]
-fn octets_that_are_not_plain_are_escaped(rt: HostRuntime) -> Result<(), Fail> {
-    for (octets, text) in [
-        (b"".as_slice(), ""),
-        (b"ping".as_slice(), "ping"),
-        (b"!~/:+".as_slice(), "!~/:+"),
-        (b"a b%".as_slice(), "a%20b%25"),
-        (b"\0\n\x1f\x7f".as_slice(), "%00%0A%1F%7F"),
-        (b"\x80\xaf\xff".as_slice(), "%80%AF%FF"),
-    ] {
-        let shown = shown(octets).to_string(rt.alloc())?;
-        assert_eq!(rt; shown.as_str(), text);
+fn no_byte_is_no_write(rt: HostRuntime) {
+    assert!(rt; all_written(rt.alloc(), NO_BYTE));
+    assert!(rt; counts_its_bytes());
+}
+
+/// Octets, and the text that they are shown as.
+const SHOWN: &[(&[u8], &str)] = &[
+    (b"", ""),
+    (b"ping", "ping"),
+    (b"!~/:+", "!~/:+"),
+    (b"a b%", "a%20b%25"),
+    (b"\0\n\x1f\x7f", "%00%0A%1F%7F"),
+    (b"\x80\xaf\xff", "%80%AF%FF"),
+];
+
+fn is_shown(alloc: Global, octets: &[u8], text: &str) -> bool {
+    match shown(octets).to_string(alloc) {
+        Ok(shown) => shown.as_str() == text,
+        Err(_) => false,
     }
-    Ok(())
+}
+
+fn all_shown(alloc: Global, rows: &[(&[u8], &str)]) -> bool {
+    for (octets, text) in rows {
+        if !is_shown(alloc, octets, text) {
+            return false;
+        }
+    }
+    true
+}
+
+#[test]
+fn octets_that_are_not_plain_are_escaped(rt: HostRuntime) {
+    assert!(rt; all_shown(rt.alloc(), SHOWN));
 }

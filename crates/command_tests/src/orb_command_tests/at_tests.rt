@@ -1,7 +1,6 @@
 //! `orb refs --at` over memory: each status with its note, and what is written then.
 
-use super::rows::{EMPTY, Row, check, check_all};
-use std::test::Fail;
+use super::rows::{EMPTY, Row, first_wrong};
 
 /// The line of the built-in object at 127.0.0.1:2809.
 const PING: &[u8] =
@@ -99,22 +98,17 @@ const ROWS: &[Row<'static>] = &[
     },
 ];
 
+const LONGER: &[Row<'static>] = &[Row {
+    story: "a configuration of one byte more than there may be",
+    files: &[("c", b"")],
+    blanks: 1_048_577,
+    status: 2,
+    note: "TooLong(Config)",
+    ..CONFIGURED
+}];
+
 #[test]
-fn references_at_an_address_have_their_status(rt: HostRuntime) -> Result<(), Fail> {
-    let alloc = rt.alloc();
-    check_all(&rt, alloc, ROWS)?;
-    let mut blanks = Vec::new(alloc);
-    for _ in 0..1_048_577 {
-        blanks.push(b' ')?;
-    }
-    let files = [("c", blanks.as_slice())];
-    let longer = Row {
-        story: "a configuration of one byte more than there may be",
-        files: &files,
-        status: 2,
-        note: "TooLong(Config)",
-        ..CONFIGURED
-    };
-    check(&rt, alloc, &longer)?;
-    Ok(())
+fn references_at_an_address_have_their_status(rt: HostRuntime) {
+    assert_eq!(rt; first_wrong(&rt, rt.alloc(), ROWS), "");
+    assert_eq!(rt; first_wrong(&rt, rt.alloc(), LONGER), "");
 }

@@ -1,8 +1,7 @@
 //! `orb pipe --config` over memory: what is answered by the setup of a configuration, and each status with its note.
 
 use super::at_tests::{FILED, UNSERVED};
-use super::rows::{EMPTY, Row, check_all};
-use std::test::Fail;
+use super::rows::{EMPTY, Row, first_wrong};
 
 /// `ping` under CLIENT_PROPAGATED at 7; under SERVER_DECLARED at 30 `decl` at its own priority of 32767, and `down` at 30.
 const TWO: &[u8] =
@@ -222,10 +221,9 @@ const REFUSED: &[Row<'static>] = &[
 ];
 
 #[test]
-fn the_setup_is_that_of_the_configuration(rt: HostRuntime) -> Result<(), Fail> {
-    let alloc = rt.alloc();
-    check_all(&rt, alloc, OBJECTS)?;
-    check_all(&rt, alloc, POOLS)?;
-    check_all(&rt, alloc, OVERTAKEN)?;
-    check_all(&rt, alloc, REFUSED)
+fn the_setup_is_that_of_the_configuration(rt: HostRuntime) {
+    assert_eq!(rt; first_wrong(&rt, rt.alloc(), OBJECTS), "");
+    assert_eq!(rt; first_wrong(&rt, rt.alloc(), POOLS), "");
+    assert_eq!(rt; first_wrong(&rt, rt.alloc(), OVERTAKEN), "");
+    assert_eq!(rt; first_wrong(&rt, rt.alloc(), REFUSED), "");
 }

@@ -1,8 +1,7 @@
 //! Whatever a client sends, `orb pipe` answers by the rules: each refusal in its order, told where a reply is due; bands, flags, targets,
 //! other messages, and what breaks a rule. The rows were written by an encoder of their own, from the rules.
 
-use super::rows::{EMPTY, Row, check_all};
-use std::test::Fail;
+use super::rows::{EMPTY, Row, first_wrong};
 
 /// Lanes 10 and 20; the priorities 0 to 99 have native ones; `ping` under CLIENT_PROPAGATED at 10, and `decl` under SERVER_DECLARED at 20.
 const CONFIG: &[u8] =
@@ -266,10 +265,9 @@ const MESSAGES: &[Row<'static>] = &[
 ];
 
 #[test]
-fn any_input_is_answered_by_the_rules(rt: HostRuntime) -> Result<(), Fail> {
-    let alloc = rt.alloc();
-    check_all(&rt, alloc, REFUSALS)?;
-    check_all(&rt, alloc, PRECEDENCE)?;
-    check_all(&rt, alloc, CALLS)?;
-    check_all(&rt, alloc, MESSAGES)
+fn any_input_is_answered_by_the_rules(rt: HostRuntime) {
+    assert_eq!(rt; first_wrong(&rt, rt.alloc(), REFUSALS), "");
+    assert_eq!(rt; first_wrong(&rt, rt.alloc(), PRECEDENCE), "");
+    assert_eq!(rt; first_wrong(&rt, rt.alloc(), CALLS), "");
+    assert_eq!(rt; first_wrong(&rt, rt.alloc(), MESSAGES), "");
 }

@@ -1,26 +1,44 @@
 //! Rows of the tests: runs of the program over memory, each with what it is to answer and to write.
 
-use orb_base::{List, MemAcceptor, MemFile, MemFiles, MemLink, MemSink, MemSource, Text};
+use crate::text_streams_tests::devices::{list, puts_words, same, sink, source, spelled, store};
+use orb_base::{List, MemAcceptor, MemFiles, MemLink, MemSink, MemSource, NoMemory};
 use orb_command::*;
 use orb_nets::{MemNet, MemSlot};
 use std::alloc::Global;
 use std::collections::LinkedList;
-use std::process::Abort;
 use std::sync::Wait;
-use std::test::Fail;
 use std::thread::Threads;
 
 /// What is answered over a net in memory.
-pub type Told = Answered<MemAcceptor, MemSource, MemSink>;
+type Told = Answered<MemAcceptor, MemSource, MemSink>;
+
+/// What a run leaves besides its status, its note and its output.
+#[derive(Clone, Copy)]
+pub enum Left {
+    /// It doesn't matter.
+    Any,
+    /// No run of the pipe.
+    NoPipe,
+    /// A run of the pipe, with so many entries in its history.
+    Entries(usize),
+    /// No run of the server.
+    NoServer,
+    /// A run of the server.
+    Server,
+    /// A run of the server, whose one acceptor had a client that was sent this.
+    Sent(&'static [u8]),
+}
 
 /// One run: its words, what its devices hold and where they fail, and what comes of it. Reads and writes of a device are numbered from 0.
 #[derive(Clone, Copy)]
 pub struct Row<'a> {
     /// What the run shows.
-    pub story: &'a str,
+    pub story: &'static str,
     pub words: &'a [&'a str],
     /// The names of the files with their bytes.
     pub files: &'a [(&'a str, &'a [u8])],
+    /// How many blanks stand behind the bytes of each file.
+    pub blanks: usize,
     /// The reads of files that fail.
     pub failed_files: &'a [u64],
     /// What the one client of the net sends.
@@ -28,6 +46,8 @@ pub struct Row<'a> {
     /// The calls of the net that fail.
     pub failed_calls: &'a [u64],
     pub input: &'a [u8],
+    /// How many times `a` stands behind the input.
+    pub times: usize,
     /// How many bytes the reads of the input give at most.
     pub reads: &'a [usize],
     pub failed_reads: &'a [u64],
@@ -38,6 +58,7 @@ pub struct Row<'a> {
     /// The note, as `noted` writes it.
     pub note: &'a str,
     pub output: &'a [u8],
+    pub left: Left,
 }
 
 /// The pipe of an empty input, whose devices don't fail.
@@ -45,10 +66,12 @@ pub const EMPTY: Row<'static> = Row {
     story: "an empty input",
     words: &["pipe"],
     files: &[],
+    blanks: 0,
     failed_files: &[],
     sent: &[],
     failed_calls: &[],
     input: &[],
+    times: 0,
     reads: &[],
     failed_reads: &[],
     writes: &[],
@@ -56,111 +79,152 @@ pub const EMPTY: Row<'static> = Row {
     status: 0,
     note: "Nothing",
     output: &[],
+    left: Left::Any,
 };
 
-fn list<T: Copy>(alloc: Global, items: &[T]) -> Result<List<T>, Fail> {
-    Ok(List::from_vec(Vec::from_slice(alloc, items)?))
+/// A client that sends these bytes.
+fn client(alloc: Global, sent: &[u8]) -> Result<MemLink, NoMemory> {
+    let sent = MemSource::new(list(alloc, sent)?, List::new(alloc), List::new(alloc));
+    let got = MemSink::new(alloc, List::new(alloc), List::new(alloc));
+    Ok(MemLink::new(sent, got))
 }
 
-/// The store of a row's files.
-fn store(alloc: Global, row: &Row<'_>) -> Result<MemFiles, Fail> {
-    let mut files = Vec::new(alloc);
-    for (name, bytes) in row.files {
-        let name = Text::new(alloc, name.as_bytes()).ok().ok_or("a name")?;
-        let bytes = list(alloc, bytes)?;
-        files.push(MemFile { name, bytes })?;
-    }
-    Ok(MemFiles::new(List::from_vec(files), list(alloc, row.failed_files)?))
+/// A slot at which one client comes.
+fn slot(alloc: Global, sent: &[u8]) -> Result<MemSlot, NoMemory> {
+    let mut links = LinkedList::new(alloc);
+    links.push_back(client(alloc, sent)?)?;
+    Ok(MemSlot {
+        links,
+        failing: List::new(alloc),
+    })
 }
 
 /// A net of one slot, at which a row's one client comes.
-fn net(alloc: Global, row: &Row<'_>) -> Result<MemNet, Fail> {
-    let mut links = LinkedList::new(alloc);
-    links
-        .push_back(MemLink::new(
-            MemSource::new(list(alloc, row.sent)?, List::new(alloc), List::new(alloc)),
-            MemSink::new(alloc, List::new(alloc), List::new(alloc)),
-        ))
-        .ok()
-        .ok_or("memory")?;
+fn net(alloc: Global, row: &Row<'_>) -> Result<MemNet, NoMemory> {
     let mut slots = LinkedList::new(alloc);
-    slots
-        .push_back(MemSlot {
-            links,
-            failing: List::new(alloc),
-        })
-        .ok()
-        .ok_or("memory")?;
-    Ok(MemNet::new(
-        alloc,
-        slots,
-        LinkedList::new(alloc),
-        list(alloc, row.failed_calls)?,
-    ))
+    slots.push_back(slot(alloc, row.sent)?)?;
+    let failing = list(alloc, row.failed_calls)?;
+    Ok(MemNet::new(alloc, slots, LinkedList::new(alloc), failing))
+}
+
+fn input(alloc: Global, row: &Row<'_>) -> Result<MemSource, NoMemory> {
+    let bytes = spelled(alloc, row.input, b'a', row.times, b"")?;
+    source(alloc, bytes, row.reads, row.failed_reads)
+}
+
+/// What a run is given.
+#[derive(Drop)]
+struct Devices {
+    net: MemNet,
+    files: MemFiles,
+    input: MemSource,
+    out: MemSink,
+}
+
+fn devices_of(alloc: Global, row: &Row<'_>) -> Result<Devices, NoMemory> {
+    Ok(Devices {
+        net: net(alloc, row)?,
+        files: store(alloc, row.files, row.blanks, row.failed_files)?,
+        input: input(alloc, row)?,
+        out: sink(alloc, row.writes, row.failed_writes)?,
+    })
 }
 
 /// The note as it is written in a program, and of a configuration's fault its cause and its path.
-fn noted(alloc: Global, note: &Note) -> Result<String, Fail> {
+fn noted(alloc: Global, note: &Note) -> Option<String> {
     match note {
         Note::Config(fault) => {
             let cause = fault.cause;
-            let path = str::from_utf8(fault.path.as_slice()).ok().ok_or("a path")?;
-            Ok(format!(in alloc; "Config({cause:?} at {path})")?)
+            let path = str::from_utf8(fault.path.as_slice()).ok()?;
+            format!(in alloc; "Config({cause:?} at {path})").ok()
         }
-        _ => Ok(format!(in alloc; "{note:?}")?),
+        _ => format!(in alloc; "{note:?}").ok(),
     }
 }
 
-/// What a row's run answers, and what it writes.
-fn ran<R: Wait + Threads + Sync>(
+fn is_noted(alloc: Global, note: &Note, want: &str) -> bool {
+    match noted(alloc, note) {
+        Some(text) => text.as_str() == want,
+        None => false,
+    }
+}
+
+/// Whether one acceptor had a client, and this was sent to it.
+fn is_sent(told: &Told, want: &[u8]) -> bool {
+    match &told.run {
+        Some(run) => match run.conns.get(0) {
+            Some(log) => told.acceptors.len() == 1 && same(log.sink.held(), want),
+            None => false,
+        },
+        None => false,
+    }
+}
+
+fn is_left(told: &Told, want: Left) -> bool {
+    match want {
+        Left::Any => true,
+        Left::NoPipe => told.piped.is_none(),
+        Left::Entries(entries) => match &told.piped {
+            Some(piped) => piped.history.len() == entries,
+            None => false,
+        },
+        Left::NoServer => told.run.is_none(),
+        Left::Server => told.run.is_some(),
+        Left::Sent(bytes) => is_sent(told, bytes),
+    }
+}
+
+/// Whether this is what a row is to answer and to write.
+fn is_told(alloc: Global, row: &Row<'_>, told: &Told, output: &[u8]) -> bool {
+    told.status == row.status
+        && is_noted(alloc, &told.note, row.note)
+        && same(output, row.output)
+        && is_left(told, row.left)
+}
+
+/// Whether a run of these words over these devices answers and writes what a row says.
+fn answers<R: Wait + Threads + Sync>(
     rt: &R,
     alloc: Global,
     row: &Row<'_>,
-) -> Result<(Told, Vec<u8>), Fail> {
-    let mut words = Vec::new(alloc);
-    for word in row.words {
-        words.push(String::from_str(alloc, word)?)?;
-    }
-    let words = words.as_slice();
-    let mut net = net(alloc, row)?;
-    let mut files = store(alloc, row)?;
-    let mut input = MemSource::new(
-        list(alloc, row.input)?,
-        list(alloc, row.reads)?,
-        list(alloc, row.failed_reads)?,
-    );
-    let mut out = MemSink::new(
+    words: &[String],
+    on: &mut Devices,
+) -> bool {
+    let told = orb_main(
+        rt,
         alloc,
-        list(alloc, row.writes)?,
-        list(alloc, row.failed_writes)?,
+        words,
+        &mut on.net,
+        &mut on.files,
+        &mut on.input,
+        &mut on.out,
     );
-    let answered = orb_main(rt, alloc, words, &mut net, &mut files, &mut input, &mut out);
-    Ok((answered, Vec::from_slice(alloc, out.held())?))
+    is_told(alloc, row, &told, on.out.held())
 }
 
-/// Runs a row, asserts its status, its note and its output, and gives what was answered.
-pub fn check<R: Wait + Threads + Abort + Sync>(
-    rt: &R,
-    alloc: Global,
-    row: &Row<'_>,
-) -> Result<Told, Fail> {
-    let (answered, output) = ran(rt, alloc, row)?;
-    let note = noted(alloc, &answered.note)?;
-    let story = row.story;
-    assert_eq!(rt; answered.status, row.status, "at {story}");
-    assert_eq!(rt; note.as_str(), row.note, "at {story}");
-    assert_eq!(rt; output.as_slice(), row.output, "at {story}");
-    Ok(answered)
+fn runs<R: Wait + Threads + Sync>(rt: &R, alloc: Global, row: &Row<'_>, words: &[String]) -> bool {
+    match devices_of(alloc, row) {
+        Ok(mut on) => answers(rt, alloc, row, words, &mut on),
+        Err(_) => false,
+    }
 }
 
-/// Runs these rows in order, and asserts of each what `check` does.
-pub fn check_all<R: Wait + Threads + Abort + Sync>(
+/// Whether a row's run answers and writes what it is to.
+pub fn holds<R: Wait + Threads + Sync>(rt: &R, alloc: Global, row: &Row<'_>) -> bool {
+    let mut words = Vec::new(alloc);
+    puts_words(alloc, &mut words, row.words) && runs(rt, alloc, row, words.as_slice())
+}
+
+/// The story of the first of these rows, in order, that doesn't hold, or nothing.
+pub fn first_wrong<R: Wait + Threads + Sync>(
     rt: &R,
     alloc: Global,
     rows: &[Row<'_>],
-) -> Result<(), Fail> {
+) -> &'static str {
     for row in rows {
-        check(rt, alloc, row)?;
+        if !holds(rt, alloc, row) {
+            return row.story;
+        }
     }
-    Ok(())
+    ""
 }

@@ -2,8 +2,10 @@
 //! script answer, and each fault of the two texts with its place. Lines and columns were counted by hand.
 
 use super::at_tests::FILED;
-use super::rows::{EMPTY, Row, check, check_all};
-use std::test::Fail;
+use super::rows::{EMPTY, Left, Row, first_wrong, holds};
+use std::alloc::Global;
+use std::sync::Wait;
+use std::thread::Threads;
 
 const IDL: &[u8] =
     b"module M {\n  exception Low { short least; };\n  interface V { short limited(in short wish, out boolean cut) raises (Low); };\n};\n";
@@ -61,6 +63,12 @@ const ANSWERS: &[Row<'static>] = &[
     },
 ];
 
+/// The same where nothing is piped.
+const UNPIPED: Row<'static> = Row {
+    left: Left::NoPipe,
+    ..SERVED
+};
+
 /// Each fault of the files, of the interfaces, of the scripts and of their check.
 const FAULTS: &[Row<'static>] = &[
     Row {
@@ -68,35 +76,35 @@ const FAULTS: &[Row<'static>] = &[
         files: &[("c", FILED), ("m.srv", SCRIPT)],
         status: 10,
         note: "Absent(Idl)",
-        ..SERVED
+        ..UNPIPED
     },
     Row {
         story: "scripts that aren't there",
         files: &[("c", FILED), ("m.idl", IDL)],
         status: 10,
         note: "Absent(Scripts)",
-        ..SERVED
+        ..UNPIPED
     },
     Row {
         story: "a type that isn't declared",
         files: &[("c", FILED), ("m.idl", BAD_IDL)],
         status: 2,
         note: "Idl(IdlFault { cause: Unknown, line: 2, column: 17 })",
-        ..SERVED
+        ..UNPIPED
     },
     Row {
         story: "an operand that is missing",
         files: &[("c", FILED), ("m.idl", IDL), ("m.srv", BAD_SCRIPT)],
         status: 2,
         note: "Script(ScriptFault { line: 2, column: 41 })",
-        ..SERVED
+        ..UNPIPED
     },
     Row {
         story: "a parameter of another name",
         files: &[("c", FILED), ("m.idl", IDL), ("m.srv", UNCHECKED)],
         status: 2,
         note: "Check(CheckFault { cause: ParameterNames, line: 2, column: 14 })",
-        ..SERVED
+        ..UNPIPED
     },
 ];
 
@@ -132,21 +140,29 @@ const UNSERVED: &[Row<'static>] = &[
     },
 ];
 
-/// Of both commands each fault of a text is told, and nothing runs or is written then.
-#[test]
-fn servants_of_scripts_answer_and_texts_have_their_faults(rt: HostRuntime) -> Result<(), Fail> {
-    let alloc = rt.alloc();
-    check_all(&rt, alloc, ANSWERS)?;
-    check_all(&rt, alloc, UNSERVED)?;
-    for row in FAULTS {
+/// The story of the first of these rows that doesn't hold by the words of `refs`, or nothing.
+fn first_wrong_of_refs<R: Wait + Threads + Sync>(
+    rt: &R,
+    alloc: Global,
+    rows: &[Row<'static>],
+) -> &'static str {
+    for row in rows {
         let of_refs = Row {
             words: REFS,
             ..*row
         };
-        let piped = check(&rt, alloc, row)?;
-        assert!(rt; piped.piped.is_none(), "at {}", row.story);
-        let listed = check(&rt, alloc, &of_refs)?;
-        assert!(rt; listed.piped.is_none(), "at {}", row.story);
+        if !holds(rt, alloc, &of_refs) {
+            return row.story;
+        }
     }
-    Ok(())
+    ""
+}
+
+/// Of both commands each fault of a text is told, and nothing runs or is written then.
+#[test]
+fn servants_of_scripts_answer_and_texts_have_their_faults(rt: HostRuntime) {
+    assert_eq!(rt; first_wrong(&rt, rt.alloc(), ANSWERS), "");
+    assert_eq!(rt; first_wrong(&rt, rt.alloc(), UNSERVED), "");
+    assert_eq!(rt; first_wrong(&rt, rt.alloc(), FAULTS), "");
+    assert_eq!(rt; first_wrong_of_refs(&rt, rt.alloc(), FAULTS), "");
 }

@@ -1,7 +1,6 @@
 //! `orb dump`, `orb refs` and `orb idl --file` over memory: each status with its note, and what is written then.
 
-use super::rows::{EMPTY, Row, check, check_all};
-use std::test::Fail;
+use super::rows::{EMPTY, Row, first_wrong};
 
 /// The request of id 1 for `current` of `ping`.
 const PING: &[u8] =
@@ -212,24 +211,19 @@ const LISTED: &[Row<'static>] = &[
     },
 ];
 
+/// The URL has 16 bytes before its key.
+const LONGER: &[Row<'static>] = &[Row {
+    story: "a reference that is longer than one may be",
+    input: b"corbaloc::1.2@h/",
+    times: 65_521,
+    status: 8,
+    note: "Input(65536, Cut)",
+    ..REFS
+}];
+
 #[test]
-fn each_tool_writes_its_lines_and_has_its_status(rt: HostRuntime) -> Result<(), Fail> {
-    let alloc = rt.alloc();
-    check_all(&rt, alloc, TOLD)?;
-    check_all(&rt, alloc, LISTED)?;
-    // The URL has 16 bytes before its key.
-    let mut url = Vec::from_slice(alloc, b"corbaloc::1.2@h/")?;
-    for _ in 0..65_521 {
-        url.push(b'a')?;
-    }
-    let input = url.as_slice();
-    let longer = Row {
-        story: "a reference that is longer than one may be",
-        input,
-        status: 8,
-        note: "Input(65536, Cut)",
-        ..REFS
-    };
-    check(&rt, alloc, &longer)?;
-    Ok(())
+fn each_tool_writes_its_lines_and_has_its_status(rt: HostRuntime) {
+    assert_eq!(rt; first_wrong(&rt, rt.alloc(), TOLD), "");
+    assert_eq!(rt; first_wrong(&rt, rt.alloc(), LISTED), "");
+    assert_eq!(rt; first_wrong(&rt, rt.alloc(), LONGER), "");
 }
