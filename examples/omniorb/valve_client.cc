@@ -1,4 +1,5 @@
-// A client of `Plant::Valve` for omniORB. Usage: valve_client REFERENCE. It makes a call of each operation, and prints what came of each.
+// A client of `Plant::Valve` for omniORB. Usage: valve_client REFERENCE. It makes a call of each operation, and prints
+// what came of each.
 #include <iostream>
 #include "valve.hh"
 
