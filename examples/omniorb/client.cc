@@ -1,29 +1,43 @@
-// A client of `Orb::Ping` for omniORB. Usage: client REFERENCE CALL.., where REFERENCE is a text (IOR:.. or corbaloc:..), and a call is
-// one of: narrow, current, echo=TEXT, sized=N (an echo of N letters), note, is_a=ID, gone (_non_existent), other=NAME (an operation of that
-// name, by DII); at=N is no call: the requests behind it carry the priority N in a service context of id 10, RTCorbaPriority.
-// Each call has a line with what came of it. The status is 0 where each call got a result, 1 where one got an exception, 2 before any call.
+// A client of `Orb::Ping` for omniORB. Usage: client REFERENCE CALL.., where REFERENCE is a text (IOR:.. or
+// corbaloc:..), and a call is one of: narrow, current, echo=TEXT, sized=N (an echo of N letters), note, is_a=ID, gone
+// (_non_existent), other=NAME (an operation of that name, by DII). Two are no calls: after at=N requests carry the
+// priority N in a service context of id 10, RTCorbaPriority, and after band=LOW:HIGH these priorities in one of id 11,
+// RTCorbaPriorityRange. Each call has a line with what came of it. The status is 0 where each call got a result, 1 where
+// one got an exception, 2 before any call.
 #include <iostream>
 #include <string>
+#include <vector>
 #include <omniORB4/omniInterceptors.h>
 #include "ping.hh"
 
 namespace {
 
-// The priority that requests carry; none where it is negative.
+// The priority, and the ends of the band, that requests carry; none where they are negative.
 CORBA::Short priority = -1;
+CORBA::Short low = -1;
+CORBA::Short high = -1;
 
-// Adds the context of the priority to a request: an encapsulation of a short, in big order.
-CORBA::Boolean add_priority(omni::omniInterceptors::clientSendRequest_T::info_T& info) {
+// Adds a context of this id to a request: an encapsulation of shorts, in big order.
+void add_context(IOP::ServiceContextList& contexts, CORBA::ULong id, const std::vector<CORBA::Short>& shorts) {
+    const CORBA::ULong count = contexts.length();
+    contexts.length(count + 1);
+    contexts[count].context_id = id;
+    contexts[count].context_data.length(2 + 2 * shorts.size());
+    contexts[count].context_data[0] = 0;
+    contexts[count].context_data[1] = 0;
+    for (CORBA::ULong i = 0; i < shorts.size(); ++i) {
+        contexts[count].context_data[2 + 2 * i] = static_cast<CORBA::Octet>(shorts[i] >> 8);
+        contexts[count].context_data[3 + 2 * i] = static_cast<CORBA::Octet>(shorts[i] & 255);
+    }
+}
+
+// Adds the contexts of the priority and of the band to a request.
+CORBA::Boolean add_contexts(omni::omniInterceptors::clientSendRequest_T::info_T& info) {
     if (priority >= 0) {
-        IOP::ServiceContextList& contexts = info.service_contexts;
-        const CORBA::ULong count = contexts.length();
-        contexts.length(count + 1);
-        contexts[count].context_id = 10;
-        contexts[count].context_data.length(4);
-        contexts[count].context_data[0] = 0;
-        contexts[count].context_data[1] = 0;
-        contexts[count].context_data[2] = static_cast<CORBA::Octet>(priority >> 8);
-        contexts[count].context_data[3] = static_cast<CORBA::Octet>(priority & 255);
+        add_context(info.service_contexts, 10, {priority});
+    }
+    if (low >= 0) {
+        add_context(info.service_contexts, 11, {low, high});
     }
     return true;
 }
@@ -38,6 +52,10 @@ bool call(CORBA::Object_ptr object, Orb::Ping_ptr ping, const std::string& name,
         } else if (name == "at") {
             priority = static_cast<CORBA::Short>(std::stoi(word));
             std::cout << "the priority of what follows";
+        } else if (name == "band") {
+            low = static_cast<CORBA::Short>(std::stoi(word));
+            high = static_cast<CORBA::Short>(std::stoi(word.substr(word.find(':') + 1)));
+            std::cout << "the band of what follows";
         } else if (name == "current") {
             std::cout << ping->current();
         } else if (name == "echo") {
@@ -88,7 +106,7 @@ int main(int argc, char** argv) {
             std::cerr << "usage: client REFERENCE CALL.." << std::endl;
             return 2;
         }
-        omniORB::getInterceptors()->clientSendRequest.add(add_priority);
+        omniORB::getInterceptors()->clientSendRequest.add(add_contexts);
         CORBA::Object_var object = orb->string_to_object(argv[1]);
         // Unchecked, so that the narrowing sends nothing: what is sent is by -ORBverifyObjectExistsAndType and by the calls.
         Orb::Ping_var ping = Orb::Ping::_unchecked_narrow(object);

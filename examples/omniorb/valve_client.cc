@@ -1,4 +1,5 @@
-// A client of `Plant::Valve` for omniORB. Usage: valve_client REFERENCE. It makes a call of each operation, and prints what came of each.
+// A client of `Plant::Valve` for omniORB. Usage: valve_client REFERENCE. It makes a call of each operation, and prints
+// what came of each.
 #include <iostream>
 #include "valve.hh"
 
@@ -12,6 +13,9 @@ void show(const char* what, const Plant::Reading& reading) {
 void calls(Plant::Valve_ptr valve) {
     CORBA::String_var maker = valve->maker();
     std::cout << "maker: " << maker.in() << std::endl;
+    std::cout << "limit: " << valve->limit() << std::endl;
+    valve->limit(50);
+    std::cout << "limit after a set of 50: " << valve->limit() << std::endl;
     show("turn 0", valve->turn(0));
     show("turn 55", valve->turn(55));
     try {
