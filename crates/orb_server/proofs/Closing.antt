@@ -27,14 +27,14 @@ use Rattle.orb_server.specs.Connections.{Conn, AreWritten, writers_left}
 use Rattle.orb_server.specs.Fates.{RunsOnce, RunsInLanes, RunsAdmitted}
 use Rattle.orb_server.specs.Giving.{passes_of, given_back, conns_of, ends_of}
 use Rattle.orb_server.specs.Runs.{opening_of, IsLawful, Slot, SlotsRan, AllSlotsRan, WorkersRan}
-use Rattle.orb_server.specs.SlotEnds.{HasCause}
+use Rattle.link_slots.specs.SlotEnds.{HasCause}
 use Rattle.orb_server.specs.Threads.{IsPoolOf, AreDone, HaveWorked, WorkedOff}
 use Rattle.orb_server.proofs.Admitting.{runs_admitted}
 use Rattle.orb_server.proofs.Lanes.{runs_in_lanes}
-use Rattle.orb_server.specs.declared.job.SlotDone.{SlotDone}
+use Rattle.orb_server.specs.Jobs.{PoolDone}
 use Rattle.orb_server.specs.declared.run.ConnLog.{ConnLog}
-use Rattle.orb_server.specs.declared.run.SlotEnd.{SlotEnd}
-use Rattle.orb_server.specs.declared.run.SlotEnd.TheVariants.{Done, Served, Closed, AcceptFault}
+use Rattle.link_slots.specs.declared.slot_end.SlotEnd.{SlotEnd}
+use Rattle.link_slots.specs.declared.slot_end.SlotEnd.TheVariants.{Done, Served, Closed, AcceptFault}
 
 abbrev Own : History → Leaving → Type 0
 Own h d = d.calls ≡ of d.number h
@@ -54,17 +54,17 @@ count_few Closed most count closed old new c = c.0
 count_few AcceptFault most count closed old new c = let a = c.0 in omega arith
 
 module _ {A I O : Type 0} (state : A → AcceptorState I O) (source : I → SourceState) (sink : O → SinkState) (setup : SetupData) (cell : CellView State) where
-  home_of : (slot : ℕ) (before : List A) (ds : List (SlotDone A I O)) → AreDone state source sink setup cell slot before ds → AllHome cell slot (passes_of ds)
+  home_of : (slot : ℕ) (before : List A) (ds : List (PoolDone A I O)) → AreDone state source sink setup cell slot before ds → AllHome cell slot (passes_of ds)
   home_of slot [] [] a = tt
   home_of slot [] (d ∷ ds) a = absurd a
   home_of slot (x ∷ xs) [] a = absurd a
   home_of slot (x ∷ xs) (d ∷ ds) a = (a.0.knows.home, home_of (slot + 1) xs ds a.1)
 
-  pub all_home : (before : List A) (ds : List (SlotDone A I O)) → AreDone state source sink setup cell 0 before ds → AllHome cell 0 (passes_of ds)
+  pub all_home : (before : List A) (ds : List (PoolDone A I O)) → AreDone state source sink setup cell 0 before ds → AllHome cell 0 (passes_of ds)
   all_home before ds a = home_of 0 before ds a
 
   -- no slot has more connections than it may
-  few_from : (slot : ℕ) (before : List A) (ds : List (SlotDone A I O)) → AreDone state source sink setup cell slot before ds → length (conns_of ds) ≤ length ds * setup.per_slot
+  few_from : (slot : ℕ) (before : List A) (ds : List (PoolDone A I O)) → AreDone state source sink setup cell slot before ds → length (conns_of ds) ≤ length ds * setup.per_slot
   few_from slot [] [] a = omega arith
   few_from slot [] (d ∷ ds) a = absurd a
   few_from slot (x ∷ xs) [] a = absurd a
@@ -73,51 +73,51 @@ module _ {A I O : Type 0} (state : A → AcceptorState I O) (source : I → Sour
       let m = few_from (slot + 1) xs ds a.1 in
       let k = count_few d.end setup.per_slot (length d.logs.items) _ (state x) (state d.acceptor) a.0.cause in omega arith
 
-  pub few_conns : (before : List A) (ds : List (SlotDone A I O)) (n : ℕ) → AreDone state source sink setup cell 0 before ds → length ds ≡ n → length (conns_of ds) ≤ n * setup.per_slot
+  pub few_conns : (before : List A) (ds : List (PoolDone A I O)) (n : ℕ) → AreDone state source sink setup cell 0 before ds → length ds ≡ n → length (conns_of ds) ≤ n * setup.per_slot
   few_conns before ds n a e = subst (λ (k : ℕ). length (conns_of ds) ≤ k * setup.per_slot) e (few_from 0 before ds a)
 
   -- the slots, each with its acceptor before and behind the run
-  abbrev slots_of : List A → List (SlotDone A I O) → List (Slot A I O)
+  abbrev slots_of : List A → List (PoolDone A I O) → List (Slot A I O)
   slots_of [] ds = []
   slots_of (x ∷ xs) [] = []
   slots_of (x ∷ xs) (d ∷ ds) = record { before = x; behind = d.acceptor; conns = d.logs.items; end = d.end } ∷ slots_of xs ds
 
-  same_count : (slot : ℕ) (xs : List A) (ds : List (SlotDone A I O)) → AreDone state source sink setup cell slot xs ds → length (slots_of xs ds) ≡ length ds
+  same_count : (slot : ℕ) (xs : List A) (ds : List (PoolDone A I O)) → AreDone state source sink setup cell slot xs ds → length (slots_of xs ds) ≡ length ds
   same_count slot [] [] a = refl
   same_count slot [] (d ∷ ds) a = absurd a
   same_count slot (x ∷ xs) [] a = absurd a
   same_count slot (x ∷ xs) (d ∷ ds) a = let n = same_count (slot + 1) xs ds a.1 in omega arith
 
-  same_before : (slot : ℕ) (xs : List A) (ds : List (SlotDone A I O)) → AreDone state source sink setup cell slot xs ds → xs ≡ map (λ (s : Slot A I O). s.before) (slots_of xs ds)
+  same_before : (slot : ℕ) (xs : List A) (ds : List (PoolDone A I O)) → AreDone state source sink setup cell slot xs ds → xs ≡ map (λ (s : Slot A I O). s.before) (slots_of xs ds)
   same_before slot [] [] a = refl
   same_before slot [] (d ∷ ds) a = absurd a
   same_before slot (x ∷ xs) [] a = absurd a
   same_before slot (x ∷ xs) (d ∷ ds) a = ap (λ (z : List A). x ∷ z) (same_before (slot + 1) xs ds a.1)
 
-  same_behind : (slot : ℕ) (xs : List A) (ds : List (SlotDone A I O)) → AreDone state source sink setup cell slot xs ds → given_back ds ≡ map (λ (s : Slot A I O). s.behind) (slots_of xs ds)
+  same_behind : (slot : ℕ) (xs : List A) (ds : List (PoolDone A I O)) → AreDone state source sink setup cell slot xs ds → given_back ds ≡ map (λ (s : Slot A I O). s.behind) (slots_of xs ds)
   same_behind slot [] [] a = refl
   same_behind slot [] (d ∷ ds) a = absurd a
   same_behind slot (x ∷ xs) [] a = absurd a
   same_behind slot (x ∷ xs) (d ∷ ds) a = ap (λ (z : List A). d.acceptor ∷ z) (same_behind (slot + 1) xs ds a.1)
 
-  same_conns : (slot : ℕ) (xs : List A) (ds : List (SlotDone A I O)) → AreDone state source sink setup cell slot xs ds → conns_of ds ≡ flat_map (λ (s : Slot A I O). s.conns) (slots_of xs ds)
+  same_conns : (slot : ℕ) (xs : List A) (ds : List (PoolDone A I O)) → AreDone state source sink setup cell slot xs ds → conns_of ds ≡ flat_map (λ (s : Slot A I O). s.conns) (slots_of xs ds)
   same_conns slot [] [] a = refl
   same_conns slot [] (d ∷ ds) a = absurd a
   same_conns slot (x ∷ xs) [] a = absurd a
   same_conns slot (x ∷ xs) (d ∷ ds) a = ap (λ (z : List (ConnLog I O)). d.logs.items ++ z) (same_conns (slot + 1) xs ds a.1)
 
-  same_ends : (slot : ℕ) (xs : List A) (ds : List (SlotDone A I O)) → AreDone state source sink setup cell slot xs ds → ends_of ds ≡ map (λ (s : Slot A I O). s.end) (slots_of xs ds)
+  same_ends : (slot : ℕ) (xs : List A) (ds : List (PoolDone A I O)) → AreDone state source sink setup cell slot xs ds → ends_of ds ≡ map (λ (s : Slot A I O). s.end) (slots_of xs ds)
   same_ends slot [] [] a = refl
   same_ends slot [] (d ∷ ds) a = absurd a
   same_ends slot (x ∷ xs) [] a = absurd a
   same_ends slot (x ∷ xs) (d ∷ ds) a = ap (λ (z : List SlotEnd). d.end ∷ z) (same_ends (slot + 1) xs ds a.1)
 
-  slots_ran : (h : History) (slot : ℕ) (xs : List A) (ds : List (SlotDone A I O)) → AreDone state source sink setup cell slot xs ds → Each (Own h) (left_by (passes_of ds)) → SlotsRan state source sink setup h slot (slots_of xs ds)
+  slots_ran : (h : History) (slot : ℕ) (xs : List A) (ds : List (PoolDone A I O)) → AreDone state source sink setup cell slot xs ds → Each (Own h) (left_by (passes_of ds)) → SlotsRan state source sink setup h slot (slots_of xs ds)
   slots_ran h slot [] [] a o = tt
   slots_ran h slot [] (d ∷ ds) a o = absurd a
   slots_ran h slot (x ∷ xs) [] a o = absurd a
   slots_ran h slot (x ∷ xs) (d ∷ ds) a o =
-      let parts = each_cut h d.pass.seat.ended (left_by (passes_of ds)) o.1 in (
+      let parts = each_cut h d.place.seat.ended (left_by (passes_of ds)) o.1 in (
         record {
           cs = a.0.cs;
           serves = a.0.serves;
@@ -128,7 +128,7 @@ module _ {A I O : Type 0} (state : A → AcceptorState I O) (source : I → Sour
         slots_ran h (slot + 1) xs ds a.1 parts.1,
       )
 
-  pub all_slots : (h : History) (ws : List Pass) (left : List Leaving) (before behind : List A) (ds : List (SlotDone A I O)) (conns : List (ConnLog I O)) (ends : List SlotEnd)
+  pub all_slots : (h : History) (ws : List Pass) (left : List Leaving) (before behind : List A) (ds : List (PoolDone A I O)) (conns : List (ConnLog I O)) (ends : List SlotEnd)
       → Each (Own h) left → left ≡ left_by (passes_of ds) ++ left_by ws → AreDone state source sink setup cell 0 before ds → length ds ≡ setup.slots
       → behind ≡ given_back ds → conns ≡ conns_of ds → ends ≡ ends_of ds → AllSlotsRan state source sink setup h before behind conns ends
   all_slots h ws left before behind ds conns ends o l a n b c e = record {
@@ -167,15 +167,13 @@ module _ (setup : SetupData) (outcome : List ℕ → JobRecord → Outcome) (cel
 
 pub lawful : (setup : SetupData) (cell : CellView State) (root : Sitting) (left : List Leaving) (h : History) → IsPoolOf setup cell → IsHistory cell root left h → IsLawful setup h
 lawful setup cell root left h o i = record {
+  opens = subst Opens o.opened i.good.0;
   legal = subst (λ (s : State). IsLegal s h) o.opened i.good.1;
   fit = subst (λ (s : State). AreFit s h) o.opened i.good.2;
 }
 
-opens_so : (setup : SetupData) (cell : CellView State) (root : Sitting) (left : List Leaving) (h : History) → IsPoolOf setup cell → IsHistory cell root left h → Opens (opening_of setup)
-opens_so setup cell root left h o i = subst Opens o.opened i.good.0
-
 -- each worker heard that all has ended
-ended_last : (setup : SetupData) (outcome : List ℕ → JobRecord → Outcome) (h : History) → WorkersRan setup outcome h → (t : ℕ) → t < length (pool_threads 0 setup.pool.lanes) → latest None (of (worker_seat setup.slots t) h) ≡ Some Ended
+pub ended_last : (setup : SetupData) (outcome : List ℕ → JobRecord → Outcome) (h : History) → WorkersRan setup outcome h → (t : ℕ) → t < length (pool_threads 0 setup.pool.lanes) → latest None (of (worker_seat setup.slots t) h) ≡ Some Ended
 ended_last setup outcome h w t l = let k = w t l in ap (latest None) k.parts ∙ latest_push None k.tasks (take_entry (worker_seat setup.slots t) t Ended)
 
 pub runs_once : (setup : SetupData) (outcome : List ℕ → JobRecord → Outcome) (cell : CellView State) (root : Sitting) (left : List Leaving) (h : History) → IsPoolOf setup cell → IsHistory cell root left h → WorkersRan setup outcome h
@@ -187,8 +185,8 @@ pub runs_once : (setup : SetupData) (outcome : List ℕ → JobRecord → Outcom
     → RunsOnce (opening_of setup) h
 runs_once setup outcome cell root left h o i w done place took once =
     let s = opening_of setup in
-    let opens = opens_so setup cell root left h o i in
     let law = lawful setup cell root left h o i in
+    let opens = law.opens in
     let ends = done s h opens law.legal law.fit (ended_last setup outcome h w) in
     record {
       once = λ conn serial. once conn serial s h opens law.legal law.fit;

@@ -6,3 +6,4 @@ pub mod Giving
 pub mod Lanes
 pub mod Admitting
 pub mod Closing
+pub mod AtRest

@@ -1,11 +1,9 @@
--- One connection of a slot behind another.
-use Rattle.std.proofs.Common.{◌≡◌, ℕ, ◌+◌, ◌<◌, Bool, true, false, List, [], ◌∷◌, ◌++◌, length, Option, Some, None, refl, sym, ap, subst, ◌∙◌, append_assoc, append-nil, arith}
-use Rattle.std.specs.Prelude.{IfSome, option_map}
+-- One connection of a slot after another.
+use Rattle.std.proofs.Common.{◌≡◌, ℕ, ◌+◌, ◌<◌, Bool, false, List, [], ◌∷◌, ◌++◌, length, refl, sym, ap, subst, ◌∙◌, append-nil, arith}
 use Rattle.std.proofs.lemmas.List.{map-append, length-append, length-map}
 use Rattle.std.proofs.lemmas.List.Concat.{flat_map-append}
-use Rattle.orb_base.specs.Links.{AcceptorState, Accepts, CountsAcceptFault, CountsDone}
-use Rattle.orb_base.specs.Outside.{SourceState, SinkState, IsNewSource, IsNewSink, Rose}
-use Rattle.orb_base.specs.declared.accepted.Accepted.TheVariants as accepted
+use Rattle.orb_base.specs.Links.{AcceptorState}
+use Rattle.orb_base.specs.Outside.{SourceState, SinkState, IsNewSource, IsNewSink}
 use Rattle.orb_base.specs.declared.conn_id.ConnId.{ConnId}
 use Rattle.turn_cell.specs.Calls.{gone}
 use Rattle.turn_cell.specs.Seats.{CellView}
@@ -27,12 +25,18 @@ use Rattle.lane_pool.specs.Turns.{Writes, Rests}
 use Rattle.lane_pool.proofs.Turns.{same_conn_of}
 use Rattle.lane_pool.proofs.Staying.{fresh_home, home_linked, home_same, same_leave}
 use Rattle.orb_server.specs.Connections.{Conn, IsHeard, IsSaid, IsServed, AreServed, conn_at, writers_left}
-use Rattle.orb_server.specs.SlotEnds.{closed_behind, was_closed}
-use Rattle.orb_server.specs.Slots.{leaving, read_by, logs_of, links_of, ServesLinks, KnowsCalls, GoesOn, ComesOut, ServesOne}
-use Rattle.orb_server.specs.Threads.{IsPoolOf}
+use Rattle.link_slots.specs.SlotEnds.{HasCause}
+use Rattle.link_slots.specs.Slots.{none, one, HandsOut, SlotRan}
+use Rattle.link_slots.specs.Slots.{AreServed as Linked}
+use Rattle.link_slots.specs.declared.host.LinkJob.{LinkJob}
+use Rattle.link_slots.specs.declared.host.LinkDone.{LinkDone}
+use Rattle.link_slots.specs.declared.slot_end.SlotEnd.{SlotEnd}
+use Rattle.orb_server.specs.SlotEnds.{was_closed, closed_behind}
+use Rattle.orb_server.specs.Slots.{leaving, read_by, logs_of, links_of, KnowsCalls, ComesOut, ServesOne}
+use Rattle.orb_server.specs.Jobs.{PoolJob, PoolDone}
+use Rattle.orb_server.specs.Threads.{IsPoolOf, IsJob}
+use Rattle.orb_server.specs.Hosting.{Keeps, ServesLink}
 use Rattle.orb_server.specs.declared.run.ConnLog.{ConnLog}
-use Rattle.orb_server.specs.declared.run.SlotEnd.{SlotEnd}
-use Rattle.orb_server.specs.declared.run.SlotEnd.TheVariants.{Done, Served, Closed, AcceptFault}
 
 pub room_there : (setup : SetupData) (cell : CellView State) (n : ℕ) → IsPoolOf setup cell → n < setup.per_slot → n < cell.terms.opening.per_slot
 room_there setup cell n o l = subst (λ (s : State). n < s.per_slot) (sym o.opened) l
@@ -82,14 +86,6 @@ closed_grows : {I O : Type 0} (b : Bool) (ls : List (ConnLog I O)) (l : ConnLog 
 closed_grows b [] l = refl
 closed_grows b (x ∷ xs) l = closed_grows (was_closed x.write) xs l
 
-hands_none : {X : Type 0} (o : Option (List X)) → o ≡ option_map (λ rest. [] ++ rest) o
-hands_none (Some xs) = refl
-hands_none None = refl
-
-hands_one : {X : Type 0} (xs : List X) (x : X) (a b c : Option (List X)) → a ≡ option_map (λ rest. xs ++ rest) b → b ≡ option_map (λ rest. x ∷ rest) c → a ≡ option_map (λ rest. (xs ++ x ∷ []) ++ rest) c
-hands_one xs x a b (Some rest) e f = e ∙ (ap (option_map (λ r. xs ++ r)) f ∙ ap Some (sym (append_assoc xs (x ∷ []) rest)))
-hands_one xs x a b None e f = e ∙ ap (option_map (λ r. xs ++ r)) f
-
 module _ {I O : Type 0} (source : I → SourceState) (sink : O → SinkState) (setup : SetupData) (cell : CellView State) where
   pub one_served : (old reader writer reader' writer' new : Pass) (i i' : I) (o o' : O) (id : ConnId) (read : ReadSideEnd) (write : WriteEnd)
       → IsHome cell old.who old → IsLinked old reader writer → Writes cell writer → id ≡ conn_of reader
@@ -132,104 +128,103 @@ module _ {I O : Type 0} (source : I → SourceState) (sink : O → SinkState) (s
   served_grows slot nth [] c a s = (subst (λ (k : ℕ). IsServed source sink setup (conn_at slot k) c) (omega arith) s, tt)
   served_grows slot nth (x ∷ xs) c a s = (a.0, served_grows slot (nth + 1) xs c a.1 (subst (λ (k : ℕ). IsServed source sink setup (conn_at slot k) c) (omega arith) s))
 
+  -- these connections were served on these links, one after another, by a slot's pass that was fresh
+  record Strung (slot : ℕ) (pass : Pass) (links : List (I × O)) (logs : List (ConnLog I O)) : Type 0 where
+    cs : List (Conn I O)
+    links_are : links ≡ links_of cs
+    logs_are : logs ≡ logs_of cs
+    served : AreServed source sink setup slot 0 cs
+    knows : KnowsCalls cell slot pass cs []
+    count : pass.nth ≡ length logs
+
+  -- none so far
+  strung_none : (slot : ℕ) (pass : Pass) → IsFresh cell (1 + slot) slot pass → Strung slot pass [] []
+  strung_none slot pass f = record {
+    cs = [];
+    links_are = refl;
+    logs_are = refl;
+    served = tt;
+    knows = record { home = fresh_home cell slot pass f; read = f.unused; written = f.alone };
+    count = f.nth_is;
+  }
+
   -- the connections so far, and one more
-  serves_more : (slot : ℕ) (old acc acc' : AcceptorState I O) (pass pass' : Pass) (i : I) (o : O) (logs : List (ConnLog I O)) (log : ConnLog I O)
-      → (g : GoesOn source sink setup cell slot old pass acc logs) → Accepts (accepted.Link i o) acc acc' → (s : ServesOne source sink setup cell pass pass' (i, o) log)
-      → ServesLinks source sink setup slot old acc' (logs ++ log ∷ []) (g.cs ++ s.one ∷ []) × KnowsCalls cell slot pass' (g.cs ++ s.one ∷ []) []
-  serves_more slot old acc acc' pass pass' i o logs log g a s =
-      let many : length logs ≡ length g.cs = ap length g.serves.logs_are ∙ length-map g.cs (λ (c : Conn I O). c.log) in
+  strung_more : (slot : ℕ) (pass pass' : Pass) (links : List (I × O)) (link : I × O) (logs : List (ConnLog I O)) (log : ConnLog I O)
+      → Strung slot pass links logs → ServesOne source sink setup cell pass pass' link log → Strung slot pass' (links ++ link ∷ []) (logs ++ log ∷ [])
+  strung_more slot pass pass' links link logs log g s =
+      let many : length logs ≡ length g.cs = ap length g.logs_are ∙ length-map g.cs (λ (c : Conn I O). c.log) in
       let who : pass.who ≡ slot = g.knows.home.who in
       let nth : pass.nth ≡ 0 + length g.cs = (let c = g.count in omega arith) in
       let id : conn_of pass ≡ conn_at slot (0 + length g.cs) = λ k. record { slot = who k; nth = nth k } in
       let mark : ConnId → Leaving = λ c. record { number = writer_seat c; calls = s.one.written; splits = 0 } in
-      let all : pass.seat.ended ++ mark (conn_of pass) ∷ [] ≡ writers_left slot 0 g.cs ++ mark (conn_at slot (0 + length g.cs)) ∷ [] = λ k. g.knows.written k ++ mark (id k) ∷ [] in (
-        record {
-          logs_are = ap (λ (z : List (ConnLog I O)). z ++ log ∷ []) g.serves.logs_are
-              ∙ (ap (λ (z : ConnLog I O). logs_of g.cs ++ z ∷ []) (sym s.log_is) ∙ sym (map-append (λ (c : Conn I O). c.log) g.cs (s.one ∷ [])));
-          served = served_grows slot 0 g.cs s.one g.serves.served (subst (λ (c : ConnId). IsServed source sink setup c s.one) id s.served);
-          links = subst (λ (z : List (I × O)). old.links ≡ option_map (λ rest. z ++ rest) acc'.links)
-              (ap (λ (z : I × O). links_of g.cs ++ z ∷ []) (sym s.link_is) ∙ sym (map-append (λ (c : Conn I O). c.link) g.cs (s.one ∷ [])))
-              (hands_one (links_of g.cs) (i, o) old.links acc.links acc'.links g.serves.links a);
-        },
-        record {
+      let all : pass.seat.ended ++ mark (conn_of pass) ∷ [] ≡ writers_left slot 0 g.cs ++ mark (conn_at slot (0 + length g.cs)) ∷ [] = λ k. g.knows.written k ++ mark (id k) ∷ [] in record {
+        cs = g.cs ++ s.one ∷ [];
+        links_are = ap (λ (z : List (I × O)). z ++ link ∷ []) g.links_are
+            ∙ (ap (λ (z : I × O). links_of g.cs ++ z ∷ []) (sym s.link_is) ∙ sym (map-append (λ (c : Conn I O). c.link) g.cs (s.one ∷ [])));
+        logs_are = ap (λ (z : List (ConnLog I O)). z ++ log ∷ []) g.logs_are
+            ∙ (ap (λ (z : ConnLog I O). logs_of g.cs ++ z ∷ []) (sym s.log_is) ∙ sym (map-append (λ (c : Conn I O). c.log) g.cs (s.one ∷ [])));
+        served = served_grows slot 0 g.cs s.one g.served (subst (λ (c : ConnId). IsServed source sink setup c s.one) id s.served);
+        knows = record {
           home = subst (λ (k : ℕ). IsHome cell k pass') (s.who_is ∙ who) s.home;
           read = s.read ∙ (ap (λ (z : History). z ++ s.one.read) (g.knows.read ∙ append-nil (read_by g.cs))
               ∙ (ap (λ (z : History). read_by g.cs ++ z) (sym (append-nil s.one.read))
               ∙ (sym (flat_map-append (λ (c : Conn I O). c.read) g.cs (s.one ∷ [])) ∙ sym (append-nil (read_by (g.cs ++ s.one ∷ []))))));
           written = s.written ∙ (all ∙ sym (writers_grow slot 0 g.cs s.one));
-        },
-      )
-
-  pub goes_first : (slot : ℕ) (old : AcceptorState I O) (pass : Pass) (logs : List (ConnLog I O)) → IsFresh cell (1 + slot) slot pass → logs ≡ [] → GoesOn source sink setup cell slot old pass old logs
-  goes_first slot old pass logs f e = subst (GoesOn source sink setup cell slot old pass old) (sym e) (record {
-    cs = [];
-    serves = record { logs_are = refl; served = tt; links = hands_none old.links };
-    knows = record { home = fresh_home cell slot pass f; read = f.unused; written = f.alone };
-    count = f.nth_is;
-    going = refl;
-    none_done = refl;
-    none_failed = refl;
-  })
-
-  pub goes_further : (slot : ℕ) (old acc acc' : AcceptorState I O) (pass pass' : Pass) (i : I) (o : O) (logs : List (ConnLog I O)) (log : ConnLog I O)
-      → GoesOn source sink setup cell slot old pass acc logs → Accepts (accepted.Link i o) acc acc' → CountsAcceptFault (accepted.Link i o) acc acc' → CountsDone (accepted.Link i o) acc acc'
-      → ServesOne source sink setup cell pass pass' (i, o) log → was_closed log.write ≡ false
-      → GoesOn source sink setup cell slot old pass' acc' (logs ++ log ∷ [])
-  goes_further slot old acc acc' pass pass' i o logs log g a f d s w =
-      let m = serves_more slot old acc acc' pass pass' i o logs log g a s in
-      record {
-        cs = g.cs ++ s.one ∷ [];
-        serves = m.0;
-        knows = m.1;
+        };
         count = s.nth_is ∙ (ap (λ (k : ℕ). k + 1) g.count ∙ sym (length-append logs (log ∷ [])));
-        going = closed_grows false logs log ∙ w;
-        none_done = d ∙ g.none_done;
-        none_failed = f ∙ g.none_failed;
       }
 
-  pub comes_closed : (slot : ℕ) (old acc acc' : AcceptorState I O) (pass pass' : Pass) (i : I) (o : O) (logs : List (ConnLog I O)) (log : ConnLog I O)
-      → GoesOn source sink setup cell slot old pass acc logs → Accepts (accepted.Link i o) acc acc' → CountsAcceptFault (accepted.Link i o) acc acc' → CountsDone (accepted.Link i o) acc acc'
-      → ServesOne source sink setup cell pass pass' (i, o) log → was_closed log.write ≡ true → length logs < setup.per_slot
-      → ComesOut source sink setup cell [] slot old pass' acc' (logs ++ log ∷ []) Closed
-  comes_closed slot old acc acc' pass pass' i o logs log g a f d s w l =
-      let m = serves_more slot old acc acc' pass pass' i o logs log g a s in
-      let n : length (logs ++ log ∷ []) ≡ length logs + 1 = length-append logs (log ∷ []) in
-      record {
-        cs = g.cs ++ s.one ∷ [];
-        serves = m.0;
-        knows = m.1;
-        cause = (omega arith, closed_grows false logs log ∙ w, d ∙ g.none_done, f ∙ g.none_failed);
-      }
-
-  pub comes_done : (slot : ℕ) (old acc acc' : AcceptorState I O) (pass : Pass) (logs : List (ConnLog I O))
-      → GoesOn source sink setup cell slot old pass acc logs → Accepts accepted.Done acc acc' → CountsAcceptFault accepted.Done acc acc' → CountsDone accepted.Done acc acc' → length logs < setup.per_slot
-      → ComesOut source sink setup cell [] slot old pass acc' logs Done
-  comes_done slot old acc acc' pass logs g a f d l = record {
-    cs = g.cs;
-    serves = record { logs_are = g.serves.logs_are; served = g.serves.served; links = g.serves.links ∙ ap (option_map (λ rest. links_of g.cs ++ rest)) (sym a.1) };
-    knows = g.knows;
-    cause = (l, g.going, subst (λ (n : ℕ). Rose n acc'.ends) g.none_done d.1, f ∙ g.none_failed, subst (λ (o : Option (List (I × O))). IfSome o (λ links. links ≡ [])) (sym a.1) a.0);
+  pub keeps_one_more : (n : ℕ) (old new : Pass) (link : I × O) (log : ConnLog I O) → Keeps setup cell n old → Rests cell new → ServesOne source sink setup cell old new link log → Keeps setup cell (n + 1) new
+  keeps_one_more n old new link log k r s = record {
+    opened = k.opened;
+    rests = r;
+    home = s.home;
+    count_is = s.nth_is ∙ ap (λ (c : ℕ). c + 1) k.count_is;
   }
 
-  pub comes_failed : (slot : ℕ) (old acc acc' : AcceptorState I O) (pass : Pass) (logs : List (ConnLog I O))
-      → GoesOn source sink setup cell slot old pass acc logs → Accepts accepted.Failed acc acc' → CountsAcceptFault accepted.Failed acc acc' → CountsDone accepted.Failed acc acc' → length logs < setup.per_slot
-      → ComesOut source sink setup cell [] slot old pass acc' logs AcceptFault
-  comes_failed slot old acc acc' pass logs g a f d l = record {
-    cs = g.cs;
-    serves = record { logs_are = g.serves.logs_are; served = g.serves.served; links = g.serves.links ∙ ap (option_map (λ rest. links_of g.cs ++ rest)) (sym a) };
-    knows = g.knows;
-    cause = (l, g.going, d ∙ g.none_done, subst (λ (n : ℕ). Rose n acc'.faults) g.none_failed f.1);
-  }
+  module _ (gives : LinkJob Pass I O → LinkDone Pass (ConnLog I O) → Type 0)
+      (serves : (link : LinkJob Pass I O) (done : LinkDone Pass (ConnLog I O)) → gives link done → ServesLink source sink setup cell link done) where
+    -- all of them
+    strung : (slot : ℕ) (pass pass' : Pass) (links : List (I × O)) (logs : List (ConnLog I O)) (closed : Bool) → IsFresh cell (1 + slot) slot pass
+        → Linked gives pass links logs closed pass' → Strung slot pass' links logs
+    strung slot pass pass' links logs closed f (none p) = strung_none slot p f
+    strung slot pass pass' links logs closed f (one p xs ls job done a e s) =
+        strung_more slot job.place done.place xs (job.source, job.sink) ls done.log (strung slot p job.place xs ls false f a) (serves job done s).one
 
-  pub comes_served : (slot : ℕ) (old acc : AcceptorState I O) (pass : Pass) (logs : List (ConnLog I O))
-      → GoesOn source sink setup cell slot old pass acc logs → length logs ≡ setup.per_slot
-      → ComesOut source sink setup cell [] slot old pass acc logs Served
-  comes_served slot old acc pass logs g l = record {
-    cs = g.cs;
-    serves = g.serves;
-    knows = g.knows;
-    cause = (l, g.going, g.none_done, g.none_failed);
-  }
+    -- whether the last one closed the slot
+    closed_so : (pass pass' : Pass) (links : List (I × O)) (logs : List (ConnLog I O)) (closed : Bool) → Linked gives pass links logs closed pass' → closed ≡ closed_behind false logs
+    closed_so pass pass' links logs closed (none p) = refl
+    closed_so pass pass' links logs closed (one p xs ls job done a e s) = (serves job done s).closes ∙ sym (closed_grows false ls done.log)
+
+    -- the slot's pass is at rest after them
+    still_rests : (pass pass' : Pass) (links : List (I × O)) (logs : List (ConnLog I O)) (closed : Bool) → Rests cell pass → Linked gives pass links logs closed pass' → Rests cell pass'
+    still_rests pass pass' links logs closed r (none p) = r
+    still_rests pass pass' links logs closed r (one p xs ls job done a e s) = (serves job done s).kept.rests
+
+    module _ {A : Type 0} (state : A → AcceptorState I O) where
+      pub rests_after : (slot most : ℕ) (job : PoolJob A I O) (done : PoolDone A I O) → IsJob setup cell slot job → SlotRan state gives most job done → Rests cell done.place
+      rests_after slot most job done j r = still_rests job.place done.place r.serves.links done.logs.items r.closed j.rests r.serves.served
+
+      -- a slot that served so comes out so
+      pub comes_out : (slot most : ℕ) (job : PoolJob A I O) (done : PoolDone A I O) → IsJob setup cell slot job → most ≡ setup.per_slot → SlotRan state gives most job done
+          → ComesOut source sink setup cell [] slot (state job.acceptor) done.place (state done.acceptor) done.logs.items done.end
+      comes_out slot most job done j e r =
+          let g = strung slot job.place done.place r.serves.links done.logs.items r.closed j.fresh r.serves.served in record {
+            cs = g.cs;
+            serves = record {
+              logs_are = g.logs_are;
+              served = g.served;
+              links = subst (λ (z : List (I × O)). HandsOut z (state job.acceptor) (state done.acceptor)) g.links_are r.serves.handed;
+            };
+            knows = g.knows;
+            cause = subst (λ (b : Bool). HasCause done.end setup.per_slot (length done.logs.items) b (state job.acceptor) (state done.acceptor))
+                (closed_so job.place done.place r.serves.links done.logs.items r.closed r.serves.served)
+                (subst (λ (n : ℕ). HasCause done.end n (length done.logs.items) r.closed (state job.acceptor) (state done.acceptor)) e r.cause);
+          }
+
+  -- a slot's pass by which nothing was called, as what serves its links asks for it
+  pub first_kept : {A : Type 0} (job : PoolJob A I O) → IsJob setup cell job.place.who job → IsPoolOf setup cell → Keeps setup cell 0 job.place
+  first_kept job j o = record { opened = o; rests = j.rests; home = fresh_home cell job.place.who job.place j.fresh; count_is = j.fresh.nth_is }
 
   pub has_left : (slot : ℕ) (old acc : AcceptorState I O) (pass pass' : Pass) (logs : List (ConnLog I O)) (end : SlotEnd)
       → ComesOut source sink setup cell [] slot old pass acc logs end → Rests cell pass → Makes cell (Leave pass.who) Noted pass pass'

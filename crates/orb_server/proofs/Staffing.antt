@@ -1,5 +1,7 @@
--- Workers in a row, from the last one on.
-use Rattle.std.proofs.Common.{◌≡◌, ℕ, ◌+◌, List, [], ◌∷◌, ◌++◌, length, sym, ap, subst, ◌∙◌, arith}
+-- Workers side by side, in their order.
+use Rattle.std.proofs.Common.{ℕ, ◌+◌, List, [], ◌∷◌, ◌++◌, sym, ap, subst, ◌∙◌}
+use Rattle.std.specs.List.{All}
+use Rattle.std.proofs.lemmas.List.Elements.{All-nil, All-cons}
 use Rattle.orb_base.specs.JobRecord.{JobRecord}
 use Rattle.orb_base.specs.declared.outcome.Outcome.{Outcome}
 use Rattle.turn_cell.specs.Seats.{CellView}
@@ -10,6 +12,7 @@ use Rattle.adapter_policies.specs.SetupData.{SetupData}
 use Rattle.pipe_laws.specs.Lacking.{served}
 use Rattle.lane_pool.specs.Pass.{Pass}
 use Rattle.lane_pool.proofs.Staying.{fresh_alone, alone_same}
+use Rattle.side_by_side.specs.Sides.{Pairs}
 use Rattle.conn_sides.specs.Working.{WorksOut, take_entry}
 use Rattle.orb_server.specs.Threads.{IsIdle, AreIdle, HasWorked, HaveWorked}
 
@@ -27,22 +30,19 @@ has_worked setup outcome cell old new f w = record {
 pub idle_own : (cell : CellView State) (n k : ℕ) (p : Pass) → IsIdle cell n k p → IsIdle cell p.seat.number p.who p
 idle_own cell n k p f = subst (λ (z : ℕ × ℕ). IsIdle cell z.0 z.1 p) (λ i. (sym f.fresh.number_is i, sym f.fresh.who_is i)) f
 
-cut : (cell : CellView State) (first who : ℕ) (xs : List Pass) (x : Pass) → AreIdle cell first who (xs ++ x ∷ []) → AreIdle cell first who xs × IsIdle cell (first + (who + length xs)) (who + length xs) x
-cut cell first who [] x a = (tt, subst (λ (k : ℕ). IsIdle cell (first + k) k x) (omega arith) a.0)
-cut cell first who (y ∷ ys) x a = let r = cut cell first (who + 1) ys x a.1 in ((a.0, r.0), subst (λ (k : ℕ). IsIdle cell (first + k) k x) (omega arith) r.1)
-
-pub idle_front : (cell : CellView State) (first : ℕ) (all xs : List Pass) (x : Pass) → AreIdle cell first 0 all → all ≡ xs ++ x ∷ [] → AreIdle cell first 0 xs
-idle_front cell first all xs x a e = (cut cell first 0 xs x (subst (AreIdle cell first 0) e a)).0
-
-pub idle_last : (cell : CellView State) (first : ℕ) (all xs : List Pass) (x : Pass) → AreIdle cell first 0 all → all ≡ xs ++ x ∷ [] → IsIdle cell (first + length xs) (length xs) x
-idle_last cell first all xs x a e = subst (λ (k : ℕ). IsIdle cell (first + k) k x) (omega arith) (cut cell first 0 xs x (subst (AreIdle cell first 0) e a)).1
+-- each pass is idle at its own number
+pub passes_own : (cell : CellView State) (P : Pass → Type 0) → ((p : Pass) → IsIdle cell p.seat.number p.who p → P p) → (first who : ℕ) (ps : List Pass) → AreIdle cell first who ps → All P ps
+passes_own cell P f first who [] a = All-nil P
+passes_own cell P f first who (p ∷ ps) a = All-cons P p ps (f p (idle_own cell (first + who) who p a.0)) (passes_own cell P f first (who + 1) ps a.1)
 
 module _ (setup : SetupData) (outcome : List ℕ → JobRecord → Outcome) (cell : CellView State) where
-  grow : (first who : ℕ) (ps : List Pass) (p : Pass) → HaveWorked setup outcome cell first who ps → HasWorked setup outcome cell (first + (who + length ps)) (who + length ps) p → HaveWorked setup outcome cell first who (ps ++ p ∷ [])
-  grow first who [] p a h = (subst (λ (k : ℕ). HasWorked setup outcome cell (first + k) k p) (omega arith) h, tt)
-  grow first who (x ∷ xs) p a h = (a.0, grow first (who + 1) xs p a.1 (subst (λ (k : ℕ). HasWorked setup outcome cell (first + k) k p) (omega arith) h))
-
-  pub worked_grows : (first n k : ℕ) (ps : List Pass) (p : Pass) → HaveWorked setup outcome cell first 0 ps → HasWorked setup outcome cell n k p → n ≡ first + k → k ≡ length ps → HaveWorked setup outcome cell first 0 (ps ++ p ∷ [])
-  worked_grows first n k ps p a h e f =
-      let i : k ≡ 0 + length ps = omega arith in
-      grow first 0 ps p a (subst (λ (j : ℕ). HasWorked setup outcome cell (first + j) j p) i (subst (λ (m : ℕ). HasWorked setup outcome cell m k p) e h))
+  -- what each worker of its own number did, they did in order
+  pub worked_own : (Q : Pass → Pass → Type 0) → ((p q : Pass) → Q p q → HasWorked setup outcome cell p.seat.number p.who q)
+      → (first who : ℕ) (ps qs : List Pass) → AreIdle cell first who ps → Pairs Q ps qs → HaveWorked setup outcome cell first who qs
+  worked_own Q f first who [] [] a h = tt
+  worked_own Q f first who [] (q ∷ qs) a h = absurd h
+  worked_own Q f first who (p ∷ ps) [] a h = absurd h
+  worked_own Q f first who (p ∷ ps) (q ∷ qs) a h = (
+    subst (λ (z : ℕ × ℕ). HasWorked setup outcome cell z.0 z.1 q) (λ i. (a.0.fresh.number_is i, a.0.fresh.who_is i)) (f p q h.0),
+    worked_own Q f first (who + 1) ps qs a.1 h.1,
+  )

@@ -9,7 +9,7 @@ use Rattle.lane_pool.specs.Pass.{Pass, Sitting}
 use Rattle.lane_pool.specs.Passes.{IsFresh, AreFrom, IsOpen}
 use Rattle.lane_pool.specs.Turns.{Rests, AllRest, AllIdle}
 use Rattle.orb_server.specs.Threads.{IsPoolOf, AreResting, IsStart, AreStarts, IsJob, AreJobs, acceptors_of, AreIdle}
-use Rattle.orb_server.specs.declared.job.SlotJob.{SlotJob}
+use Rattle.orb_server.specs.Jobs.{PoolJob}
 use Rattle.orb_server.specs.declared.job.SlotStart.{SlotStart}
 
 pub pool_of : (setup : SetupData) (cell : CellView State) (root : Sitting) (readers workers : List Pass) → IsOpen setup.pool setup.slots setup.per_slot cell root readers workers → IsWellFormed setup.pool → IsPoolOf setup cell
@@ -68,20 +68,20 @@ module _ {I O : Type 0} (setup : SetupData) (cell : CellView State) where
   starts_last all xs x a e = subst (λ (k : ℕ). IsStart setup cell k x) (omega arith) (cut_starts 0 xs x (subst (AreStarts setup cell 0) e a)).1
 
 module _ {A I O : Type 0} (setup : SetupData) (cell : CellView State) where
-  pub jobs_none : (js : List (SlotJob A I O)) → js ≡ [] → AreJobs setup cell 0 js
+  pub jobs_none : (js : List (PoolJob A I O)) → js ≡ [] → AreJobs setup cell 0 js
   jobs_none js e = subst (AreJobs setup cell 0) (sym e) tt
 
-  grow_jobs : (slot : ℕ) (js : List (SlotJob A I O)) (j : SlotJob A I O) → AreJobs setup cell slot js → IsJob setup cell (slot + length js) j → AreJobs setup cell slot (js ++ j ∷ [])
+  grow_jobs : (slot : ℕ) (js : List (PoolJob A I O)) (j : PoolJob A I O) → AreJobs setup cell slot js → IsJob setup cell (slot + length js) j → AreJobs setup cell slot (js ++ j ∷ [])
   grow_jobs slot [] j a i = (subst (λ (k : ℕ). IsJob setup cell k j) (omega arith) i, tt)
   grow_jobs slot (x ∷ xs) j a i = (a.0, grow_jobs (slot + 1) xs j a.1 (subst (λ (k : ℕ). IsJob setup cell k j) (omega arith) i))
 
-  pub jobs_grow : (k : ℕ) (js : List (SlotJob A I O)) (a : A) (s : SlotStart I O) → AreJobs setup cell 0 js → length js ≡ k → IsStart setup cell k s → AreJobs setup cell 0 (js ++ record { pass = s.pass; acceptor = a; logs = s.logs } ∷ [])
+  pub jobs_grow : (k : ℕ) (js : List (PoolJob A I O)) (a : A) (s : SlotStart I O) → AreJobs setup cell 0 js → length js ≡ k → IsStart setup cell k s → AreJobs setup cell 0 (js ++ record { place = s.pass; acceptor = a; logs = s.logs } ∷ [])
   jobs_grow k js a s js_are e i =
       let h : k ≡ 0 + length js = omega arith in
-      let job : SlotJob A I O = record { pass = s.pass; acceptor = a; logs = s.logs } in
+      let job : PoolJob A I O = record { place = s.pass; acceptor = a; logs = s.logs } in
       grow_jobs 0 js job js_are (subst (λ (j : ℕ). IsJob setup cell j job) h (record { rests = i.rests; fresh = i.fresh; empty = i.empty; room = i.room }))
 
-  pub jobs_more : (k : ℕ) (js all : List (SlotJob A I O)) (a : A) (s : SlotStart I O) → AreJobs setup cell 0 js → length js ≡ k → IsStart setup cell k s → all ≡ js ++ record { pass = s.pass; acceptor = a; logs = s.logs } ∷ []
+  pub jobs_more : (k : ℕ) (js all : List (PoolJob A I O)) (a : A) (s : SlotStart I O) → AreJobs setup cell 0 js → length js ≡ k → IsStart setup cell k s → all ≡ js ++ record { place = s.pass; acceptor = a; logs = s.logs } ∷ []
       → AreJobs setup cell 0 all
   jobs_more k js all a s are e i is = subst (AreJobs setup cell 0) (sym is) (jobs_grow k js a s are e i)
 
@@ -90,5 +90,5 @@ same_lengths all xs x every ys y e f n =
     let a : length all ≡ length xs + 1 = ap length e ∙ length-append xs (x ∷ []) in
     let b : length every ≡ length ys + 1 = ap length f ∙ length-append ys (y ∷ []) in omega arith
 
-pub acceptors_grow : {A I O : Type 0} (js : List (SlotJob A I O)) (j : SlotJob A I O) (every ys : List A) → acceptors_of js ≡ ys → every ≡ ys ++ j.acceptor ∷ [] → acceptors_of (js ++ j ∷ []) ≡ every
-acceptors_grow js j every ys e f = map-append (λ (x : SlotJob _ _ _). x.acceptor) js (j ∷ []) ∙ (ap (λ (z : List _). z ++ j.acceptor ∷ []) e ∙ sym f)
+pub acceptors_grow : {A I O : Type 0} (js : List (PoolJob A I O)) (j : PoolJob A I O) (every ys : List A) → acceptors_of js ≡ ys → every ≡ ys ++ j.acceptor ∷ [] → acceptors_of (js ++ j ∷ []) ≡ every
+acceptors_grow js j every ys e f = map-append (λ (x : PoolJob _ _ _). x.acceptor) js (j ∷ []) ∙ (ap (λ (z : List _). z ++ j.acceptor ∷ []) e ∙ sym f)

@@ -53,7 +53,8 @@ module _ {I O : Type 0} where
   -- what the writing sides of a slot's connections leave, from this connection on
   abbrev pub writers_left : ℕ → ℕ → List (Conn I O) → List Leaving
   writers_left slot nth [] = []
-  writers_left slot nth (c ∷ cs) = record { number = writer_seat (conn_at slot nth); calls = c.written; splits = 0 } ∷ writers_left slot (nth + 1) cs
+  writers_left slot nth (c ∷ cs) =
+      record { number = writer_seat (conn_at slot nth); calls = c.written; splits = 0 } ∷ writers_left slot (nth + 1) cs
 
   -- the entries of the writing sides are those of their numbers in the history, from this connection on
   abbrev pub AreWritten : History → ℕ → ℕ → List (Conn I O) → Type 0

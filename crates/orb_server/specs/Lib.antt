@@ -1,7 +1,10 @@
 pub mod Connections
 pub mod SlotEnds
 pub mod Slots
+pub mod Jobs
 pub mod Threads
+pub mod Hosting
 pub mod Giving
 pub mod Fates
 pub mod Runs
+pub mod AtRest

@@ -10,22 +10,25 @@ use Rattle.thread_borrowing.specs.ThreadList.{pool_threads}
 use Rattle.turn_cell.specs.Seats.{CellView}
 use Rattle.lane_machine.specs.Callers.{of, slot_seat, worker_seat, AreFit}
 use Rattle.lane_machine.specs.Histories.{History, IsLegal}
-use Rattle.lane_machine.specs.State.{State, opening}
+use Rattle.lane_machine.specs.State.{State, Opens, opening}
 use Rattle.adapter_policies.specs.SetupData.{SetupData}
 use Rattle.orb_server.specs.Connections.{Conn, AreWritten}
-use Rattle.orb_server.specs.SlotEnds.{closed_behind, HasCause}
+use Rattle.link_slots.specs.SlotEnds.{HasCause}
+use Rattle.link_slots.specs.declared.slot_end.SlotEnd.{SlotEnd}
+use Rattle.orb_server.specs.SlotEnds.{closed_behind}
+use Rattle.orb_server.specs.Jobs.{PoolDone}
 use Rattle.orb_server.specs.Slots.{leaving, read_by, ServesLinks}
 use Rattle.orb_server.specs.Threads.{AreDone, WorkedOff}
-use Rattle.orb_server.specs.declared.job.SlotDone.{SlotDone}
 use Rattle.orb_server.specs.declared.run.ConnLog.{ConnLog}
-use Rattle.orb_server.specs.declared.run.SlotEnd.{SlotEnd}
 
 -- the state in which a run of the setup opens
 abbrev pub opening_of : SetupData → State
 opening_of setup = opening setup.pool setup.slots setup.per_slot
 
--- the history is legal from there, and each call in it was fit for its caller
+-- a run may open there, the history is legal from there, and each call in it was fit for its caller; so what the laws of the lane
+-- machine say of a legal and fit history from an opening, they say of this one
 pub record IsLawful (setup : SetupData) (h : History) : Type 0 where
+  pub opens : Opens (opening_of setup)
   pub legal : IsLegal (opening_of setup) h
   pub fit : AreFit (opening_of setup) h
 
@@ -36,7 +39,8 @@ pub record Slot (A I O : Type 0) : Type 0 where
   pub conns : List (ConnLog I O)
   pub end : SlotEnd
 
-module _ {A I O : Type 0} (state : A → AcceptorState I O) (source : I → SourceState) (sink : O → SinkState) (setup : SetupData) (h : History) where
+module _ {A I O : Type 0} (state : A → AcceptorState I O) (source : I → SourceState) (sink : O → SinkState) (setup : SetupData)
+    (h : History) where
   -- the slot's connections were served on links of its acceptor, in order; the entries of its number are the calls of their reading
   -- sides, one connection after another, and then its leave; those of the writing sides' numbers are their collects; and its end has
   -- its cause
@@ -63,8 +67,9 @@ module _ {A I O : Type 0} (state : A → AcceptorState I O) (source : I → Sour
     pub ran : SlotsRan 0 slots
 
 -- so it is with any acceptors with which the slots left this
-abbrev pub SlotsRanOver : {A I O : Type 0} → (A → AcceptorState I O) → (I → SourceState) → (O → SinkState) → SetupData → CellView State → History
-    → List (SlotDone A I O) → List A → List (ConnLog I O) → List SlotEnd → Type 0
+abbrev pub SlotsRanOver : {A I O : Type 0} → (A → AcceptorState I O) → (I → SourceState) → (O → SinkState) → SetupData → CellView State
+    → History
+    → List (PoolDone A I O) → List A → List (ConnLog I O) → List SlotEnd → Type 0
 SlotsRanOver {A} state source sink setup cell h done behind conns ends =
     (before : List A) → AreDone state source sink setup cell 0 before done → AllSlotsRan state source sink setup h before behind conns ends
 

@@ -1,5 +1,5 @@
 -- What one slot did: own profile.
-use Rattle.std.specs.Prelude.{◌≡◌, ℕ, ◌+◌, false, List, [], ◌∷◌, ◌++◌, length, map, option_map}
+use Rattle.std.specs.Prelude.{◌≡◌, ℕ, ◌+◌, false, List, [], ◌∷◌, ◌++◌, length, map}
 use Rattle.std.specs.List.{flat_map}
 use Rattle.orb_base.specs.Links.{AcceptorState}
 use Rattle.orb_base.specs.Outside.{SourceState, SinkState}
@@ -14,9 +14,11 @@ use Rattle.conn_sides.specs.Entering.{entry}
 use Rattle.lane_pool.specs.Pass.{Pass, conn_of}
 use Rattle.lane_pool.specs.Returned.{IsHome}
 use Rattle.orb_server.specs.Connections.{Conn, IsServed, AreServed, writers_left}
-use Rattle.orb_server.specs.SlotEnds.{closed_behind, NoneDone, NoneFailed, HasCause}
+use Rattle.link_slots.specs.SlotEnds.{HasCause}
+use Rattle.link_slots.specs.Slots.{HandsOut}
+use Rattle.link_slots.specs.declared.slot_end.SlotEnd.{SlotEnd}
+use Rattle.orb_server.specs.SlotEnds.{closed_behind}
 use Rattle.orb_server.specs.declared.run.ConnLog.{ConnLog}
-use Rattle.orb_server.specs.declared.run.SlotEnd.{SlotEnd}
 
 -- the entry by which a slot leaves
 abbrev pub leaving : ℕ → History
@@ -35,10 +37,6 @@ module _ {I O : Type 0} where
   abbrev pub links_of : List (Conn I O) → List (I × O)
   links_of cs = map {B = I × O} (λ (c : Conn I O). c.link) cs
 
-  -- the acceptor handed out these links, which stood in front of those still to come
-  abbrev pub HandsOut : List (I × O) → AcceptorState I O → AcceptorState I O → Type 0
-  HandsOut links old new = old.links ≡ option_map (λ rest. links ++ rest) new.links
-
   -- the slot's pass knows the calls of both sides of these connections, and then these
   pub record KnowsCalls (cell : CellView State) (slot : ℕ) (pass : Pass) (cs : List (Conn I O)) (last : History) : Type 0 where
     pub home : IsHome cell slot pass
@@ -53,18 +51,9 @@ module _ {I O : Type 0} (source : I → SourceState) (sink : O → SinkState) (s
     pub links : HandsOut (links_of cs) old new
 
   module _ (cell : CellView State) where
-    -- these connections were served so far, the last of which didn't close
-    pub record GoesOn (slot : ℕ) (old : AcceptorState I O) (pass : Pass) (new : AcceptorState I O) (logs : List (ConnLog I O)) : Type 0 where
-      pub cs : List (Conn I O)
-      pub serves : ServesLinks slot old new logs cs
-      pub knows : KnowsCalls cell slot pass cs []
-      pub count : pass.nth ≡ length logs
-      pub going : closed_behind false logs ≡ false
-      pub none_done : NoneDone old new
-      pub none_failed : NoneFailed old new
-
     -- these connections were served, and so the slot comes out; its pass knows their calls, and then these
-    pub record ComesOut (last : History) (slot : ℕ) (old : AcceptorState I O) (pass : Pass) (new : AcceptorState I O) (logs : List (ConnLog I O)) (end : SlotEnd) : Type 0 where
+    pub record ComesOut (last : History) (slot : ℕ) (old : AcceptorState I O) (pass : Pass) (new : AcceptorState I O)
+        (logs : List (ConnLog I O)) (end : SlotEnd) : Type 0 where
       pub cs : List (Conn I O)
       pub serves : ServesLinks slot old new logs cs
       pub knows : KnowsCalls cell slot pass cs last

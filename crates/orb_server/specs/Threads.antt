@@ -18,8 +18,7 @@ use Rattle.lane_pool.specs.Turns.{Rests, CanTake}
 use Rattle.pipe_laws.specs.Lacking.{served}
 use Rattle.conn_sides.specs.Working.{Worked, take_entry}
 use Rattle.orb_server.specs.Slots.{leaving, ComesOut}
-use Rattle.orb_server.specs.declared.job.SlotJob.{SlotJob}
-use Rattle.orb_server.specs.declared.job.SlotDone.{SlotDone}
+use Rattle.orb_server.specs.Jobs.{PoolJob, PoolDone}
 use Rattle.orb_server.specs.declared.job.SlotStart.{SlotStart}
 
 -- the pool was opened by the setup, whose own pool is well formed
@@ -47,29 +46,31 @@ module _ {I O : Type 0} (setup : SetupData) (cell : CellView State) where
 
 module _ {A I O : Type 0} (setup : SetupData) (cell : CellView State) where
   -- the same with an acceptor beside: a slot's pass by which nothing was called, and room for what its connections leave
-  pub record IsJob (slot : ℕ) (job : SlotJob A I O) : Type 0 where
-    pub rests : Rests cell job.pass
-    pub fresh : IsFresh cell (1 + slot) slot job.pass
+  pub record IsJob (slot : ℕ) (job : PoolJob A I O) : Type 0 where
+    pub rests : Rests cell job.place
+    pub fresh : IsFresh cell (1 + slot) slot job.place
     pub empty : job.logs.items ≡ []
     pub room : setup.per_slot ≤ vec_capacity job.logs
 
   -- such passes, of the slots from this one on
-  abbrev pub AreJobs : ℕ → List (SlotJob A I O) → Type 0
+  abbrev pub AreJobs : ℕ → List (PoolJob A I O) → Type 0
   AreJobs slot [] = Unit {0}
   AreJobs slot (j ∷ js) = IsJob slot j × AreJobs (slot + 1) js
 
 module _ {A I O : Type 0} where
   -- the acceptors of the slots
-  abbrev pub acceptors_of : List (SlotJob A I O) → List A
-  acceptors_of jobs = map {B = A} (λ (j : SlotJob A I O). j.acceptor) jobs
+  abbrev pub acceptors_of : List (PoolJob A I O) → List A
+  acceptors_of jobs = map {B = A} (λ (j : PoolJob A I O). j.acceptor) jobs
 
-module _ {A I O : Type 0} (state : A → AcceptorState I O) (source : I → SourceState) (sink : O → SinkState) (setup : SetupData) (cell : CellView State) where
+module _ {A I O : Type 0} (state : A → AcceptorState I O) (source : I → SourceState) (sink : O → SinkState) (setup : SetupData)
+    (cell : CellView State) where
   -- a slot served connections on links of its acceptor, and left
-  abbrev pub IsDone : ℕ → A → SlotDone A I O → Type 0
-  IsDone slot before done = ComesOut source sink setup cell (leaving slot) slot (state before) done.pass (state done.acceptor) done.logs.items done.end
+  abbrev pub IsDone : ℕ → A → PoolDone A I O → Type 0
+  IsDone slot before done =
+      ComesOut source sink setup cell (leaving slot) slot (state before) done.place (state done.acceptor) done.logs.items done.end
 
   -- so did the slots from this one on, each with its acceptor
-  abbrev pub AreDone : ℕ → List A → List (SlotDone A I O) → Type 0
+  abbrev pub AreDone : ℕ → List A → List (PoolDone A I O) → Type 0
   AreDone slot [] [] = Unit {0}
   AreDone slot [] (d ∷ ds) = ⊥
   AreDone slot (a ∷ rest) [] = ⊥

@@ -3,9 +3,10 @@ ghost use Rattle.std.specs.Prelude.{◌≡◌, ◌+◌, ◌≤◌, ◌++◌, ◌
 ghost use Rattle.std.specs.Vec.{vec_capacity};
 ghost use Rattle.orb_server.specs.Giving.{passes_of, given_back, conns_of, ends_of};
 
-use crate::job::SlotDone;
-use crate::run::{ConnLog, SlotEnd};
+use crate::job::PoolDone;
+use crate::run::ConnLog;
 use lane_pool::SlotPass;
+use link_slots::{SlotDone, SlotEnd};
 use orb_base::NoMemory;
 use std::alloc::Global;
 
@@ -51,20 +52,22 @@ pub fn no_parts<A: Drop, I: Drop, O: Drop>(
 /// Puts what one slot left behind the parts.
 fn put_behind<A: Drop, I: Drop, O: Drop>(
     parts: Parts<A, I, O>,
-    done: SlotDone<A, I, O>,
+    done: PoolDone<A, I, O>,
 ) -> Parts<A, I, O>
     requires passes { length parts.passes.items + 1 ≤ vec_capacity parts.passes }
     requires acceptors { length parts.acceptors.items + 1 ≤ vec_capacity parts.acceptors }
     requires conns { length parts.conns.items + length done.logs.items ≤ vec_capacity parts.conns }
     requires ends { length parts.ends.items + 1 ≤ vec_capacity parts.ends }
-    ensures passes { (result.passes.items ≡ parts.passes.items ++ done.pass ∷ []) × (vec_capacity result.passes ≡ vec_capacity parts.passes) }
-    ensures acceptors { (result.acceptors.items ≡ parts.acceptors.items ++ done.acceptor ∷ []) × (vec_capacity result.acceptors ≡ vec_capacity parts.acceptors) }
+    ensures passes { (result.passes.items ≡ parts.passes.items ++ done.place ∷ [])
+        × (vec_capacity result.passes ≡ vec_capacity parts.passes) }
+    ensures acceptors { (result.acceptors.items ≡ parts.acceptors.items ++ done.acceptor ∷ [])
+        × (vec_capacity result.acceptors ≡ vec_capacity parts.acceptors) }
     ensures conns { (result.conns.items ≡ parts.conns.items ++ done.logs.items) × (vec_capacity parts.conns ≤ vec_capacity result.conns) }
     ensures ends { (result.ends.items ≡ parts.ends.items ++ done.end ∷ []) × (vec_capacity result.ends ≡ vec_capacity parts.ends) }
 {
     let mut parts = parts;
     let SlotDone {
-        pass,
+        place: pass,
         acceptor,
         mut logs,
         end,
@@ -80,7 +83,7 @@ fn put_behind<A: Drop, I: Drop, O: Drop>(
 
 /// Takes apart what all slots left, in order.
 pub fn take_apart<A: Drop, I: Drop, O: Drop>(
-    done: Vec<SlotDone<A, I, O>>,
+    done: Vec<PoolDone<A, I, O>>,
     none: Parts<A, I, O>,
 ) -> Parts<A, I, O>
     requires empty { (none.passes.items ≡ []) × (none.acceptors.items ≡ []) × (none.conns.items ≡ []) × (none.ends.items ≡ []) }

@@ -2,10 +2,10 @@
 //! pool, have a thread of their own where one can be made. All call one lane machine, and what a run leaves is told of its one history.
 //! Own profile, over CORBA 3.0.3, section 15.4, and Real-time CORBA 1.2, Threadpools.
 //!
-//! Threads are started by `std::thread::join` alone, two closures at a time: first the workers, one inside another, then the slots, and in
-//! each slot the writing side beside the reading side. A thread that can't be made has its part done behind the others'; nothing is said of
-//! progress then, and a slot may wait for ever for a worker that hasn't begun. All memory of a run but that of its reading sides and of its
-//! requests is taken before the first thread.
+//! The workers and the slots are each a list of jobs that run side by side, by `side_by_side::run_all`, and a slot is that of
+//! `link_slots::run_slot`; in each slot the writing side runs beside the reading side. A thread that can't be made has its part done
+//! after the others'; nothing is said of progress then, and a slot may wait for ever for a worker that hasn't begun. All memory of a
+//! run but that of its reading sides and of its requests is taken before the first thread.
 //!
 //! | What `serve_run` promises | Clause |
 //! |---|---|
@@ -16,15 +16,17 @@
 //! | A thread takes only what was admitted, of its lane or lent from a lower one | `lanes`, `admitted` |
 #![tactic(auto)]
 
-mod fork;
 mod give;
 mod job;
+mod laws;
 mod link;
 mod prepare;
 mod run;
 mod serve;
-mod slot;
+mod slots;
 mod staff;
 
-pub use run::{ConnLog, Run, SlotEnd};
+pub use laws::a_run_ends_at_rest;
+pub use link_slots::SlotEnd;
+pub use run::{ConnLog, Run};
 pub use serve::serve_run;

@@ -8,9 +8,10 @@ ghost use Rattle.lane_pool.specs.Turns.{AllRest, AllIdle};
 ghost use Rattle.orb_server.specs.Threads.{IsPoolOf, AreResting, AreStarts, AreJobs, acceptors_of, AreIdle};
 
 use crate::give::{Parts, no_parts};
-use crate::job::{SlotDone, SlotJob, SlotStart};
+use crate::job::{PoolDone, PoolJob, SlotStart};
 use adapter_policies::Setup;
 use lane_pool::{LanePool, Opened, RootPass, SlotPass, WorkerPass, open};
+use link_slots::SlotJob;
 use orb_base::NoMemory;
 use std::alloc::Global;
 
@@ -21,14 +22,16 @@ pub struct Prepared<A, I, O> {
     pub root: RootPass,
     pub starts: Vec<SlotStart<I, O>>,
     pub workers: Vec<WorkerPass>,
-    pub jobs: Vec<SlotJob<A, I, O>>,
-    pub done: Vec<SlotDone<A, I, O>>,
+    pub worked: Vec<WorkerPass>,
+    pub jobs: Vec<PoolJob<A, I, O>>,
+    pub done: Vec<PoolDone<A, I, O>>,
     pub parts: Parts<A, I, O>,
 }
 
 /// Opens the setup's pool.
 fn open_pool(alloc: Global, setup: &Setup) -> Result<Opened, NoMemory>
-    ensures opened { IfOk result (λ o. IsOpen setup.now.pool setup.now.slots setup.now.per_slot o.pool.cell o.root o.slots.items o.workers.items) }
+    ensures opened { IfOk result (λ o. IsOpen setup.now.pool setup.now.slots setup.now.per_slot o.pool.cell o.root
+        o.slots.items o.workers.items) }
     ensures slots { IfOk result (λ o. AllRest o.pool.cell 0 o.slots.items) }
     ensures workers { IfOk result (λ o. AllIdle o.pool.cell 0 o.workers.items) }
     ensures well_formed { IsWellFormed setup.now.pool }
@@ -72,8 +75,8 @@ pub fn give_acceptors<A: Drop, I: Drop, O: Drop>(
     pool: &LanePool,
     starts: Vec<SlotStart<I, O>>,
     acceptors: Vec<A>,
-    none: Vec<SlotJob<A, I, O>>,
-) -> Vec<SlotJob<A, I, O>>
+    none: Vec<PoolJob<A, I, O>>,
+) -> Vec<PoolJob<A, I, O>>
     requires starts { AreStarts setup.now pool.now.cell 0 starts.items }
     requires same { length starts.items ≡ length acceptors.items }
     requires room { (none.items ≡ []) × (length starts.items ≤ vec_capacity none) }
@@ -91,7 +94,7 @@ pub fn give_acceptors<A: Drop, I: Drop, O: Drop>(
             Some(acceptor) => {
                 let mut jobs = give_acceptors(setup, pool, starts, acceptors, none);
                 jobs.push_reserved(SlotJob {
-                    pass,
+                    place: pass,
                     acceptor,
                     logs,
                 });
@@ -112,6 +115,7 @@ pub fn prepare<A: Drop, I: Drop, O: Drop>(
     ensures starts { IfOk result (λ p. AreStarts setup.now p.pool.cell 0 p.starts.items × (length p.starts.items ≡ setup.now.slots)) }
     ensures workers { IfOk result (λ p. AreIdle p.pool.cell (setup.now.slots + 1) 0 p.workers.items
         × (length p.workers.items ≡ length (pool_threads 0 setup.now.pool.lanes))) }
+    ensures worked { IfOk result (λ p. (p.worked.items ≡ []) × (length (pool_threads 0 setup.now.pool.lanes) ≤ vec_capacity p.worked)) }
     ensures jobs { IfOk result (λ p. (p.jobs.items ≡ []) × (setup.now.slots ≤ vec_capacity p.jobs)) }
     ensures done { IfOk result (λ p. (p.done.items ≡ []) × (setup.now.slots ≤ vec_capacity p.done)) }
     ensures empty { IfOk result (λ p. (p.parts.passes.items ≡ []) × (p.parts.acceptors.items ≡ []) × (p.parts.conns.items ≡ [])
@@ -131,6 +135,10 @@ pub fn prepare<A: Drop, I: Drop, O: Drop>(
         return Err(NoMemory);
     };
     let starts = make_starts(alloc, setup, &pool, passes.into_vec(), none)?;
+    let workers = workers.into_vec();
+    let Ok(worked) = Vec::with_capacity(alloc, workers.len()) else {
+        return Err(NoMemory);
+    };
     let Ok(jobs) = Vec::with_capacity(alloc, count) else {
         return Err(NoMemory);
     };
@@ -142,7 +150,8 @@ pub fn prepare<A: Drop, I: Drop, O: Drop>(
         pool,
         root,
         starts,
-        workers: workers.into_vec(),
+        workers,
+        worked,
         jobs,
         done,
         parts,

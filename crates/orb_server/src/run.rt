@@ -2,21 +2,9 @@
 
 use conn_sides::{ReadSideEnd, WriteEnd};
 use lane_machine::Lanes;
+use link_slots::SlotEnd;
 use orb_base::{ConnId, List};
 use turn_cell::Entry;
-
-/// How a slot came out.
-#[derive(Clone, Copy, Debug, PartialEq, Eq)]
-pub enum SlotEnd {
-    /// Its acceptor answered that no link is left.
-    Done,
-    /// It served as many connections as a slot may.
-    Served,
-    /// Its last connection was told to close: a limit of the run was met, or too much came by it.
-    Closed,
-    /// An accept failed.
-    AcceptFault,
-}
 
 /// What one connection leaves.
 #[derive(Drop)]
@@ -35,6 +23,7 @@ pub struct Run<I, O> {
     pub history: List<Entry<Lanes>>,
     /// All connections, in order of their slots, and each slot's in its order.
     pub conns: List<ConnLog<I, O>>,
-    /// How each slot came out.
+    /// How each slot came out: one is closed where its last connection was told to close, since a limit of the run was met or
+    /// too much came by it.
     pub slots: List<SlotEnd>,
 }

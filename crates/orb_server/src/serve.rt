@@ -12,7 +12,7 @@ ghost use Rattle.orb_server.specs.Runs.{opening_of, IsLawful, AllSlotsRan, Slots
 use crate::give::{Parts, take_apart};
 use crate::prepare::{Prepared, give_acceptors, prepare};
 use crate::run::Run;
-use crate::staff::{Staff, run_staff};
+use crate::staff::{Crew, Staff, run_staff};
 use adapter_policies::Setup;
 use lane_laws::{all_is_done, each_in_one_place};
 use lane_pool::{LanePool, RootPass};
@@ -70,7 +70,12 @@ fn close_run<A: Acceptor + Drop, S: Serving>(
 }
 
 /// Runs all workers and slots over these acceptors, and closes the pool.
-fn run_all<A: Acceptor + Send + Drop, S: Serving + Sync, G: Gate + Sync, R: Wait + Threads + Sync>(
+fn run_prepared<
+    A: Acceptor + Send + Drop,
+    S: Serving + Sync,
+    G: Gate + Sync,
+    R: Wait + Threads + Sync,
+>(
     rt: &R,
     alloc: Global,
     setup: &Setup,
@@ -85,12 +90,14 @@ fn run_all<A: Acceptor + Send + Drop, S: Serving + Sync, G: Gate + Sync, R: Wait
     requires starts { AreStarts setup.now prepared.pool.cell 0 prepared.starts.items × (length prepared.starts.items ≡ setup.now.slots) }
     requires workers { AreIdle prepared.pool.cell (setup.now.slots + 1) 0 prepared.workers.items
         × (length prepared.workers.items ≡ length (pool_threads 0 setup.now.pool.lanes)) }
+    requires worked { (prepared.worked.items ≡ []) × (length (pool_threads 0 setup.now.pool.lanes) ≤ vec_capacity prepared.worked) }
     requires jobs { (prepared.jobs.items ≡ []) × (setup.now.slots ≤ vec_capacity prepared.jobs) }
     requires done { (prepared.done.items ≡ []) × (setup.now.slots ≤ vec_capacity prepared.done) }
     requires empty { (prepared.parts.passes.items ≡ []) × (prepared.parts.acceptors.items ≡ []) × (prepared.parts.conns.items ≡ [])
         × (prepared.parts.ends.items ≡ []) }
     requires room { (setup.now.slots ≤ vec_capacity prepared.parts.passes) × (setup.now.slots ≤ vec_capacity prepared.parts.acceptors)
-        × (setup.now.slots * setup.now.per_slot ≤ vec_capacity prepared.parts.conns) × (setup.now.slots ≤ vec_capacity prepared.parts.ends) }
+        × (setup.now.slots * setup.now.per_slot ≤ vec_capacity prepared.parts.conns)
+        × (setup.now.slots ≤ vec_capacity prepared.parts.ends) }
     ensures lawful { IsLawful setup.now result.0.history.items }
     ensures slots { AllSlotsRan A.state A.In.state A.Out.state setup.now result.0.history.items acceptors.items result.1.items
         result.0.conns.items result.0.slots.items }
@@ -104,15 +111,19 @@ fn run_all<A: Acceptor + Send + Drop, S: Serving + Sync, G: Gate + Sync, R: Wait
         root,
         starts,
         workers,
+        worked,
         jobs,
         done,
         parts,
     } = prepared;
     let jobs = give_acceptors(setup, &pool, starts, acceptors, jobs);
-    let first = setup.slots() + 1;
-    let staff = run_staff(
-        rt, alloc, setup, &pool, servants, gate, first, workers, jobs, done,
-    );
+    let crew = Crew {
+        workers,
+        worked,
+        jobs,
+        done,
+    };
+    let staff = run_staff(rt, alloc, setup, &pool, servants, gate, crew);
     close_run(pool, root, setup, servants, staff, parts)
 }
 
@@ -139,8 +150,8 @@ pub fn serve_run<
     // All calls are one legal history, in which each was fit for its caller.
     ensures lawful { IfOk result (λ run. IsLawful setup.now run.history.items) }
     // Each connection's calls are what its bytes mean, and its output is what the history says.
-    ensures slots { IfOk result (λ run. AllSlotsRan A.state A.In.state A.Out.state setup.now run.history.items slots.old.items slots.new.items
-        run.conns.items run.slots.items) }
+    ensures slots { IfOk result (λ run. AllSlotsRan A.state A.In.state A.Out.state setup.now run.history.items slots.old.items
+        slots.new.items run.conns.items run.slots.items) }
     // Each admitted request that its client did not withdraw ran once, on a thread of its lane or one lent from a lower lane.
     ensures workers { IfOk result (λ run. WorkersRan setup.now (S.outcome servants.now) run.history.items) }
     ensures once { IfOk result (λ run. RunsOnce (opening_of setup.now) run.history.items) }
@@ -150,7 +161,7 @@ pub fn serve_run<
 {
     let prepared = prepare(alloc, setup)?;
     let acceptors = mem::replace(slots, List::new(alloc)).into_vec();
-    let (run, acceptors) = run_all(rt, alloc, setup, servants, gate, acceptors, prepared);
+    let (run, acceptors) = run_prepared(rt, alloc, setup, servants, gate, acceptors, prepared);
     *slots = List::from_vec(acceptors);
     Ok(run)
 }

@@ -14,11 +14,12 @@ use Rattle.conn_sides.specs.declared.read_side_end.ReadSideEnd.{ReadSideEnd}
 use Rattle.conn_sides.specs.declared.read_side_end.ReadSideEnd.TheVariants as side
 use Rattle.orb_server.specs.Connections.{Conn, conn_at, IsHeard, IsServed, AreServed}
 use Rattle.orb_server.specs.Runs.{Slot, SlotRan, SlotsRan}
-use Rattle.orb_server.specs.SlotEnds.{closed_behind, HasCause}
+use Rattle.link_slots.specs.SlotEnds.{HasCause}
+use Rattle.orb_server.specs.SlotEnds.{closed_behind}
 use Rattle.orb_server.specs.Slots.{logs_of}
 use Rattle.orb_server.specs.declared.run.ConnLog.{ConnLog}
-use Rattle.orb_server.specs.declared.run.SlotEnd.{SlotEnd}
-use Rattle.orb_server.specs.declared.run.SlotEnd.TheVariants.{Done, Served, Closed, AcceptFault}
+use Rattle.link_slots.specs.declared.slot_end.SlotEnd.{SlotEnd}
+use Rattle.link_slots.specs.declared.slot_end.SlotEnd.TheVariants.{Done, Served, Closed, AcceptFault}
 use Rattle.server_runs.specs.Complete.{ReadsWell, WentWell, AcceptsWell, AllWentWell, IsComplete, AreComplete, ServedAll, SlotComplete, AllComplete}
 
 module _ {I O : Type 0} (source : I → SourceState) (sink : O → SinkState) (setup : SetupData) where

@@ -21,10 +21,11 @@ use Rattle.conn_sides.specs.declared.read_side_end.ReadSideEnd.TheVariants as si
 use Rattle.orb_server.specs.Connections.{Conn, conn_at}
 use Rattle.orb_server.specs.Runs.{Slot}
 use Rattle.orb_server.specs.SlotEnds.{closed_behind}
-use Rattle.orb_server.specs.Slots.{logs_of, links_of, HandsOut}
+use Rattle.link_slots.specs.Slots.{HandsOut}
+use Rattle.orb_server.specs.Slots.{logs_of, links_of}
 use Rattle.orb_server.specs.declared.run.ConnLog.{ConnLog}
-use Rattle.orb_server.specs.declared.run.SlotEnd.{SlotEnd}
-use Rattle.orb_server.specs.declared.run.SlotEnd.TheVariants.{Done, Served, Closed, AcceptFault}
+use Rattle.link_slots.specs.declared.slot_end.SlotEnd.{SlotEnd}
+use Rattle.link_slots.specs.declared.slot_end.SlotEnd.TheVariants.{Done, Served, Closed, AcceptFault}
 
 -- no read failed, no call was answered Closing, and memory was not wanting
 abbrev pub ReadsWell : ReadSideEnd → Type 0

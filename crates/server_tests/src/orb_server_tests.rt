@@ -21,16 +21,18 @@ use std::thread;
 use std::thread::Threads;
 use turn_cell::Entry;
 
-/// Answers each request with an empty body.
+/// Answers each request with an empty body, and counts its invocations.
 #[derive(Drop)]
-struct Quick {
+struct Quick<'a> {
     alloc: Global,
+    invoked: &'a AtomicU64,
 }
 
-impl Serving for Quick {
+impl Serving for Quick<'_> {
     ghost outcome = { λ _ _ _. Returned [] };
 
     fn invoke(&self, _interface: &Text, _job: &Job) -> Outcome {
+        self.invoked.fetch_add(1, Ordering::SeqCst);
         match SharedOctets::new(self.alloc, List::new(self.alloc)) {
             Ok(body) => Outcome::Returned(body),
             Err(NoMemory) => Outcome::System(Sys {
@@ -42,12 +44,14 @@ impl Serving for Quick {
     }
 }
 
-/// Holds the worker of request 1 until a number is 1, as it is once request 2 was carried out.
+/// Holds the worker of request 1 until a number is 1, as it is once request 2 was carried out, and counts its calls.
 #[derive(Drop)]
 struct Held<'a> {
     until: &'a AtomicU64,
     /// 1 where the worker of request 1 looked too often.
     missed: &'a AtomicU64,
+    entered: &'a AtomicU64,
+    left: &'a AtomicU64,
 }
 
 /// How often the worker of request 1 looks.
@@ -55,12 +59,14 @@ const LOOKS: u64 = 100_000_000;
 
 impl Gate for Held<'_> {
     fn enter(&self, job: &Job) {
+        self.entered.fetch_add(1, Ordering::SeqCst);
         if job.id == 1 && !look(self.until, 1) {
             self.missed.store(1, Ordering::SeqCst);
         }
     }
 
     fn leave(&self, job: &Job) {
+        self.left.fetch_add(1, Ordering::SeqCst);
         if job.id == 2 {
             self.until.store(1, Ordering::SeqCst);
         }
@@ -414,19 +420,25 @@ fn serves<R: Wait + Threads + Sync>(
     setup: &Setup,
     slots: &mut List<MemAcceptor>,
     gate: &Held<'_>,
+    quick: &Quick<'_>,
     row: &Row,
 ) -> bool {
     if slots.len() != usize::from(setup.slots()) {
         return false;
     }
-    let quick = Quick { alloc };
-    match serve_run(rt, alloc, setup, &quick, slots, gate) {
+    match serve_run(rt, alloc, setup, quick, slots, gate) {
         Ok(run) => comes_out(&run, row),
         Err(_) => false,
     }
 }
 
-/// Whether a run comes out so, and the gate held nobody too long.
+/// Whether a number was counted to.
+fn counted(number: &AtomicU64, want: u32) -> bool {
+    number.load(Ordering::SeqCst) == u64::from(want)
+}
+
+/// Whether a run comes out so, the gate held nobody too long, and the gate was entered and left and the servant invoked once for each
+/// request that was finished.
 fn serves_held<R: Wait + Threads + Sync>(
     rt: &R,
     alloc: Global,
@@ -436,11 +448,24 @@ fn serves_held<R: Wait + Threads + Sync>(
 ) -> bool {
     let until = AtomicU64::new(row.until);
     let missed = AtomicU64::new(0);
+    let entered = AtomicU64::new(0);
+    let left = AtomicU64::new(0);
+    let invoked = AtomicU64::new(0);
     let gate = Held {
         until: &until,
         missed: &missed,
+        entered: &entered,
+        left: &left,
     };
-    serves(rt, alloc, setup, slots, &gate, row) && missed.load(Ordering::SeqCst) == 0
+    let quick = Quick {
+        alloc,
+        invoked: &invoked,
+    };
+    serves(rt, alloc, setup, slots, &gate, &quick, row)
+        && counted(&missed, 0)
+        && counted(&entered, row.finished)
+        && counted(&left, row.finished)
+        && counted(&invoked, row.finished)
 }
 
 fn runs<R: Wait + Threads + Sync>(rt: &R, alloc: Global, setup: &Setup, row: &Row) -> bool {
@@ -689,6 +714,7 @@ fn replies<'a, R: Wait + Threads + Sync>(
     alloc: Global,
     setup: &Setup,
     gate: &Held<'_>,
+    quick: &Quick<'_>,
     once: Once<'a>,
     talk: &Talk,
 ) -> bool {
@@ -696,8 +722,7 @@ fn replies<'a, R: Wait + Threads + Sync>(
     if slots.push(once).is_err() || slots.len() != usize::from(setup.slots()) {
         return false;
     }
-    let quick = Quick { alloc };
-    match serve_run(rt, alloc, setup, &quick, &mut slots, gate) {
+    match serve_run(rt, alloc, setup, quick, &mut slots, gate) {
         Ok(run) => has_replied(&run, talk.replies),
         Err(_) => false,
     }
@@ -714,9 +739,18 @@ fn talks_over<R: Wait + Threads + Sync>(rt: &R, alloc: Global, setup: &Setup, ta
     let written = AtomicU64::new(0);
     let met = AtomicU64::new(talk.until);
     let missed = AtomicU64::new(0);
+    let entered = AtomicU64::new(0);
+    let left = AtomicU64::new(0);
+    let invoked = AtomicU64::new(0);
     let gate = Held {
         until: &met,
         missed: &missed,
+        entered: &entered,
+        left: &left,
+    };
+    let quick = Quick {
+        alloc,
+        invoked: &invoked,
     };
     let once = Once {
         alloc,
@@ -728,7 +762,7 @@ fn talks_over<R: Wait + Threads + Sync>(rt: &R, alloc: Global, setup: &Setup, ta
         left: true,
         ends: 0,
     };
-    replies(rt, alloc, setup, &gate, once, talk)
+    replies(rt, alloc, setup, &gate, &quick, once, talk) && counted(&invoked, 2)
 }
 
 fn talks<R: Wait + Threads + Sync>(rt: &R, alloc: Global, talk: &Talk) -> bool {

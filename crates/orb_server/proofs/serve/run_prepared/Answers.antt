@@ -2,7 +2,7 @@ use Rattle.std.proofs.Common.{◌≡◌, ◌*◌, ◌≤◌, length, subst, ◌�
 use Rattle.orb_server.specs.Threads.{acceptors_of, AreDone}
 use Rattle.orb_server.specs.Giving.{conns_of}
 use Rattle.orb_server.proofs.Closing.{all_home, few_conns}
-use Rattle.orb_server.proofs.serve.run_all.Goals as goal
+use Rattle.orb_server.proofs.serve.run_prepared.Goals as goal
 
 pub close_run-requires-clause-home : goal.close_run-requires-clause-home
 close_run-requires-clause-home g c κs within = (
