@@ -1,5 +1,6 @@
 -- Addresses on a command line, HOST:PORT: own profile.
-use Rattle.std.specs.Prelude.{ℕ, ◌+◌, ◌==◌, ◌&&◌, nat_le, nat_lt, List, take, drop, length, position, Option, Some, None, option_map, is_none, if◌then◌else◌}
+use Rattle.std.specs.Prelude.{ℕ, ◌+◌, ◌==◌, ◌&&◌, nat_le, nat_lt, List, take, drop, length, position}
+use Rattle.std.specs.Prelude.{Option, Some, None, option_map, is_none, if◌then◌else◌}
 use Rattle.std.specs.Option.{option_and_then}
 use Rattle.orb_base.specs.NulFree.{nul_at}
 use Rattle.object_refs.specs.LocationReading.{port_number}
@@ -20,7 +21,8 @@ host_of host = if nat_lt 0 (length host) && nat_le (length host) 255 && is_none 
 -- the address of a host of so many bytes, behind which a colon and 1 to 10 digits of a port stand
 unfoldable pub address_at : List ℕ → ℕ → Option Place
 address_at word len =
-    option_and_then (λ port. option_map (λ host. record { host = host; port = port }) (host_of (take len word))) (port_number 10 (drop (len + 1) word))
+    option_and_then (λ port. option_map (λ host. record { host = host; port = port }) (host_of (take len word)))
+    (port_number 10 (drop (len + 1) word))
 
 -- the address that a word is: its host goes to the first colon
 unfoldable pub address_of : List ℕ → Option Place

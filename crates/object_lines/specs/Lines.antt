@@ -1,5 +1,5 @@
 -- The line of each object of a setup, and what writing the lines comes to: own profile.
-use Rattle.std.specs.Prelude.{◌≡◌, ◌⊎◌, ℕ, List, [], ◌++◌, codes, Option, Ok, Err, slice_get}
+use Rattle.std.specs.Prelude.{◌≡◌, ℕ, List, [], ◌++◌, codes, Option, Ok, Err, slice_get}
 use Rattle.std.specs.List.{flat_map}
 use Rattle.std.specs.Option.{option_map_or}
 use Rattle.orb_base.specs.Filing.{FilesState}
@@ -9,13 +9,13 @@ use Rattle.object_refs.specs.References.{stringified}
 use Rattle.adapter_policies.specs.Publishing.{reference_of}
 use Rattle.adapter_policies.specs.SetupData.{SetupData}
 use Rattle.adapter_policies.specs.declared.object_spec.ObjectSpec.{ObjectSpec}
-use Rattle.dynamic_servants.specs.declared.servants.Servants.{Servants}
-use Rattle.setup_servants.specs.Servants.{GivesServants}
+use Rattle.setup_files.specs.Brokers.{GivesBroker}
+use Rattle.setup_files.specs.declared.broker.Broker.{Broker}
 use Rattle.text_streams.specs.Shown.{shown}
 use Rattle.text_streams.specs.Streams.{WroteText, WroteFrontOf}
-use Rattle.object_lines.specs.Setups.{GivesSetup}
+use Rattle.object_lines.specs.Addresses.{Place}
 use Rattle.object_lines.specs.declared.at_end.AtEnd.{AtEnd}
-use Rattle.object_lines.specs.declared.at_end.AtEnd.TheVariants.{Done, Unserved, WriteFault, NoMemory}
+use Rattle.object_lines.specs.declared.at_end.AtEnd.TheVariants.{Done, NoBroker, WriteFault, NoMemory}
 
 -- a key, and the text of a reference
 abbrev pub line_of : List ℕ → Reference → List ℕ
@@ -29,28 +29,15 @@ line_text setup host port o = option_map_or (λ a. line_of o.key (reference_of a
 abbrev pub lines_text : SetupData → List ℕ → ℕ → List ℕ
 lines_text setup host port = flat_map (line_text setup host port) setup.objects
 
--- all lines were written, or a front of them up to a fault; nothing where memory was wanting
+-- all lines were written, or a prefix of them up to a fault; nothing where memory ran out
 abbrev pub WritesLines : AtEnd → List ℕ → SinkState → SinkState → Type 0
 WritesLines Done text out out' = WroteText text out out' × (out'.faults ≡ out.faults)
 WritesLines WriteFault text out out' = WroteFrontOf text out out' × Rose out.faults out'.faults
 WritesLines NoMemory text out out' = out' ≡ out
 WritesLines _ text out out' = ⊥
 
--- the objects of a setup are served, by the texts that are in these files
-abbrev pub IsServed : SetupData → FilesState → FilesState → Type 0
-IsServed setup old new = (s : Servants) × GivesServants (Ok s) setup old new
-
--- what comes of a setup: its lines where its objects are served, else why there are none
-abbrev pub Comes : AtEnd → SetupData → List ℕ → ℕ → FilesState → FilesState → SinkState → SinkState → Type 0
-Comes Done setup host port old new out out' = IsServed setup old new × WritesLines Done (lines_text setup host port) out out'
-Comes WriteFault setup host port old new out out' = IsServed setup old new × WritesLines WriteFault (lines_text setup host port) out out'
-Comes (Unserved f) setup host port old new out out' = GivesServants (Err f) setup old new × (out' ≡ out)
-Comes NoMemory setup host port old new out out' = IsServed setup old new × (out' ≡ out)
-Comes _ setup host port old new out out' = ⊥
-
--- what comes of the configuration of a name, or of the built-in setup: of its setup, or why there is none
-abbrev pub At : AtEnd → Option (List ℕ) → List ℕ → ℕ → FilesState → FilesState → SinkState → SinkState → Type 0
-At end config host port old new out out' =
-    ((setup : SetupData) × (behind : FilesState) × GivesSetup (Ok setup) config old behind × (behind.files ≡ old.files)
-    × Comes end setup host port behind new out out')
-    ⊎ (GivesSetup (Err end) config old new × (out' ≡ out))
+-- what comes of the configuration of a name, or of the built-in setup: its lines, where it has servants, or why it has none
+abbrev pub At : AtEnd → Option (List ℕ) → Place → FilesState → FilesState → SinkState → SinkState → Type 0
+At (NoBroker why) config at old new out out' = GivesBroker (Err why) config old new × (out' ≡ out)
+At end config at old new out out' =
+    (broker : Broker) × GivesBroker (Ok broker) config old new × WritesLines end (lines_text broker.setup at.host at.port) out out'

@@ -6,9 +6,7 @@ mod address;
 mod at_end;
 mod lines;
 mod run;
-mod setups;
 
 pub use address::{Address, read_address};
-pub use at_end::{AtEnd, MAX_CONFIG};
+pub use at_end::AtEnd;
 pub use run::at_run;
-pub use setups::setup_of;

@@ -5,19 +5,14 @@ use Rattle.object_lines.specs.Lines.{At}
 use Rattle.object_lines.specs.declared.at_end.AtEnd.{AtEnd}
 use Rattle.object_lines.specs.declared.at_end.AtEnd.TheVariants as end
 use Rattle.orb_command.specs.Moment.{Moment}
-use Rattle.orb_command.specs.ServingNotes.{serving_note}
+use Rattle.orb_command.specs.SetupNotes.{setup_note}
 use Rattle.orb_command.specs.declared.note.Note.{Note}
-use Rattle.orb_command.specs.declared.note.Note.TheVariants.{Nothing, Config, TooLong, ReadFault, WriteFault, Absent, Memory}
-use Rattle.orb_command.specs.declared.note.Role.TheVariants as role
+use Rattle.orb_command.specs.declared.note.Note.TheVariants.{Nothing, WriteFault, Memory}
 
 -- the note of a run
 abbrev pub at_note : AtEnd → Note
 at_note end.Done = Nothing
-at_note (end.Refused fault) = Config fault
-at_note end.Absent = Absent role.Config
-at_note end.TooLong = TooLong role.Config
-at_note (end.Unserved fault) = serving_note fault
-at_note end.ReadFault = ReadFault
+at_note (end.NoBroker why) = setup_note why
 at_note end.WriteFault = WriteFault
 at_note end.NoMemory = Memory
 
@@ -25,5 +20,5 @@ at_note end.NoMemory = Memory
 pub record AtAnswers (place : Place) (config : Option (List ℕ)) (note : Note) (before after : Moment) : Type 0 where
   pub answer : AtEnd
   pub told : note ≡ at_note answer
-  pub at : At answer config place.host place.port before.files after.files before.out after.out
+  pub at : At answer config place before.files after.files before.out after.out
   pub input : after.input ≡ before.input

@@ -8,7 +8,9 @@ use Rattle.command_words.specs.declared.meaning.Meaning.TheVariants.{Pipe, Serve
 use Rattle.orb_command.specs.declared.answered.Answered.{Answered}
 use Rattle.orb_command.specs.declared.answered.Reported.{Reported}
 use Rattle.orb_command.specs.declared.note.Note.{Note}
-use Rattle.orb_command.specs.declared.note.Note.TheVariants.{Nothing, Usage, Config, Idl as IdlNote, Script, Check, TooLong, ReadFault, WriteFault, NetFault, Input, Absent, Reference, Memory, Limit, NotBuilt}
+use Rattle.orb_command.specs.declared.serve.ServeTold.{ServeTold}
+use Rattle.orb_command.specs.declared.note.Note.TheVariants.{Nothing, Usage, Config, Idl as IdlNote, Script, Check, TooLong, ReadFault}
+use Rattle.orb_command.specs.declared.note.Note.TheVariants.{WriteFault, NetFault, Input, Absent, Reference, Memory, Limit, NotBuilt}
 use Rattle.conn_engine.specs.declared.read_end.TheConstants.{MAX_TAKEN}
 use Rattle.pipe_runs.specs.declared.piped.Piped.{Piped}
 use Rattle.giop_dump.specs.declared.dump_end.TheConstants.{MAX_DUMPED}
@@ -90,6 +92,10 @@ module _ {A I O : Type 0} where
   abbrev pub report_of : Answered A I O → Reported
   report_of answered = record { status = answered.status; note = answered.note; piped = answered.piped }
 
+  -- the server's part
+  abbrev pub serve_told : Answered A I O → ServeTold A I O
+  serve_told answered = record { note = answered.note; run = answered.run; acceptors = answered.acceptors }
+
   -- nothing was served
   pub record ServesNothing (answered : Answered A I O) (net net' : NetState I O) : Type 0 where
     pub run : answered.run ≡ None
@@ -100,7 +106,7 @@ module _ {A I O : Type 0} where
     -- what was served, by what the words mean: nothing but by the server
     abbrev pub ServedBy : Meaning → Answered A I O → Moment → Moment → NetState I O → NetState I O → Type 0
     ServedBy (Serve words) answered before after net net' =
-        ServesBy state source sink words answered.note answered.run answered.acceptors.items before.files after.files net net' before.out after.out
+        ServesBy state source sink words (serve_told answered) before.files after.files net net' before.out after.out
     ServedBy (Pipe words) answered before after net net' = ServesNothing answered net net'
     ServedBy Dump answered before after net net' = ServesNothing answered net net'
     ServedBy Refs answered before after net net' = ServesNothing answered net net'

@@ -7,7 +7,8 @@ use Rattle.orb_command.specs.Moment.{Moment}
 use Rattle.command_words.specs.declared.meaning.Meaning.{Meaning}
 use Rattle.command_words.specs.declared.meaning.Meaning.TheVariants.{Pipe, Serve, Dump, Refs, RefsAt, Idl, Unbuilt, Unread}
 use Rattle.orb_command.specs.declared.note.Note.{Note}
-use Rattle.orb_command.specs.declared.note.Note.TheVariants.{Nothing, Usage, Config, Idl as IdlNote, Script, Check, TooLong, ReadFault, WriteFault, NetFault, Input, Absent, Reference, Memory, Limit, NotBuilt}
+use Rattle.orb_command.specs.declared.note.Note.TheVariants.{Nothing, Usage, Config, Idl as IdlNote, Script, Check, TooLong, ReadFault}
+use Rattle.orb_command.specs.declared.note.Note.TheVariants.{WriteFault, NetFault, Input, Absent, Reference, Memory, Limit, NotBuilt}
 
 -- of a command over the input, but for the pipe: none but at a fault, the input's alone at a read fault, and the output's alone at a
 -- write fault. A reference that is too long is told also where the next read fails. Such a command refuses no file

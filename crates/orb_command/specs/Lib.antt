@@ -1,5 +1,5 @@
 pub mod Moment
-pub mod ServingNotes
+pub mod SetupNotes
 pub mod AtAnswer
 pub mod IdlAnswer
 pub mod PipeAnswer

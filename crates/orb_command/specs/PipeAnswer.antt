@@ -1,17 +1,13 @@
 -- What the note of the pipe means.
-use Rattle.std.specs.Prelude.{◌≡◌, ◌⊎◌, ℕ, Option, Some, None, Result, Ok, Err}
-use Rattle.orb_base.specs.Filing.{FilesState}
+use Rattle.std.specs.Prelude.{◌≡◌, ◌⊎◌, Option, Some, None, Result, Ok, Err}
 use Rattle.orb_base.specs.Outside.{SourceState, SinkState}
 use Rattle.orb_base.specs.declared.no_memory.NoMemory.{NoMemory}
 use Rattle.giop_messages.specs.declared.refused.Fault.TheVariants as fault
-use Rattle.adapter_policies.specs.SetupData.{SetupData}
-use Rattle.object_lines.specs.Setups.{GivesSetup}
-use Rattle.object_lines.specs.declared.at_end.AtEnd.{AtEnd}
 use Rattle.dynamic_servants.specs.Outcome.{outcome_of}
 use Rattle.dynamic_servants.specs.Served.{served_of}
-use Rattle.dynamic_servants.specs.declared.servants.Servants.{Servants}
-use Rattle.setup_servants.specs.Servants.{GivesServants}
-use Rattle.setup_servants.specs.declared.fault.ServingFault.{ServingFault}
+use Rattle.setup_files.specs.Brokers.{GivesBroker}
+use Rattle.setup_files.specs.declared.broker.Broker.{Broker}
+use Rattle.setup_files.specs.declared.setup_end.SetupEnd.{SetupEnd}
 use Rattle.heard_calls.specs.declared.ending.Ending.{Ending}
 use Rattle.heard_calls.specs.declared.ending.Ending.TheVariants.{Ended, Cut, Broken}
 use Rattle.conn_engine.specs.declared.read_end.ReadEnd.{ReadEnd}
@@ -20,11 +16,9 @@ use Rattle.conn_engine.specs.declared.stream_end.StreamEnd.{StreamEnd}
 use Rattle.conn_engine.specs.declared.stream_end.StreamEnd.TheVariants as stream
 use Rattle.pipe_runs.specs.Pipe.{Pipes}
 use Rattle.pipe_runs.specs.declared.piped.Piped.{Piped}
-use Rattle.pipe_runs.specs.declared.shown.Shown.{Shown}
 use Rattle.command_words.specs.declared.meaning.PipeWords.{PipeWords}
-use Rattle.orb_command.specs.AtAnswer.{at_note}
 use Rattle.orb_command.specs.Moment.{Moment}
-use Rattle.orb_command.specs.ServingNotes.{serving_note}
+use Rattle.orb_command.specs.SetupNotes.{setup_note}
 use Rattle.orb_command.specs.declared.note.Note.{Note}
 use Rattle.orb_command.specs.declared.note.Note.TheVariants.{Nothing, ReadFault, WriteFault, Input, Memory, Limit}
 
@@ -56,13 +50,13 @@ abbrev pub piped_of : Result Piped NoMemory → Option Piped
 piped_of (Ok ran) = Some ran
 piped_of (Err _) = None
 
--- the pipe over a setup and these servants came out so, and took and wrote accordingly
-pub record Ran (shown : Shown) (batch : ℕ) (setup : SetupData) (servants : Servants) (note : Note) (piped : Option Piped)
-    (old new : SourceState) (out out' : SinkState) : Type 0 where
+-- the pipe over a setup and its servants came out so, and took and wrote accordingly
+pub record Ran (words : PipeWords) (broker : Broker) (note : Note) (piped : Option Piped) (old new : SourceState)
+    (out out' : SinkState) : Type 0 where
   pub answer : Result Piped NoMemory
   pub told : note ≡ note_of answer
   pub kept : piped ≡ piped_of answer
-  pub pipes : Pipes answer shown setup (outcome_of (served_of servants)) batch old new out out'
+  pub pipes : Pipes answer words.shown broker.setup (outcome_of (served_of broker.servants)) words.batch old new out out'
 
 -- nothing was run, nothing was taken and nothing written, for this reason
 pub record Declined (note why : Note) (piped : Option Piped) (old new : SourceState) (out out' : SinkState) : Type 0 where
@@ -71,22 +65,12 @@ pub record Declined (note why : Note) (piped : Option Piped) (old new : SourceSt
   pub input : new ≡ old
   pub output : out' ≡ out
 
--- what comes of a setup: a run over the servants that its files give; without them, why there is none. The store tells the same files
--- as before
-abbrev pub PipesSetup : Shown → ℕ → SetupData → Note → Option Piped → FilesState → FilesState → SourceState → SourceState → SinkState → SinkState → Type 0
-PipesSetup shown batch setup note piped files files' old new out out' =
-    (files'.files ≡ files.files)
-    × (((servants : Servants) × GivesServants (Ok servants) setup files files' × Ran shown batch setup servants note piped old new out out')
-    ⊎ ((why : ServingFault) × GivesServants (Err why) setup files files' × Declined note (serving_note why) piped old new out out'))
-
--- what comes of the configuration that the words name, or of the built-in setup: of its setup, or why there is none
-abbrev pub PipesBy : PipeWords → Note → Option Piped → FilesState → FilesState → SourceState → SourceState → SinkState → SinkState → Type 0
-PipesBy words note piped files files' old new out out' =
-    ((setup : SetupData) × (behind : FilesState) × GivesSetup (Ok setup) words.config files behind × (behind.files ≡ files.files)
-    × PipesSetup words.shown words.batch setup note piped behind files' old new out out')
-    ⊎ ((end : AtEnd) × GivesSetup (Err end) words.config files files' × Declined note (at_note end) piped old new out out')
-
--- the same between two moments
+-- what comes of the configuration that the words name, or of the built-in setup: a run over its servants, or why there are none. The
+-- store knows the same files as before
 abbrev pub PipeAnswers : PipeWords → Note → Option Piped → Moment → Moment → Type 0
 PipeAnswers words note piped before after =
-    PipesBy words note piped before.files after.files before.input after.input before.out after.out
+    (after.files.files ≡ before.files.files)
+    × (((broker : Broker) × GivesBroker (Ok broker) words.config before.files after.files
+    × Ran words broker note piped before.input after.input before.out after.out)
+    ⊎ ((why : SetupEnd) × GivesBroker (Err why) words.config before.files after.files
+    × Declined note (setup_note why) piped before.input after.input before.out after.out))

@@ -6,13 +6,12 @@ ghost use Rattle.orb_command.specs.Command.{Answers};
 ghost use Rattle.orb_command.specs.Command as Spec;
 
 use crate::answered::{Answered, Reported};
-use crate::at_note::note_at;
-use crate::dump_note::dump_note;
-use crate::idl_note::idl_note;
+use crate::dump::dump_note;
+use crate::idl::idl_note;
 use crate::note::Note;
-use crate::pipe_note::{Told, run_pipe};
-use crate::refs_note::refs_note;
-use crate::serve_note::{ServeTold, run_server};
+use crate::pipe::{Told, run_pipe};
+use crate::refs::{note_at, refs_note};
+use crate::serve::{ServeTold, run_server};
 use command_words::{Meaning, read_words};
 use giop_dump::dump_run;
 use idl_lines::idl_run;
@@ -73,11 +72,9 @@ fn reported_pipe(told: Told) -> Reported
 
 /// What the server came to, with its status.
 fn answered_serve<A, I, O>(told: ServeTold<A, I, O>) -> Answered<A, I, O>
-    ensures note { result.note ≡ told.note }
+    ensures told { Spec.serve_told result ≡ told }
     ensures status { result.status ≡ Spec.status_of told.note }
     ensures piped { result.piped ≡ None }
-    ensures run { result.run ≡ told.run }
-    ensures acceptors { result.acceptors ≡ told.acceptors }
 {
     let status = status_of(&told.note);
     Answered {
@@ -89,17 +86,15 @@ fn answered_serve<A, I, O>(told: ServeTold<A, I, O>) -> Answered<A, I, O>
     }
 }
 
-/// Does all that the program does: reads the words, runs the command over the net, the files, the input and the output, and answers the
-/// status with its note. `pipe` carries out the requests of its input while it reads them, by the built-in setup, and with
-/// `--config FILE` by the configuration of this name and the interfaces and scripts that it names, in groups of one, or with
-/// `--batch N` of up to N calls, and writes what is answered, or with `--history` the text of the run's history. `serve --config FILE
-/// --listen HOST:PORT` serves the configuration of this name at that address, and writes one line of summary when the run ends. `dump` writes
-/// a line for each message of the input, and `refs` writes
-/// the parts of the reference that it is. `refs --at HOST:PORT` writes the reference of each object of the built-in setup at that
-/// address, and with `--config FILE` of each object of the configuration of this name. `idl --file FILE` lists what the
-/// IDL of the file declares. The other commands aren't built yet. It
-/// returns where each read and write returns, and `serve` where its run ends. The answers to `pipe` and `serve` have their runs, with the
-/// history.
+/// Does all that the program does: reads the words, runs the command over the net, the files, the input and the output, and answers
+/// the status with its note. `pipe` carries out the requests of its input while it reads them, by the built-in setup, and with
+/// `--config FILE` by the configuration of this name and the interfaces and scripts that it names, in groups of one, or with `--batch
+/// N` of up to N calls, and writes what is answered, or with `--history` the text of the run's history. `serve --config FILE --listen
+/// HOST:PORT` serves the configuration of this name at that address, and writes one line of summary when the run ends. `dump` writes
+/// a line for each message of the input, and `refs` writes the parts of the reference that it is. `refs --at HOST:PORT` writes the
+/// reference of each object of the built-in setup at that address, and with `--config FILE` of each object of the configuration of
+/// this name. `idl --file FILE` lists what the IDL of the file declares. The other commands aren't built yet. It returns where each
+/// read and write returns, and `serve` where its run ends. The answers to `pipe` and `serve` have their runs, with the history.
 pub fn orb_main<N: Net, F: Files, I: Source, O: Sink, R: Wait + Threads + Sync>(
     rt: &R,
     alloc: Global,
@@ -111,9 +106,9 @@ pub fn orb_main<N: Net, F: Files, I: Source, O: Sink, R: Wait + Threads + Sync>(
 ) -> Answered<N::Acc, N::In, N::Out>
     // The status is that of the note, and each note has its cause, by what the words mean: 1 exactly where they mean no
     // command, 14 exactly where they mean one that isn't built; 3 only where the count of faults of the input or of the files rose,
-    // 4 only where that of the output did, and 5 only where that of the net did; 8 and 13 of `dump`, and 8 of `refs`, exactly where the
-    // bytes that it took say so, and of `pipe` what its history and its bytes say; 2 and 10 exactly where the files say so. A run of `serve`
-    // is one legal history, whose summary is written.
+    // 4 only where that of the output did, and 5 only where that of the net did; 8 and 13 of `dump`, and 8 of `refs`, exactly where
+    // the bytes that it took say so, and of `pipe` what its history and its bytes say; 2 and 10 exactly where the files say so. A run
+    // of `serve` is one legal history, whose summary is written.
     ensures { Answers N.Acc.state N.In.state N.Out.state (command_of string_bytes words.now) result
         (moment (F.state files.old) (I.state input.old) (O.state out.old))
         (moment (F.state files.new) (I.state input.new) (O.state out.new)) (N.state net.old) (N.state net.new) }

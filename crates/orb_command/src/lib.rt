@@ -2,14 +2,14 @@
 #![tactic(auto)]
 
 mod answered;
-mod at_note;
 mod command;
-mod dump_note;
-mod idl_note;
+mod dump;
+mod idl;
 mod note;
-mod pipe_note;
-mod refs_note;
-mod serve_note;
+mod pipe;
+mod refs;
+mod serve;
+mod setup_note;
 
 pub use answered::{Answered, Reported};
 pub use command::orb_main;

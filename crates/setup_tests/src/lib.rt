@@ -1,4 +1,4 @@
-//! Tests of `priority_maps`, `priority_models`, `banded_links`, `config_tables`, `adapter_policies`, `setup_servants`, `object_lines`.
+//! Tests of `priority_maps`, `priority_models`, `banded_links`, `config_tables`, `adapter_policies`, `setup_servants`, `setup_files`, `object_lines`.
 #![tactic(auto)]
 
 #[cfg(test)]
@@ -13,5 +13,7 @@ mod object_lines_tests;
 mod priority_maps_tests;
 #[cfg(test)]
 mod priority_models_tests;
+#[cfg(test)]
+mod setup_files_tests;
 #[cfg(test)]
 mod setup_servants_tests;

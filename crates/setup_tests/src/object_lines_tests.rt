@@ -3,6 +3,7 @@
 use adapter_policies::{ConfigCause, ConfigFault};
 use object_lines::*;
 use orb_base::{List, MemFile, MemFiles, MemSink, Text};
+use setup_files::SetupEnd;
 use setup_servants::{ServingFault, TextRole};
 use std::alloc::Global;
 use std::test::*;
@@ -34,19 +35,27 @@ enum Due {
     WriteFault,
 }
 
+/// Whether there is no setup with servants for this reason.
+fn ends_so(end: &SetupEnd, due: Due) -> bool {
+    match end {
+        SetupEnd::Refused(fault) => tells(fault, due),
+        SetupEnd::Unserved(ServingFault::Object(fault)) => tells(fault, due),
+        SetupEnd::Unserved(ServingFault::Absent(role)) => {
+            matches!(due, Due::Unfiled(want) if want == *role)
+        }
+        SetupEnd::Absent => matches!(due, Due::Absent),
+        SetupEnd::ReadFault => matches!(due, Due::ReadFault),
+        _ => false,
+    }
+}
+
 /// Whether they came out so.
 fn is_due(end: &AtEnd, due: Due) -> bool {
     match end {
         AtEnd::Done => matches!(due, Due::Done),
-        AtEnd::Refused(fault) => tells(fault, due),
-        AtEnd::Unserved(ServingFault::Object(fault)) => tells(fault, due),
-        AtEnd::Unserved(ServingFault::Absent(role)) => {
-            matches!(due, Due::Unfiled(want) if want == *role)
-        }
-        AtEnd::Absent => matches!(due, Due::Absent),
-        AtEnd::ReadFault => matches!(due, Due::ReadFault),
+        AtEnd::NoBroker(end) => ends_so(end, due),
         AtEnd::WriteFault => matches!(due, Due::WriteFault),
-        _ => false,
+        AtEnd::NoMemory => false,
     }
 }
 

@@ -29,7 +29,7 @@ returns-in-Ok-Serve g c =
     rw (sym c.in-Ok-Serve.ensures, c.in-Ok-Serve.field-0-is)
     (serve_answers g.N.Acc.Acceptor.state g.N.In.Source.state g.N.Out.Sink.state c.in-Ok-Serve.words c.answered_serve.result before after
     (g.N.Net.state c.args.net.now) (g.N.Net.state c.run_server.new.net) refl
-    (rw (told.note, told.run, told.acceptors) c.run_server.ensures) (told.status ∙ ap status_of (sym told.note)) told.piped)
+    (rw told.told c.run_server.ensures) (told.status ∙ ap (λ t. status_of t.note) (sym told.told)) told.piped)
 
 pub returns-in-Ok-Dump : goal.returns-in-Ok-Dump
 returns-in-Ok-Dump g c =

@@ -2,17 +2,14 @@
 ghost use Rattle.std.specs.Prelude.{◌≡◌, [], None};
 ghost use Rattle.orb_command.specs.ServeAnswer as Spec;
 
-use crate::at_note::{note_at, note_serving};
 use crate::note::Note;
-use adapter_policies::Setup;
+use crate::setup_note::note_setup;
 use command_words::ServeWords;
-use dynamic_servants::Servants;
-use object_lines::setup_of;
 use orb_base::{Files, List, Sink};
 use orb_nets::Net;
 use orb_server::Run;
 use server_runs::{ServeEnd, Served, serve_at};
-use setup_servants::servants_of;
+use setup_files::{Broker, read_broker};
 use std::alloc::Global;
 use std::sync::Wait;
 use std::thread::Threads;
@@ -67,44 +64,31 @@ impl<A, I, O> ServeTold<A, I, O> {
 
 /// Runs the server of a setup over its servants.
 #[tactic(auto, using(crate::proofs::ServeNotes::ran_so))]
-fn serve_servants<N: Net, O: Sink, R: Wait + Threads + Sync>(
+fn serve_broker<N: Net, O: Sink, R: Wait + Threads + Sync>(
     rt: &R,
     alloc: Global,
     net: &mut N,
-    setup: &Setup,
-    servants: &Servants,
+    broker: &Broker,
     words: &ServeWords,
     out: &mut O,
 ) -> ServeTold<N::Acc, N::In, N::Out>
-    ensures { Spec.RanAt N.Acc.state N.In.state N.Out.state words.now setup.now servants.now result.note result.run result.acceptors.items
-        (N.state net.old) (N.state net.new) (O.state out.old) (O.state out.new) }
+    ensures { Spec.RanAt N.Acc.state N.In.state N.Out.state words.now broker.now result (N.state net.old) (N.state net.new)
+        (O.state out.old) (O.state out.new) }
 {
-    ServeTold::of(serve_at(rt, alloc, net, setup, servants, &words.at, out))
+    ServeTold::of(serve_at(
+        rt,
+        alloc,
+        net,
+        &broker.setup,
+        &broker.servants,
+        &words.at,
+        out,
+    ))
 }
 
-/// Runs the server of a setup over the servants that its files give.
-#[tactic(auto, using(crate::proofs::ServeNotes::setup_not_served))]
-fn serve_setup<N: Net, F: Files, O: Sink, R: Wait + Threads + Sync>(
-    rt: &R,
-    alloc: Global,
-    net: &mut N,
-    files: &mut F,
-    setup: &Setup,
-    words: &ServeWords,
-    out: &mut O,
-) -> ServeTold<N::Acc, N::In, N::Out>
-    ensures { Spec.ServesSetup N.Acc.state N.In.state N.Out.state words.now setup.now result.note result.run result.acceptors.items
-        (F.state files.old) (F.state files.new) (N.state net.old) (N.state net.new) (O.state out.old) (O.state out.new) }
-{
-    match servants_of(alloc, files, setup) {
-        Ok(servants) => serve_servants(rt, alloc, net, setup, &servants, words, out),
-        Err(fault) => ServeTold::without_run(alloc, note_serving(fault)),
-    }
-}
-
-/// Runs the server of the configuration that the words name, at their address. The first fault in the order of work is told: of the file, of
-/// the configuration, of its interfaces, of its scripts, of an object that no servant serves, of the net, and then of the output.
-#[tactic(auto, using(crate::proofs::ServeNotes::by_setup, crate::proofs::ServeNotes::by_none))]
+/// Runs the server of the configuration that the words name, at their address. The first fault in the order of work is the answer: of
+/// the setup and its servants, of the net, and then of the output.
+#[tactic(auto, using(crate::proofs::ServeNotes::by_none))]
 pub fn run_server<N: Net, F: Files, O: Sink, R: Wait + Threads + Sync>(
     rt: &R,
     alloc: Global,
@@ -113,11 +97,11 @@ pub fn run_server<N: Net, F: Files, O: Sink, R: Wait + Threads + Sync>(
     words: &ServeWords,
     out: &mut O,
 ) -> ServeTold<N::Acc, N::In, N::Out>
-    ensures { Spec.ServesBy N.Acc.state N.In.state N.Out.state words.now result.note result.run result.acceptors.items
-        (F.state files.old) (F.state files.new) (N.state net.old) (N.state net.new) (O.state out.old) (O.state out.new) }
+    ensures { Spec.ServesBy N.Acc.state N.In.state N.Out.state words.now result (F.state files.old) (F.state files.new)
+        (N.state net.old) (N.state net.new) (O.state out.old) (O.state out.new) }
 {
-    match setup_of(alloc, files, Some(&words.config)) {
-        Ok(setup) => serve_setup(rt, alloc, net, files, &setup, words, out),
-        Err(end) => ServeTold::without_run(alloc, note_at(end)),
+    match read_broker(alloc, files, Some(&words.config)) {
+        Ok(broker) => serve_broker(rt, alloc, net, &broker, words, out),
+        Err(end) => ServeTold::without_run(alloc, note_setup(end)),
     }
 }

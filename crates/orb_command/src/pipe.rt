@@ -1,19 +1,17 @@
 //! The note of `orb pipe`.
 ghost use Rattle.std.specs.Prelude.{◌≡◌, None};
+ghost use Rattle.orb_command.specs.Moment.{moment};
 ghost use Rattle.orb_command.specs.PipeAnswer as Spec;
 
-use crate::at_note::{note_at, note_serving};
 use crate::note::Note;
-use adapter_policies::Setup;
+use crate::setup_note::note_setup;
 use command_words::PipeWords;
 use conn_engine::{ReadEnd, StreamEnd};
-use dynamic_servants::Servants;
 use giop_messages::Fault;
 use heard_calls::Ending;
-use object_lines::setup_of;
 use orb_base::{Files, NoMemory, Sink, Source};
 use pipe_runs::{Piped, pipe_run};
-use setup_servants::servants_of;
+use setup_files::{Broker, read_broker};
 use std::alloc::Global;
 
 /// The note of how the bytes ended the reading.
@@ -82,43 +80,30 @@ fn told_of(ran: Result<Piped, NoMemory>) -> Told
 
 /// Runs the pipe of a setup over its servants, and answers the note and the run.
 #[tactic(auto, using(crate::proofs::PipeNotes::ran_so))]
-fn run_servants<I: Source, O: Sink>(
+fn run_broker<I: Source, O: Sink>(
     alloc: Global,
-    setup: &Setup,
-    servants: &Servants,
+    broker: &Broker,
     words: &PipeWords,
     input: &mut I,
     out: &mut O,
 ) -> Told
-    ensures { Spec.Ran words.now.shown words.now.batch setup.now servants.now result.note result.piped
+    ensures { Spec.Ran words.now broker.now result.note result.piped
         (I.state input.old) (I.state input.new) (O.state out.old) (O.state out.new) }
 {
-    told_of(pipe_run(alloc, setup, servants, words.batch, words.shown, input, out))
+    told_of(pipe_run(
+        alloc,
+        &broker.setup,
+        &broker.servants,
+        words.batch,
+        words.shown,
+        input,
+        out,
+    ))
 }
 
-/// Runs the pipe of a setup over the servants that its files give, and answers the note and the run.
-#[tactic(auto, using(crate::proofs::PipeNotes::setup_not_run))]
-fn run_setup<F: Files, I: Source, O: Sink>(
-    alloc: Global,
-    files: &mut F,
-    setup: &Setup,
-    words: &PipeWords,
-    input: &mut I,
-    out: &mut O,
-) -> Told
-    ensures { Spec.PipesSetup words.now.shown words.now.batch setup.now result.note result.piped (F.state files.old) (F.state files.new)
-        (I.state input.old) (I.state input.new) (O.state out.old) (O.state out.new) }
-{
-    match servants_of(alloc, files, setup) {
-        Ok(servants) => run_servants(alloc, setup, &servants, words, input, out),
-        Err(fault) => Told::without_run(note_serving(fault)),
-    }
-}
-
-/// Runs the pipe of the configuration that the words name, or of the built-in setup where they name none, and answers the note and the run. The
-/// first fault in the order of work is told: of the file, of the configuration, of its interfaces, of its scripts, of an object that no servant
-/// serves, and then of the run.
-#[tactic(auto, using(crate::proofs::PipeNotes::by_setup, crate::proofs::PipeNotes::by_none))]
+/// Runs the pipe of the configuration that the words name, or of the built-in setup where they name none, and answers the note and the
+/// run. The first fault in the order of work is the answer: of the setup and its servants, and then of the run.
+#[tactic(auto, using(crate::proofs::PipeNotes::by_broker, crate::proofs::PipeNotes::by_none))]
 pub fn run_pipe<F: Files, I: Source, O: Sink>(
     alloc: Global,
     files: &mut F,
@@ -126,11 +111,11 @@ pub fn run_pipe<F: Files, I: Source, O: Sink>(
     input: &mut I,
     out: &mut O,
 ) -> Told
-    ensures { Spec.PipesBy words.now result.note result.piped (F.state files.old) (F.state files.new)
-        (I.state input.old) (I.state input.new) (O.state out.old) (O.state out.new) }
+    ensures { Spec.PipeAnswers words.now result.note result.piped (moment (F.state files.old) (I.state input.old) (O.state out.old))
+        (moment (F.state files.new) (I.state input.new) (O.state out.new)) }
 {
-    match setup_of(alloc, files, words.config.as_ref()) {
-        Ok(setup) => run_setup(alloc, files, &setup, words, input, out),
-        Err(end) => Told::without_run(note_at(end)),
+    match read_broker(alloc, files, words.config.as_ref()) {
+        Ok(broker) => run_broker(alloc, &broker, words, input, out),
+        Err(end) => Told::without_run(note_setup(end)),
     }
 }

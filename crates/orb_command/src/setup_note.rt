@@ -1,15 +1,14 @@
-//! The notes of what serves a setup, and of `orb refs --at`.
+//! The notes of what has no setup with servants.
 ghost use Rattle.std.specs.Prelude.{◌≡◌};
-ghost use Rattle.orb_command.specs.AtAnswer as Spec;
-ghost use Rattle.orb_command.specs.ServingNotes as Serving;
+ghost use Rattle.orb_command.specs.SetupNotes as Spec;
 
 use crate::note::{Note, Role};
-use object_lines::AtEnd;
+use setup_files::SetupEnd;
 use setup_servants::{ServingFault, TextRole};
 
 /// What a text of a setup is for.
 fn role_of(role: TextRole) -> Role
-    ensures { result ≡ Serving.role_of role }
+    ensures { result ≡ Spec.role_of role }
 {
     match role {
         TextRole::Idl => Role::Idl,
@@ -18,8 +17,8 @@ fn role_of(role: TextRole) -> Role
 }
 
 /// The note of a setup without servants.
-pub fn note_serving(fault: ServingFault) -> Note
-    ensures { result ≡ Serving.serving_note fault }
+fn note_serving(fault: ServingFault) -> Note
+    ensures { result ≡ Spec.serving_note fault }
 {
     match fault {
         ServingFault::Idl(fault) => Note::Idl(fault),
@@ -33,18 +32,16 @@ pub fn note_serving(fault: ServingFault) -> Note
     }
 }
 
-/// The note of a run of `orb refs --at`.
-pub fn note_at(end: AtEnd) -> Note
-    ensures { result ≡ Spec.at_note end }
+/// The note of a configuration that gives no setup with servants.
+pub fn note_setup(end: SetupEnd) -> Note
+    ensures { result ≡ Spec.setup_note end }
 {
     match end {
-        AtEnd::Done => Note::Nothing,
-        AtEnd::Refused(fault) => Note::Config(fault),
-        AtEnd::Absent => Note::Absent(Role::Config),
-        AtEnd::TooLong => Note::TooLong(Role::Config),
-        AtEnd::Unserved(fault) => note_serving(fault),
-        AtEnd::ReadFault => Note::ReadFault,
-        AtEnd::WriteFault => Note::WriteFault,
-        AtEnd::NoMemory => Note::Memory,
+        SetupEnd::Refused(fault) => Note::Config(fault),
+        SetupEnd::Absent => Note::Absent(Role::Config),
+        SetupEnd::TooLong => Note::TooLong(Role::Config),
+        SetupEnd::Unserved(fault) => note_serving(fault),
+        SetupEnd::ReadFault => Note::ReadFault,
+        SetupEnd::NoMemory => Note::Memory,
     }
 }
