@@ -1,0 +1,12 @@
+pub mod Maps
+pub mod Offered
+pub mod Commutes
+pub mod Known
+pub mod Items
+pub mod Rebuilds
+pub mod Once
+pub mod Opened
+pub mod Fit
+pub mod Fitting
+pub mod Legal
+pub mod ReadingBack

@@ -1,0 +1,5 @@
+pub mod Offers
+pub mod Lines
+pub mod Texts
+pub mod ReadBack
+pub mod Plain
