@@ -1,6 +1,8 @@
-//! Tests of `text_streams`, `giop_dump`, `reference_lines`, `idl_lines`, `command_words`, `orb_command`.
+//! Tests of `text_streams`, `giop_dump`, `reference_lines`, `idl_lines`, `command_options`, `command_words`, `orb_command`.
 #![tactic(auto)]
 
+#[cfg(test)]
+mod command_options_tests;
 #[cfg(test)]
 mod command_words_tests;
 #[cfg(test)]

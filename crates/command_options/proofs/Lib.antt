@@ -1,0 +1,5 @@
+pub mod Walks
+pub mod Building
+pub mod Readers
+pub mod Orders
+pub mod Written

@@ -1,0 +1,54 @@
+-- Each command's words, written out with all its options.
+use Rattle.std.proofs.Common.{◌≡◌, ◌++◌, ◌∷◌, [], Some, None, codes, refl}
+use Rattle.command_options.specs.Commands.{idl_items, pipe_items, refs_items, serve_items}
+use Rattle.command_options.specs.Items.{Text}
+use Rattle.command_options.specs.Words.{form_of, has_no_stray_dash, plain}
+use Rattle.command_options.specs.Uses.{reading, uses}
+
+pub pipe_reads : (file number : Text) → form_of file ≡ plain → form_of number ≡ plain
+    → reading pipe_items (codes "--config" ∷ file ∷ codes "--batch" ∷ number ∷ codes "--history" ∷ [])
+    ≡ Some ((codes "config", Some file) ∷ (codes "batch", Some number) ∷ (codes "history", None) ∷ [])
+unfolding reading uses has_no_stray_dash
+pipe_reads file number file_plain number_plain = rw (file_plain, number_plain) refl
+
+pub pipe_joined_reads : (file number : Text)
+    → reading pipe_items (codes "--history" ∷ (codes "--batch=" ++ number) ∷ (codes "--config=" ++ file) ∷ [])
+    ≡ Some ((codes "history", None) ∷ (codes "batch", Some number) ∷ (codes "config", Some file) ∷ [])
+unfolding reading uses has_no_stray_dash
+pipe_joined_reads file number = refl
+
+pub serve_reads : (file place : Text) → form_of file ≡ plain → form_of place ≡ plain
+    → reading serve_items (codes "--config" ∷ file ∷ codes "--listen" ∷ place ∷ [])
+    ≡ Some ((codes "config", Some file) ∷ (codes "listen", Some place) ∷ [])
+unfolding reading uses has_no_stray_dash
+serve_reads file place file_plain place_plain = rw (file_plain, place_plain) refl
+
+pub serve_joined_reads : (file place : Text)
+    → reading serve_items ((codes "--listen=" ++ place) ∷ (codes "--config=" ++ file) ∷ [])
+    ≡ Some ((codes "listen", Some place) ∷ (codes "config", Some file) ∷ [])
+unfolding reading uses has_no_stray_dash
+serve_joined_reads file place = refl
+
+pub refs_reads : (place file : Text) → form_of place ≡ plain → form_of file ≡ plain
+    → reading refs_items (codes "--at" ∷ place ∷ codes "--config" ∷ file ∷ [])
+    ≡ Some ((codes "at", Some place) ∷ (codes "config", Some file) ∷ [])
+unfolding reading uses has_no_stray_dash
+refs_reads place file place_plain file_plain = rw (place_plain, file_plain) refl
+
+pub refs_joined_reads : (place file : Text)
+    → reading refs_items ((codes "--config=" ++ file) ∷ (codes "--at=" ++ place) ∷ [])
+    ≡ Some ((codes "config", Some file) ∷ (codes "at", Some place) ∷ [])
+unfolding reading uses has_no_stray_dash
+refs_joined_reads place file = refl
+
+pub idl_reads : (file : Text) → form_of file ≡ plain
+    → reading idl_items (codes "--file" ∷ file ∷ [])
+    ≡ Some ((codes "file", Some file) ∷ [])
+unfolding reading uses has_no_stray_dash
+idl_reads file file_plain = rw file_plain refl
+
+pub idl_joined_reads : (file : Text)
+    → reading idl_items ((codes "--file=" ++ file) ∷ [])
+    ≡ Some ((codes "file", Some file) ∷ [])
+unfolding reading uses has_no_stray_dash
+idl_joined_reads file = refl

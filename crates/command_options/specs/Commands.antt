@@ -1,0 +1,33 @@
+-- What each command takes: own profile.
+use Rattle.std.specs.Prelude.{true, false, List, [], ◌∷◌, codes}
+use Rattle.command_options.specs.declared.item.Kind.{Kind}
+use Rattle.command_options.specs.declared.item.Kind.TheVariants.{Valued, Switch}
+use Rattle.command_options.specs.Items.{Item, Text}
+
+-- an item that the words may give
+abbrev pub may_have : Kind → Text → Item
+may_have kind name = record { name = name; kind = kind; is_due = false }
+
+-- an item that the words have to give
+abbrev pub must_have : Kind → Text → Item
+must_have kind name = record { name = name; kind = kind; is_due = true }
+
+-- `pipe [--config FILE] [--batch N] [--history]`
+abbrev pub pipe_items : List Item
+pipe_items = may_have Valued (codes "config") ∷ may_have Valued (codes "batch") ∷ may_have Switch (codes "history") ∷ []
+
+-- `serve --config FILE --listen HOST:PORT`
+abbrev pub serve_items : List Item
+serve_items = must_have Valued (codes "config") ∷ must_have Valued (codes "listen") ∷ []
+
+-- `refs [--at HOST:PORT] [--config FILE]`
+abbrev pub refs_items : List Item
+refs_items = may_have Valued (codes "at") ∷ may_have Valued (codes "config") ∷ []
+
+-- `dump`
+abbrev pub dump_items : List Item
+dump_items = []
+
+-- `idl --file FILE`
+abbrev pub idl_items : List Item
+idl_items = must_have Valued (codes "file") ∷ []

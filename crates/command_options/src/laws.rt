@@ -1,0 +1,50 @@
+//! Laws of the reading of words. The bodies are empty: each contract is a law of the definitions.
+ghost use Rattle.std.specs.Prelude.{◌≡◌, ◌++◌, ◌∷◌, [], List, Some, None, codes, option_map};
+ghost use Rattle.command_options.specs.Commands.{idl_items, pipe_items, refs_items, serve_items};
+ghost use Rattle.command_options.specs.Given.{given};
+ghost use Rattle.command_options.specs.Items.{Item, Text};
+ghost use Rattle.command_options.specs.Uses.{Use, reading};
+ghost use Rattle.command_options.specs.Whole.{IsWhole};
+ghost use Rattle.command_options.specs.Words.{form_of, plain};
+
+/// The order of options is free: words in which two options, each written out whole, change places have a reading where they had
+/// one, and give the same. So do any that come from them by such changes.
+pub fn order_is_free()
+    ensures { (items : List Item) (before a b after : List Text) (u v : Use) → IsWhole items a u → IsWhole items b v
+        → option_map given (reading items (before ++ (a ++ (b ++ after)))) ≡ option_map given (reading items (before ++ (b ++ (a ++ after)))) }
+{}
+
+/// A second use of an option has no reading, whatever other words there are.
+pub fn second_use_is_refused()
+    ensures { (items : List Item) (before a between b after : List Text) (u v : Use) → IsWhole items a u → IsWhole items b v → u.0 ≡ v.0
+        → reading items (before ++ (a ++ (between ++ (b ++ after)))) ≡ None }
+{}
+
+/// What each command's words say, written out with all its options: with a value after each name, where no value begins with a
+/// dash, and the other way round with `=`.
+pub fn commands_are_read_as_written()
+    ensures pipe { (file number : Text) → form_of file ≡ plain → form_of number ≡ plain
+        → reading pipe_items (codes "--config" ∷ file ∷ codes "--batch" ∷ number ∷ codes "--history" ∷ [])
+        ≡ Some ((codes "config", Some file) ∷ (codes "batch", Some number) ∷ (codes "history", None) ∷ []) }
+    ensures pipe_joined { (file number : Text)
+        → reading pipe_items (codes "--history" ∷ (codes "--batch=" ++ number) ∷ (codes "--config=" ++ file) ∷ [])
+        ≡ Some ((codes "history", None) ∷ (codes "batch", Some number) ∷ (codes "config", Some file) ∷ []) }
+    ensures serve { (file place : Text) → form_of file ≡ plain → form_of place ≡ plain
+        → reading serve_items (codes "--config" ∷ file ∷ codes "--listen" ∷ place ∷ [])
+        ≡ Some ((codes "config", Some file) ∷ (codes "listen", Some place) ∷ []) }
+    ensures serve_joined { (file place : Text)
+        → reading serve_items ((codes "--listen=" ++ place) ∷ (codes "--config=" ++ file) ∷ [])
+        ≡ Some ((codes "listen", Some place) ∷ (codes "config", Some file) ∷ []) }
+    ensures refs { (place file : Text) → form_of place ≡ plain → form_of file ≡ plain
+        → reading refs_items (codes "--at" ∷ place ∷ codes "--config" ∷ file ∷ [])
+        ≡ Some ((codes "at", Some place) ∷ (codes "config", Some file) ∷ []) }
+    ensures refs_joined { (place file : Text)
+        → reading refs_items ((codes "--config=" ++ file) ∷ (codes "--at=" ++ place) ∷ [])
+        ≡ Some ((codes "config", Some file) ∷ (codes "at", Some place) ∷ []) }
+    ensures idl { (file : Text) → form_of file ≡ plain
+        → reading idl_items (codes "--file" ∷ file ∷ [])
+        ≡ Some ((codes "file", Some file) ∷ []) }
+    ensures idl_joined { (file : Text)
+        → reading idl_items ((codes "--file=" ++ file) ∷ [])
+        ≡ Some ((codes "file", Some file) ∷ []) }
+{}
