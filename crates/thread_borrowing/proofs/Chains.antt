@@ -6,7 +6,7 @@ use Rattle.std.proofs.lemmas.Option.{same_Some}
 use Rattle.std.proofs.lemmas.Bool.{and_parts, and_from, or_cases, or_left, or_right, or_from, both_ways, cases_lt, cases_order, eqb-true, eq-eqb, ltb-true, lt-ltb}
 use Rattle.thread_borrowing.specs.ThreadList.{Thread, is_free}
 use Rattle.thread_borrowing.specs.Choice.{first_greatest, may_run, standing, rank, can_start, chosen_thread}
-use Rattle.thread_borrowing.specs.Chain.{first_standing, in_lane, down_from, StandsBefore}
+use Rattle.thread_borrowing.specs.Chain.{stands_in, first_standing, in_lane, down_from, StandsBefore}
 use Rattle.thread_borrowing.proofs.Places.{at_place, before_place, no_place, none_passes, at_first, first_is}
 use Rattle.thread_borrowing.proofs.Chosen.{chosen_is, chosen_first}
 
@@ -93,12 +93,8 @@ module _ {X : Type 0} where
 abbrev is_here : ℕ → Thread → Bool
 is_here lane thread = is_free thread.doing && (thread.lane == lane)
 
--- and one that stands so
-abbrev stands_here : ℕ → ℕ → Thread → Bool
-stands_here lane how thread = is_free thread.doing && (thread.lane == lane) && (standing thread == how)
-
--- its rank
-rank_here : (lane how : ℕ) (thread : Thread) → stands_here lane how thread ≡ true → rank thread ≡ 3 * lane + how
+-- the rank of one that stands so
+rank_here : (lane how : ℕ) (thread : Thread) → stands_in lane how thread ≡ true → rank thread ≡ 3 * lane + how
 rank_here lane how thread e =
     let a = and_parts (is_here lane thread) (standing thread == how) e in
     let b = and_parts (is_free thread.doing) (thread.lane == lane) a.0 in
@@ -124,18 +120,18 @@ few false false = omega arith
 -- the choice in one lane
 lane_top : (lane : ℕ) (threads : List Thread) → IsTop (is_here lane) rank threads (in_lane lane threads)
 lane_top lane threads =
-    let way : (how : ℕ) → IsTop (stands_here lane how) rank threads (first_standing lane how threads) =
-    λ how. even_top (stands_here lane how) rank (3 * lane + how) threads (first_standing lane how threads) refl (rank_here lane how) in
-    let dynamic = else_top (stands_here lane 1) (stands_here lane 0) rank (3 * lane + 1) threads (first_standing lane 1 threads) (first_standing lane 0 threads)
+    let way : (how : ℕ) → IsTop (stands_in lane how) rank threads (first_standing lane how threads) =
+    λ how. even_top (stands_in lane how) rank (3 * lane + how) threads (first_standing lane how threads) refl (rank_here lane how) in
+    let dynamic = else_top (stands_in lane 1) (stands_in lane 0) rank (3 * lane + 1) threads (first_standing lane 1 threads) (first_standing lane 0 threads)
     (λ x e. let r = rank_here lane 1 x e in omega arith) (λ x e. let r = rank_here lane 0 x e in omega arith) (way 1) (way 0) in
-    let all = else_top (stands_here lane 2) (λ x. stands_here lane 1 x || stands_here lane 0 x) rank (3 * lane + 2) threads (first_standing lane 2 threads)
+    let all = else_top (stands_in lane 2) (λ x. stands_in lane 1 x || stands_in lane 0 x) rank (3 * lane + 2) threads (first_standing lane 2 threads)
     (option_or (first_standing lane 1 threads) (first_standing lane 0 threads))
     (λ x e. let r = rank_here lane 2 x e in omega arith)
-    (λ x e. elim (or_cases (stands_here lane 1 x) (stands_here lane 0 x) e) [
+    (λ x e. elim (or_cases (stands_in lane 1 x) (stands_in lane 0 x) e) [
       | inl t ↦ (let r = rank_here lane 1 x t in omega arith)
       | inr t ↦ (let r = rank_here lane 0 x t in omega arith)
     ]) (way 2) dynamic in
-    alike_top (λ x. stands_here lane 2 x || (stands_here lane 1 x || stands_here lane 0 x)) (is_here lane) rank threads (in_lane lane threads)
+    alike_top (λ x. stands_in lane 2 x || (stands_in lane 1 x || stands_in lane 0 x)) (is_here lane) rank threads (in_lane lane threads)
     (λ x. three_ways (is_here lane x) x.is_static x.started) all
 
 -- with borrowing a thread runs the requests of its lane and of those above

@@ -1,12 +1,16 @@
 -- The choice of a thread, as the way of a request down the lanes: Real-time CORBA 1.2, Threadpools.
-use Rattle.std.specs.Prelude.{◌≡◌, ◌<◌, ◌≤◌, ◌⊎◌, ℕ, zero, suc, Bool, true, false, ◌==◌, ◌&&◌, List, Option, Some, None, position}
+use Rattle.std.specs.Prelude.{◌≡◌, ◌<◌, ◌≤◌, ◌⊎◌, ℕ, zero, suc, Bool, true, false, ◌==◌, ◌&&◌, List, Option, position}
 use Rattle.std.specs.Option.{option_or}
 use Rattle.thread_borrowing.specs.ThreadList.{Thread, is_free}
 use Rattle.thread_borrowing.specs.Choice.{standing}
 
--- the first thread of a lane that has no task and stands so
+-- a thread of a lane that has no task and stands so
+abbrev pub stands_in : ℕ → ℕ → Thread → Bool
+stands_in lane how thread = is_free thread.doing && (thread.lane == lane) && (standing thread == how)
+
+-- the first such thread
 abbrev pub first_standing : ℕ → ℕ → List Thread → Option ℕ
-first_standing lane how threads = position (λ thread. is_free thread.doing && (thread.lane == lane) && (standing thread == how)) threads
+first_standing lane how threads = position (stands_in lane how) threads
 
 -- in a lane: a static thread, else a started dynamic one, else one that is not started
 abbrev pub in_lane : ℕ → List Thread → Option ℕ

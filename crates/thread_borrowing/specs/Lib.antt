@@ -2,3 +2,4 @@ pub mod ThreadList
 pub mod Building
 pub mod Choice
 pub mod Chain
+pub mod Masks

@@ -1,11 +1,12 @@
 //! One thread of a lane.
 ghost use Rattle.std.specs.Prelude.{◌≡◌, true, false};
 ghost use Rattle.thread_borrowing.specs.ThreadList.{is_free, is_given, works_for, task_of, job_of, given, begun, freed};
-ghost use Rattle.thread_borrowing.specs.Choice.{can_start, rank};
+ghost use Rattle.thread_borrowing.specs.Choice.{standing};
+ghost use Rattle.thread_borrowing.specs.Masks.{level};
 ghost use Rattle.std.specs.Prelude.{Some};
 
 use crate::doing::Doing;
-use crate::lending::may_run;
+use crate::standing::Standing;
 use crate::task::Task;
 use orb_base::{Arc, ConnId, Job};
 use std::marker::Model;
@@ -61,33 +62,17 @@ impl LaneThread {
         self.lane
     }
 
-    /// Whether it was started.
-    pub fn is_started(&self) -> bool
-        ensures { result ≡ self.now.started }
+    /// How it stands among the threads of its lane.
+    pub fn standing(&self) -> Standing
+        ensures { level result ≡ standing self.now }
     {
-        self.started
-    }
-
-    /// Whether it can be given a request of this lane.
-    pub fn can_start(&self, borrowing: bool, lane: u8) -> bool
-        ensures { result ≡ can_start borrowing lane self.now }
-    {
-        is_free(&self.doing) && may_run(borrowing, self.lane, lane)
-    }
-
-    /// Its rank: higher lanes first, and in a lane a static thread before a started dynamic one, and that before
-    /// one that is not started.
-    pub fn rank(&self) -> u16
-        ensures { result ≡ rank self.now }
-    {
-        let standing = if self.is_static {
-            2
+        if self.is_static {
+            Standing::Static
         } else if self.started {
-            1
+            Standing::Started
         } else {
-            0
-        };
-        3 * u16::from(self.lane) + standing
+            Standing::Resting
+        }
     }
 
     /// Whether it has a request of the connection.
@@ -161,13 +146,6 @@ impl LaneThread {
             _ => unreachable!(),
         }
     }
-}
-
-/// Whether there is no task.
-fn is_free(doing: &Doing) -> bool
-    ensures { result ≡ is_free doing.now }
-{
-    matches!(doing, Doing::Free)
 }
 
 /// The connection of a request.

@@ -12,6 +12,9 @@ mod doing;
 mod lane_thread;
 mod laws;
 mod lending;
+mod mask;
+mod probes;
+mod standing;
 mod task;
 mod threads;
 
@@ -19,5 +22,6 @@ pub use choice::Choice;
 pub use doing::Doing;
 pub use laws::{choice_goes_down, choice_stands_first};
 pub use lending::may_run;
+pub use probes::Steps;
 pub use task::Task;
 pub use threads::Threads;
