@@ -1,5 +1,12 @@
-pub mod PlaceNames
 pub mod NextJobs
-pub mod Passes
-pub mod FirstFound
-pub mod Taking
+pub mod ListFacts
+pub mod Arrivals
+pub mod Around
+pub mod Ordering
+pub mod Keeping
+pub mod Renumbering
+pub mod Searching
+pub mod Spots
+pub mod Counting
+pub mod Arriving
+pub mod Bounding

@@ -1,13 +1,11 @@
-//! What the passes over the requests ask of each.
-ghost use Rattle.std.specs.Prelude.{◌≡◌, position};
-ghost use Rattle.thread_borrowing.specs.Choice.{first_greatest, may_run};
+//! What a look at the requests asks of each.
+ghost use Rattle.std.specs.Prelude.{◌≡◌};
 ghost use Rattle.request_buffer.specs.Keys.{key_of, names_late};
 ghost use Rattle.request_buffer.specs.Kept.{is_late};
 
 use orb_base::{ConnId, Due, Job};
-use thread_borrowing::may_run;
 
-/// What a pass over the requests asks of one. Keys are small and lie in one piece, so that a pass reads memory in order
+/// What a look at the requests asks of one. Keys are small and lie in one piece, so that a pass reads memory in order
 /// and follows no request.
 #[derive(Clone, Copy, Debug)]
 pub struct Key {
@@ -43,31 +41,6 @@ impl Key {
     {
         is_late(self.due) && self.conn.is_same(conn) && self.id == id
     }
-}
-
-/// The position of the request that a thread of this lane takes next, by the keys of all: the earliest of those of
-/// greatest priority that it may run; None where it may run none. One pass over the keys.
-pub fn most_urgent(keys: &[Key], lane: u8, borrowing: bool) -> Option<usize>
-    ensures { result ≡ first_greatest (λ key. may_run borrowing lane key.lane)
-        (λ key. key.priority) keys.now }
-{
-    let mut found = None;
-    let mut best = 0;
-    for (at, key) in keys.iter().enumerate() {
-        if may_run(borrowing, lane, key.lane) && (found.is_none() || key.priority > best) {
-            found = Some(at);
-            best = key.priority;
-        }
-    }
-    found
-}
-
-/// The position of the earliest request of a connection and id whose reply is still due, by the keys of all. One pass
-/// over the keys, up to that one.
-pub fn earliest_late(keys: &[Key], conn: ConnId, id: u32) -> Option<usize>
-    ensures { result ≡ position (names_late conn id) keys.now }
-{
-    keys.iter().position(|key| key.may_cancel(conn, id))
 }
 
 /// Whether a reply is due when a request was carried out.

@@ -5,8 +5,13 @@
 #![tactic(auto)]
 
 mod buffer;
+mod found;
 mod key;
 mod laws;
+mod queue;
+mod queues;
+mod sought;
+mod waiting;
 
 pub use buffer::Buffer;
 pub use laws::next_is_most_urgent;

@@ -1,12 +1,9 @@
--- As many requests as keys of the connection.
-use Rattle.std.proofs.Common.{rules, ◌≡◌, ◌∙◌}
-use Rattle.std.specs.Prelude.{count_by}
+-- As many requests as the queues have.
+use Rattle.std.proofs.Common.{◌∙◌}
 use Rattle.orb_base.specs.Conn.{same_conn}
-use Rattle.request_buffer.proofs.Passes.{count_by_keys}
+use Rattle.request_buffer.proofs.Arriving.{counted_alike}
 use Rattle.request_buffer.proofs.buffer.Buffer.count_for.Goals as goal
 
 pub returns : goal.returns
 returns c =
-    let keys = c.self.inside.keys.items in
-    let counted : c.count.result ≡ count_by (λ key. same_conn key.conn c.args.conn) keys = search rules in
-    rw (← c.self.view_is) (counted ∙ count_by_keys c.args.conn _ _ c.self.invariant.keyed)
+    rw (← c.self.view_is) (c.count_for.ensures ∙ counted_alike (λ job. same_conn job.conn c.args.conn) c.self.inside.max_requests c.self.inside.next c.self.inside.queues c.self.invariant.stamped)
