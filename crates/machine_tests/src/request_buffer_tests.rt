@@ -17,6 +17,7 @@ const LIMITS: &[(u32, u32, &[u32], u32, bool)] = &[
     (3, 100, &[40, 60], 0, true),
     (3, 100, &[40, 60], 1, false),
     (0, 0, &[], 0, false),
+    (0, 100, &[], 1, false),
 ];
 
 /// Puts requests of these sizes, and gives the bytes of all of them.
@@ -67,6 +68,15 @@ const ORDERS: &[(&[(u8, i16)], u8, bool, &[u32])] = &[
     (&[(1, 9), (0, 5), (2, 20), (1, 9)], 0, true, &[2, 0, 3, 1]),
     (&[(1, 9), (0, 5), (2, 20), (1, 9)], 1, true, &[2, 0, 3]),
     (&[(1, 9), (0, 5), (2, 20), (1, 9)], 0, false, &[1]),
+    (&[(2, 9), (1, 9), (0, 9)], 0, true, &[0, 1, 2]),
+    (&[(0, 9), (2, 9), (1, 9)], 0, true, &[0, 1, 2]),
+    (&[(1, 9), (2, 9), (1, 9), (2, 9)], 1, true, &[0, 1, 2, 3]),
+    (&[(200, 5), (15, 9), (200, 7), (255, 7)], 0, false, &[]),
+    (&[(200, 5), (15, 9), (200, 7), (255, 7)], 0, true, &[1, 2, 3, 0]),
+    (&[(200, 5), (15, 9), (200, 7), (255, 7)], 15, false, &[1]),
+    (&[(200, 5), (15, 9), (200, 7), (255, 7)], 16, true, &[2, 3, 0]),
+    (&[(200, 5), (15, 9), (200, 7), (255, 7)], 200, false, &[2, 0]),
+    (&[(200, 5), (15, 9), (200, 7), (255, 7)], 255, false, &[3]),
 ];
 
 /// Puts a request for each of these lanes and priorities, whose ids count from 0.
@@ -159,6 +169,40 @@ fn removes_in_order(alloc: Global) -> bool {
 #[test]
 fn a_removal_in_the_middle_keeps_the_order(rt: HostRuntime) {
     assert!(rt; removes_in_order(rt.alloc()));
+}
+
+/// The lanes and priorities in order of arrival, the connection and the id that is removed, and the ids of the others
+/// as they go.
+const REMOVALS: &[(&[(u8, i16)], ConnId, u32, &[u32])] = &[
+    (&[(0, 5), (0, 5), (0, 5)], CONN, 0, &[1, 2]),
+    (&[(0, 5), (0, 5), (0, 5)], CONN, 1, &[0, 2]),
+    (&[(0, 5), (0, 5), (0, 5)], CONN, 2, &[0, 1]),
+    (&[(0, 5), (0, 9), (0, 7)], CONN, 2, &[1, 0]),
+    (&[(1, 9), (0, 9), (200, 9)], CONN, 2, &[0, 1]),
+    (&[(0, 5), (0, 5)], CONN, 2, &[0, 1]),
+    (&[(0, 5), (0, 5)], OTHER, 0, &[0, 1]),
+    (&[], CONN, 0, &[]),
+];
+
+fn all_removed(alloc: Global) -> bool {
+    for (places, conn, id, ids) in REMOVALS {
+        let Ok(mut buffer) = Buffer::new(alloc, 9, 900) else {
+            return false;
+        };
+        if !puts_places(alloc, &mut buffer, places) {
+            return false;
+        }
+        removed(&mut buffer, *conn, *id);
+        if !takes_just(&mut buffer, 0, true, ids) {
+            return false;
+        }
+    }
+    true
+}
+
+#[test]
+fn a_removal_anywhere_in_a_queue_leaves_the_others(rt: HostRuntime) {
+    assert!(rt; all_removed(rt.alloc()));
 }
 
 /// When a reply is due, and how many requests stay behind a removal.
