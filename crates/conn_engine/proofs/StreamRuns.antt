@@ -156,6 +156,7 @@ module _ (setup : SetupData) (outcome : List ℕ → JobRecord → Outcome) (bat
     entries = reads.fed.entries ++ next.entries;
     run = begins_ending m room bytes ended end closing reads.calls log among_log out among next.entries is reads.heard reads.fed next.begins;
     wrote = front_entries reads.fed.entries next.entries out among out' reads.fed.wrote next.wrote;
+    faults = next.faults ∙ reads.fed.faults;
   }
 
   -- ---- the calls were not all made
@@ -198,6 +199,7 @@ module _ (setup : SetupData) (outcome : List ℕ → JobRecord → Outcome) (bat
     entries = reads.began.entries;
     run = begins_feeding reads.some false reads.end reads.calls reads.began.entries reads.heard reads.began.begins;
     wrote = reads.began.wrote;
+    faults = reads.began.faults;
   }
 
   -- ---- for the goals of `run_stream`

@@ -94,8 +94,8 @@ pub record RanUpToLast (setup : SetupData) (outcome : List ℕ → JobRecord →
   pub logged : log' ≡ option_map (λ h. h ++ entries) log
   pub wrote : WroteUpToLast entries out out'
 
--- the run of some of the bytes was begun, of a read less where the last one was not heard, and what was written is a front of what these
--- entries say
+-- the run of some of the bytes was begun, of a read less where the last one was not heard; what was written is a prefix of what these
+-- entries say, and no write failed
 pub record RanFront (setup : SetupData) (outcome : List ℕ → JobRecord → Outcome) (batch : ℕ) (bytes : List ℕ) (out out' : SinkState) : Type 0 where
   pub some : List ℕ
   pub others : List ℕ
@@ -107,6 +107,7 @@ pub record RanFront (setup : SetupData) (outcome : List ℕ → JobRecord → Ou
   pub entries : History
   pub run : BeginsRun setup outcome batch calls end entries
   pub wrote : WroteFrontOf (said pipe_conn entries) out out'
+  pub faults : out'.faults ≡ out.faults
 
 -- what comes of the bytes that were taken, by how the run came out
 abbrev pub RunsBytes : Result StreamEnd NoMemory → SetupData → (List ℕ → JobRecord → Outcome) → ℕ → List ℕ → List ℕ → Bool

@@ -17,9 +17,9 @@ use Rattle.lane_machine.specs.declared.call.LaneReply.TheVariants as reply
 use Rattle.text_streams.specs.Streams.{WritesAll}
 use Rattle.text_streams.specs.declared.writing.WriteAll.{WriteAll}
 use Rattle.text_streams.specs.declared.writing.WriteAll.TheVariants.{Whole}
-use Rattle.pipe_laws.specs.Said.{item_bytes, handed_bytes, said}
+use Rattle.item_writer.specs.ItemBytes.{item_bytes}
+use Rattle.pipe_laws.specs.Said.{handed_bytes, said, HandsShort}
 use Rattle.lane_laws.proofs.Marks.{same_self}
-use Rattle.item_writer.specs.Shortness.{HandsShort}
 use Rattle.lane_driver.proofs.Driving.{said_both}
 use Rattle.lane_driver.proofs.Short.{collect_gives}
 use Rattle.lane_pool.specs.Pass.{Pass, conn_of}

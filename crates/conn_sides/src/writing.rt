@@ -1,8 +1,9 @@
 //! The writing side of a connection.
 ghost use Rattle.std.specs.Prelude.{◌≡◌};
 ghost use Rattle.lane_machine.specs.declared.call.LaneCall.TheVariants.{Collect};
-ghost use Rattle.pipe_laws.specs.Said.{item_bytes, handed_bytes};
-ghost use Rattle.item_writer.specs.Shortness.{IsShort, HandsShort};
+ghost use Rattle.item_writer.specs.ItemBytes.{item_bytes};
+ghost use Rattle.pipe_laws.specs.Said.{handed_bytes, HandsShort};
+ghost use Rattle.item_writer.specs.Shortness.{IsShort};
 ghost use Rattle.lane_pool.specs.Pass.{conn_of};
 ghost use Rattle.lane_pool.specs.Passes.{Makes};
 ghost use Rattle.lane_pool.specs.Replies.{collected_reply};

@@ -13,7 +13,7 @@ use Rattle.giop_messages.specs.Layout.{header}
 use Rattle.giop_messages.specs.Message.{reply, located, close, error}
 use Rattle.giop_messages.specs.Spelling.{spelled}
 use Rattle.cdr_core.specs.Spelling.{fields_bytes}
-use Rattle.pipe_laws.specs.Said.{bare}
+use Rattle.item_writer.specs.ItemBytes.{bare}
 use Rattle.item_writer.specs.Heads.{numbered_head, reply_head, padded}
 
 -- three numbers and what stands behind them

@@ -4,8 +4,6 @@ use Rattle.orb_base.specs.Outcomes.{body_len}
 use Rattle.orb_base.specs.declared.limits.TheConstants.{MAX_BODY}
 use Rattle.orb_base.specs.declared.item.Item.{Item}
 use Rattle.orb_base.specs.declared.item.Item.TheVariants.{Answered, Early, Transient, Noticed}
-use Rattle.lane_machine.specs.declared.call.LaneReply.{LaneReply}
-use Rattle.lane_machine.specs.declared.call.LaneReply.TheVariants as reply
 
 -- the body of the answer is no longer than an answer's may be
 abbrev pub IsShort : Item → Type 0
@@ -17,8 +15,3 @@ IsShort (Noticed _) = Unit {0}
 -- each item is short
 abbrev pub AreShort : List Item → Type 0
 AreShort items = (k : ℕ) (i : Item) → slice_get items k ≡ Some i → IsShort i
-
--- what is handed over is short
-abbrev pub HandsShort : LaneReply → Type 0
-HandsShort (reply.Handed i) = IsShort i
-HandsShort _ = Unit {0}

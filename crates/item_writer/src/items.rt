@@ -10,13 +10,12 @@ ghost use Rattle.giop_messages.specs.Exceptions.{exception_body};
 ghost use Rattle.giop_messages.specs.Message.{reply, located, close, error};
 ghost use Rattle.giop_messages.specs.Spelling.{spelled};
 ghost use Rattle.text_streams.specs.Streams.{WritesAll};
-ghost use Rattle.pipe_laws.specs.Said.{bare, item_bytes, handed_bytes};
-ghost use Rattle.item_writer.specs.Shortness.{IsShort, HandsShort};
+ghost use Rattle.item_writer.specs.ItemBytes.{bare, item_bytes};
+ghost use Rattle.item_writer.specs.Shortness.{IsShort};
 
 use crate::exceptions::exception_body_of;
 use crate::heads::{header_of, numbered, reply_head_of, write_message};
 use cdr_core::bytes_of_u16;
-use lane_machine::LaneReply;
 use orb_base::{Answer, Completed, Item, Job, Notice, Order, Outcome, Sink, Sys, SysName, What};
 use text_streams::WriteAll;
 
@@ -126,18 +125,4 @@ pub fn write_error<O: Sink>(sink: &mut O) -> WriteAll
     ensures { WritesAll result (spelled Big error) (O.state sink.old) (O.state sink.new) }
 {
     write_message(sink, header_of(Order::Big, 6, 0), &[])
-}
-
-/// Writes what an answer of Collect says: an item, CloseConnection, MessageError, or nothing. Takes no memory.
-#[tactic(auto, using(crate::proofs::Saying::says_start))]
-pub fn write_said<O: Sink>(sink: &mut O, reply: &LaneReply) -> WriteAll
-    requires { HandsShort reply.now }
-    ensures { WritesAll result (handed_bytes reply.now) (O.state sink.old) (O.state sink.new) }
-{
-    match reply {
-        LaneReply::Handed(item) => write_item(sink, item),
-        LaneReply::Close => write_close(sink),
-        LaneReply::Error => write_error(sink),
-        _ => WriteAll::Whole,
-    }
 }

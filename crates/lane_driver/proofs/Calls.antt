@@ -95,12 +95,13 @@ did_nothing does outcome s log out same = record {
 }
 
 -- memory was wanting behind what was done
-pub did_want : (first next : Doer) (outcome : Servant) (s m : State) (log mid : Option History) (out among out' : SinkState) → Did first outcome s m log mid out among → Grows next → out' ≡ among
+pub did_want : (first next : Doer) (outcome : Servant) (s m : State) (log mid : Option History) (out among out' : SinkState) → Did first outcome s m log mid out among → among.faults ≡ out.faults → Grows next → out' ≡ among
     → BeganWriting (λ servant run. next servant (first servant run)) outcome s out out'
-did_want first next outcome s m log mid out among out' one grows same = record {
+did_want first next outcome s m log mid out among out' one le grows same = record {
   entries = one.entries ++ [];
   begins = does_began grows one.does_so (goes_began (goes_none next outcome m grows));
   wrote = front_entries one.entries [] out among out' one.wrote (subst (λ (x : SinkState). WroteFrontOf [] among x) (sym same) (front_nothing [] among));
+  faults = ap (λ (x : SinkState). x.faults) same ∙ le;
 }
 
 -- a call by which nothing is written, and which is no Finish
@@ -236,7 +237,8 @@ call_want outcome left call s out out' want = want_first (befores call) (lasts l
 pub call_want_then : (outcome : Servant) (left : ℕ) (call : LaneCall) (course : Course) (s m : State) (log mid : Option History) (out among : SinkState) → course ≡ Whole
     → Drives {E = ⊥} (Ok course) (befores call) outcome s m log mid out among → BeganWriting (taking left call) outcome s out among
 call_want_then outcome left call course s m log mid out among is drives =
-    did_want (befores call) (lasts left call) outcome s m log mid out among among (whole_of (befores call) outcome course s m log mid out among is drives).0 (grows_lasts left call) refl
+    let one = whole_of (befores call) outcome course s m log mid out among is drives in
+    did_want (befores call) (lasts left call) outcome s m log mid out among among one.0 one.1 (grows_lasts left call) refl
 
 pub call_drives : {F : Type 0} (outcome : Servant) (left : ℕ) (call : LaneCall) (course : Course) (result : Result Course F) (s m n s' : State) (log mid next log' : Option History) (r : LaneReply) (out among out' : SinkState)
     → course ≡ Whole → IsHeardCall s.pool pipe_conn call → Drives {E = ⊥} (Ok course) (befores call) outcome s m log mid out among → IsApplied m call n mid next r

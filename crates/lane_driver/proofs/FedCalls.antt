@@ -127,6 +127,7 @@ fed_want batch outcome s m room among_room left calls calls_left call rest log m
   entries = so_far.entries ++ one.entries;
   begins = began_more batch outcome s m room among_room left calls calls_left call rest log mid out among one.entries is open_still left_is so_far one.begins;
   wrote = front_entries so_far.entries one.entries out among out' so_far.wrote one.wrote;
+  faults = one.faults ∙ so_far.faults;
 }
 
 -- memory was wanting between two calls
@@ -140,6 +141,7 @@ fed_want_here batch outcome s m room among_room calls calls_left log mid out amo
     begins = so_far.begins;
   };
   wrote = front_whole (said pipe_conn so_far.entries) out among so_far.wrote;
+  faults = so_far.faults;
 }
 
 pub fed_closing : (batch : ℕ) (outcome : Servant) (s m : State) (room among_room : ℕ) (calls calls_left : List LaneCall) (log mid : Option History) (out among : SinkState) → m.closing ≡ true

@@ -99,6 +99,7 @@ drives_then first then outcome (Err e) s m s' log mid log' out among out' grows 
   entries = one.entries ++ other.entries;
   begins = does_began grows one.does_so other.begins;
   wrote = front_entries one.entries other.entries out among out' one.wrote other.wrote;
+  faults = other.faults ∙ le;
 }
 
 pub stopped_first : (first then : Doer) (outcome : Servant) (s : State) (log log' : Option History) (out out' : SinkState) → Grows then
@@ -107,13 +108,14 @@ stopped_first first then outcome s log log' out out' grows one = record { entrie
 
 pub want_first : (first then : Doer) (outcome : Servant) (s : State) (out out' : SinkState) → Grows then
     → BeganWriting first outcome s out out' → BeganWriting (λ servant run. then servant (first servant run)) outcome s out out'
-want_first first then outcome s out out' grows one = record { entries = one.entries; begins = began_first then grows one.begins; wrote = one.wrote }
+want_first first then outcome s out out' grows one = record { entries = one.entries; begins = began_first then grows one.begins; wrote = one.wrote; faults = one.faults }
 
 pub want_at_once : (does : Doer) (outcome : Servant) (s : State) (out out' : SinkState) → Grows does → out' ≡ out → BeganWriting does outcome s out out'
 want_at_once does outcome s out out' grows same = record {
   entries = [];
   begins = goes_began (goes_none does outcome s grows);
   wrote = subst (λ (x : SinkState). WroteFrontOf [] out x) (sym same) (front_nothing [] out);
+  faults = ap (λ (x : SinkState). x.faults) same;
 }
 
 -- ---- collects
@@ -225,6 +227,7 @@ empties_want outcome s m log mid out among out' so_far same = record {
   entries = so_far.entries;
   begins = goes_began (so_far.goes_so outcome);
   wrote = subst (λ (x : SinkState). WroteFrontOf (said pipe_conn so_far.entries) out x) (sym same) (front_whole (said pipe_conn so_far.entries) out among so_far.wrote);
+  faults = ap (λ (x : SinkState). x.faults) same ∙ so_far.faults;
 }
 
 pub empties_done : (outcome : Servant) (s s' : State) (log log' : Option History) (out out' : SinkState) → Empties s s' log log' out out' → item_place s' pipe_conn ≡ None

@@ -27,7 +27,8 @@ use Rattle.request_buffer.specs.Kept.{may_cancel}
 use Rattle.lane_machine.specs.Machine.{step, item_place, end_of, was_told, is_over, heard, placed, run_by, kept_or_full, may_wait, offered, posted, cancelled, withdrawn, begun, taken, answered, handed_on, freed, finished, handed, over, shut, collected, early_items, late_items, refusals}
 use Rattle.lane_machine.specs.Readiness.{is_ready, IsSound}
 use Rattle.pipe_laws.specs.Reached.{IsReached}
-use Rattle.item_writer.specs.Shortness.{IsShort, AreShort, HandsShort}
+use Rattle.item_writer.specs.Shortness.{IsShort, AreShort}
+use Rattle.pipe_laws.specs.Said.{HandsShort}
 use Rattle.thread_borrowing.proofs.Places.{remove_cases}
 use Rattle.pipe_laws.proofs.Reached.{holds}
 

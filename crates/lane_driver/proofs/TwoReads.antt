@@ -85,4 +85,5 @@ module _ (batch : ℕ) (outcome : Servant) (s m : State) (room room1 : ℕ) (cal
     entries = first.entries ++ next.entries;
     begins = began_on next.entries next.begins;
     wrote = front_entries first.entries next.entries out among out' first.wrote next.wrote;
+    faults = next.faults ∙ first.faults;
   }

@@ -80,11 +80,12 @@ pub record Did (does : Doer) (outcome : Servant) (s s' : State) (log log' : Opti
   pub logged : Logged entries log log'
   pub wrote : WroteText (said pipe_conn entries) out out'
 
--- it was begun, and a front of what that says was written
+-- it was begun, a prefix of what that says was written, and no write failed
 pub record BeganWriting (does : Doer) (outcome : Servant) (s : State) (out out' : SinkState) : Type 0 where
   pub entries : History
   pub begins : Began does outcome s entries
   pub wrote : WroteFrontOf (said pipe_conn entries) out out'
+  pub faults : out'.faults ≡ out.faults
 
 -- all that these entries say was written, but that of what the last one says only a front was
 pub record WroteUpToLast (entries : History) (out out' : SinkState) : Type 0 where

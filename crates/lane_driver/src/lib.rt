@@ -13,6 +13,7 @@ mod laws;
 mod log;
 mod opening;
 mod runs;
+mod said;
 mod turns;
 
 pub use collects::{PIPE_CONN, collect, collect_all, settle};
@@ -23,4 +24,5 @@ pub use laws::{runs_are_piped, what_is_done_is_piped};
 pub use log::{Log, Noted};
 pub use opening::open;
 pub use runs::run_calls;
+pub use said::write_said;
 pub use turns::{apply_call, invoke, run_to_rest};

@@ -6,7 +6,7 @@ use Rattle.orb_base.specs.Links.{AcceptorState, Accepts, CountsAcceptFault, Coun
 use Rattle.orb_base.specs.Outside.{SourceState, SinkState}
 use Rattle.orb_base.specs.declared.accepted.Accepted.TheVariants as accepted
 use Rattle.link_slots.specs.SlotEnds.{NoneDone, NoneFailed, HasCause}
-use Rattle.link_slots.specs.Slots.{MayServe, MayGoOn, none, one, ServesLinks, SlotRan}
+use Rattle.link_slots.specs.Slots.{MayServe, MayGoOn, none, one, ServesInOrder, SlotRan}
 use Rattle.link_slots.specs.declared.host.LinkJob.{LinkJob}
 use Rattle.link_slots.specs.declared.host.LinkDone.{LinkDone}
 use Rattle.link_slots.specs.declared.slot.SlotJob.{SlotJob}
@@ -26,7 +26,7 @@ module _ {A I O P L : Type 0} (source : I → SourceState) (sink : O → SinkSta
     (asks : LinkJob P I O → Type 0) (gives : LinkJob P I O → LinkDone P L → Type 0) (most : ℕ) where
   -- links were served so far, the last one didn't close the slot, and the next may be served
   pub record GoesOn (before : P) (old new : AcceptorState I O) (logs : List L) (after : P) : Type 0 where
-    pub serves : ServesLinks state gives before old new logs false after
+    pub serves : ServesInOrder state gives before old new logs false after
     pub none_done : NoneDone old new
     pub none_failed : NoneFailed old new
     pub next : MayServe source sink asks most (length logs) after
@@ -41,9 +41,9 @@ module _ {A I O P L : Type 0} (source : I → SourceState) (sink : O → SinkSta
 
   -- the links so far, and one more
   more : (p q : P) (old acc acc' : AcceptorState I O) (n : ℕ) (i : I) (o : O) (logs : List L) (done : LinkDone P L)
-      → ServesLinks state gives p old acc logs false q → Accepts (accepted.Link i o) acc acc' → length logs ≡ n
+      → ServesInOrder state gives p old acc logs false q → Accepts (accepted.Link i o) acc acc' → length logs ≡ n
       → gives (record { nth = n; place = q; source = i; sink = o }) done
-      → ServesLinks state gives p old acc' (logs ++ done.log ∷ []) done.closes done.place
+      → ServesInOrder state gives p old acc' (logs ++ done.log ∷ []) done.closes done.place
   more p q old acc acc' n i o logs done g a e s = record {
     links = g.links ++ (i, o) ∷ [];
     served = one p g.links logs (record { nth = n; place = q; source = i; sink = o }) done g.served (sym e) s;
@@ -58,7 +58,7 @@ module _ {A I O P L : Type 0} (source : I → SourceState) (sink : O → SinkSta
   goes_further p q old acc acc' n i o logs all done m g a f d e s c h =
       let count : length (logs ++ done.log ∷ []) ≡ n + 1 = length-append logs (done.log ∷ []) ∙ ap (λ (k : ℕ). k + 1) e in
       subst (λ (z : List L). GoesOn p old acc' z done.place) (sym h) (record {
-        serves = subst (λ (b : Bool). ServesLinks state gives p old acc' (logs ++ done.log ∷ []) b done.place) c (more p q old acc acc' n i o logs done g.serves a e s);
+        serves = subst (λ (b : Bool). ServesInOrder state gives p old acc' (logs ++ done.log ∷ []) b done.place) c (more p q old acc acc' n i o logs done g.serves a e s);
         none_done = d ∙ g.none_done;
         none_failed = f ∙ g.none_failed;
         next = subst (λ (k : ℕ). MayServe source sink asks most k done.place) (sym count) (m (record { nth = n; place = q; source = i; sink = o }) done s);
@@ -74,7 +74,7 @@ module _ {A I O P L : Type 0} (source : I → SourceState) (sink : O → SinkSta
       let links = more job.place q (state job.acceptor) acc (state out.acceptor) n i o logs done g.serves x e s in
       record {
         closed = done.closes;
-        serves = subst (λ (z : List L × P). ServesLinks state gives job.place (state job.acceptor) (state out.acceptor) z.0 done.closes z.1) (λ j. (sym el j, sym ep j)) links;
+        serves = subst (λ (z : List L × P). ServesInOrder state gives job.place (state job.acceptor) (state out.acceptor) z.0 done.closes z.1) (λ j. (sym el j, sym ep j)) links;
         cause = subst (λ (z : List L). HasCause out.end most (length z) done.closes (state job.acceptor) (state out.acceptor)) (sym el)
             (subst (λ (z : SlotEnd). HasCause z most (length (logs ++ done.log ∷ [])) done.closes (state job.acceptor) (state out.acceptor)) (sym ee)
             (let m = length-append logs (done.log ∷ []) in (omega (arith, l, e), c, d ∙ g.none_done, f ∙ g.none_failed)));

@@ -22,12 +22,12 @@ module _ {P I O : Type 0} (source : I → SourceState) (sink : O → SinkState) 
 module _ {P I O L : Type 0} (gives : LinkJob P I O → LinkDone P L → Type 0) where
   -- these links were served one after another, from the first place to the last, and left these logs; each was served after links
   -- that didn't close the slot, and the Bool is whether the last one closed it
-  pub data AreServed : P → List (I × O) → List L → Bool → P → Type 0 where
-    none : (p : P) → AreServed p [] [] false p
+  pub data AreLinksServed : P → List (I × O) → List L → Bool → P → Type 0 where
+    none : (p : P) → AreLinksServed p [] [] false p
     one : (p : P) (links : List (I × O)) (logs : List L) (job : LinkJob P I O) (done : LinkDone P L)
-        → AreServed p links logs false job.place
+        → AreLinksServed p links logs false job.place
         → job.nth ≡ length logs → gives job done
-        → AreServed p (links ++ (job.source, job.sink) ∷ []) (logs ++ done.log ∷ []) done.closes done.place
+        → AreLinksServed p (links ++ (job.source, job.sink) ∷ []) (logs ++ done.log ∷ []) done.closes done.place
 
 module _ {I O : Type 0} where
   -- the acceptor handed out these links, which were before those still to come
@@ -35,20 +35,20 @@ module _ {I O : Type 0} where
   HandsOut links old new = old.links ≡ option_map (λ rest. links ++ rest) new.links
 
 -- room for what as many links leave as may be served
-pub record IsJob {A P L : Type 0} (most : ℕ) (job : SlotJob A P L) : Type 0 where
+pub record HasRoom {A P L : Type 0} (most : ℕ) (job : SlotJob A P L) : Type 0 where
   pub empty : job.logs.items ≡ []
   pub room : most ≤ vec_capacity job.logs
 
 module _ {A I O P L : Type 0} (state : A → AcceptorState I O) (gives : LinkJob P I O → LinkDone P L → Type 0) where
   -- links of the acceptor were served in order, from this place to that one, and left these logs; the Bool is whether the last one
   -- closed the slot
-  pub record ServesLinks (before : P) (old new : AcceptorState I O) (logs : List L) (closed : Bool) (after : P) : Type 0 where
+  pub record ServesInOrder (before : P) (old new : AcceptorState I O) (logs : List L) (closed : Bool) (after : P) : Type 0 where
     pub links : List (I × O)
-    pub served : AreServed gives before links logs closed after
+    pub served : AreLinksServed gives before links logs closed after
     pub handed : HandsOut links old new
 
   -- a slot that began so left this, and its end has its cause
   pub record SlotRan (most : ℕ) (job : SlotJob A P L) (done : SlotDone A P L) : Type 0 where
     pub closed : Bool
-    pub serves : ServesLinks job.place (state job.acceptor) (state done.acceptor) done.logs.items closed done.place
+    pub serves : ServesInOrder job.place (state job.acceptor) (state done.acceptor) done.logs.items closed done.place
     pub cause : HasCause done.end most (length done.logs.items) closed (state job.acceptor) (state done.acceptor)

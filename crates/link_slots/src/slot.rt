@@ -1,7 +1,7 @@
 //! A slot: one link after another.
 ghost use Rattle.std.specs.Prelude.{◌≡◌, ◌≤◌, []};
 ghost use Rattle.std.specs.Vec.{vec_capacity};
-ghost use Rattle.link_slots.specs.Slots.{MayServe, MayGoOn, IsJob, SlotRan};
+ghost use Rattle.link_slots.specs.Slots.{MayServe, MayGoOn, HasRoom, SlotRan};
 
 use crate::host::{LinkDone, LinkHost, LinkJob};
 use crate::slot_end::SlotEnd;
@@ -26,12 +26,24 @@ pub struct SlotDone<A, P, L> {
     pub end: SlotEnd,
 }
 
+/// A slot that came out so.
+fn left<A, P, L>(place: P, acceptor: A, logs: Vec<L>, end: SlotEnd) -> SlotDone<A, P, L>
+    ensures { result ≡ record { place = place; acceptor = acceptor; logs = logs; end = end } }
+{
+    SlotDone {
+        place,
+        acceptor,
+        logs,
+        end,
+    }
+}
+
 /// Serves the links of an acceptor, one after another, and at most as many as the host says. Takes no memory.
 pub fn run_slot<A: Acceptor, P: Drop, L: Drop, F: Fn(LinkJob<P, A::In, A::Out>) -> LinkDone<P, L>>(
     host: &LinkHost<F>,
     job: SlotJob<A, P, L>,
 ) -> SlotDone<A, P, L>
-    requires job { IsJob host.now.most job }
+    requires job { HasRoom host.now.most job }
     requires first { MayServe A.In.state A.Out.state (F.pre host.now.serve) host.now.most 0 job.place }
     requires next { MayGoOn A.In.state A.Out.state (F.pre host.now.serve) host.now.most (F.post host.now.serve) }
     // Its links were handed out by the acceptor, in order, and served by its place, each as the closure says; and its end has its cause.
@@ -59,36 +71,12 @@ pub fn run_slot<A: Acceptor, P: Drop, L: Drop, F: Fn(LinkJob<P, A::In, A::Out>) 
                 place = next;
                 logs.push_reserved(log);
                 if closes {
-                    return SlotDone {
-                        place,
-                        acceptor,
-                        logs,
-                        end: SlotEnd::Closed,
-                    };
+                    return left(place, acceptor, logs, SlotEnd::Closed);
                 }
             }
-            Accepted::Done => {
-                return SlotDone {
-                    place,
-                    acceptor,
-                    logs,
-                    end: SlotEnd::Done,
-                };
-            }
-            Accepted::Failed => {
-                return SlotDone {
-                    place,
-                    acceptor,
-                    logs,
-                    end: SlotEnd::AcceptFault,
-                };
-            }
+            Accepted::Done => return left(place, acceptor, logs, SlotEnd::Done),
+            Accepted::Failed => return left(place, acceptor, logs, SlotEnd::AcceptFault),
         }
     }
-    SlotDone {
-        place,
-        acceptor,
-        logs,
-        end: SlotEnd::Served,
-    }
+    left(place, acceptor, logs, SlotEnd::Served)
 }

@@ -27,7 +27,7 @@ use Rattle.lane_pool.proofs.Staying.{fresh_home, home_linked, home_same, same_le
 use Rattle.orb_server.specs.Connections.{Conn, IsHeard, IsSaid, IsServed, AreServed, conn_at, writers_left}
 use Rattle.link_slots.specs.SlotEnds.{HasCause}
 use Rattle.link_slots.specs.Slots.{none, one, HandsOut, SlotRan}
-use Rattle.link_slots.specs.Slots.{AreServed as Linked}
+use Rattle.link_slots.specs.Slots.{AreLinksServed}
 use Rattle.link_slots.specs.declared.host.LinkJob.{LinkJob}
 use Rattle.link_slots.specs.declared.host.LinkDone.{LinkDone}
 use Rattle.link_slots.specs.declared.slot_end.SlotEnd.{SlotEnd}
@@ -186,18 +186,18 @@ module _ {I O : Type 0} (source : I → SourceState) (sink : O → SinkState) (s
       (serves : (link : LinkJob Pass I O) (done : LinkDone Pass (ConnLog I O)) → gives link done → ServesLink source sink setup cell link done) where
     -- all of them
     strung : (slot : ℕ) (pass pass' : Pass) (links : List (I × O)) (logs : List (ConnLog I O)) (closed : Bool) → IsFresh cell (1 + slot) slot pass
-        → Linked gives pass links logs closed pass' → Strung slot pass' links logs
+        → AreLinksServed gives pass links logs closed pass' → Strung slot pass' links logs
     strung slot pass pass' links logs closed f (none p) = strung_none slot p f
     strung slot pass pass' links logs closed f (one p xs ls job done a e s) =
         strung_more slot job.place done.place xs (job.source, job.sink) ls done.log (strung slot p job.place xs ls false f a) (serves job done s).one
 
     -- whether the last one closed the slot
-    closed_so : (pass pass' : Pass) (links : List (I × O)) (logs : List (ConnLog I O)) (closed : Bool) → Linked gives pass links logs closed pass' → closed ≡ closed_behind false logs
+    closed_so : (pass pass' : Pass) (links : List (I × O)) (logs : List (ConnLog I O)) (closed : Bool) → AreLinksServed gives pass links logs closed pass' → closed ≡ closed_behind false logs
     closed_so pass pass' links logs closed (none p) = refl
     closed_so pass pass' links logs closed (one p xs ls job done a e s) = (serves job done s).closes ∙ sym (closed_grows false ls done.log)
 
     -- the slot's pass is at rest after them
-    still_rests : (pass pass' : Pass) (links : List (I × O)) (logs : List (ConnLog I O)) (closed : Bool) → Rests cell pass → Linked gives pass links logs closed pass' → Rests cell pass'
+    still_rests : (pass pass' : Pass) (links : List (I × O)) (logs : List (ConnLog I O)) (closed : Bool) → Rests cell pass → AreLinksServed gives pass links logs closed pass' → Rests cell pass'
     still_rests pass pass' links logs closed r (none p) = r
     still_rests pass pass' links logs closed r (one p xs ls job done a e s) = (serves job done s).kept.rests
 

@@ -25,7 +25,8 @@ use Rattle.turn_cell.specs.declared.entry.Entry.{Entry}
 use Rattle.lane_driver.specs.Driving.{run_at as at, entry}
 use Rattle.lane_driver.specs.Feeding.{group_at}
 use Rattle.adapter_policies.specs.SetupData.{SetupData}
-use Rattle.pipe_laws.specs.Said.{said, item_bytes}
+use Rattle.item_writer.specs.ItemBytes.{item_bytes}
+use Rattle.pipe_laws.specs.Said.{said}
 use Rattle.pipe_laws.specs.Piped.{Run, settled, answer_of}
 use Rattle.pipe_laws.specs.Groups.{Group, folded}
 use Rattle.pipe_laws.proofs.Folds.{closing_stays}

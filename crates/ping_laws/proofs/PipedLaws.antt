@@ -32,7 +32,8 @@ use Rattle.ping_laws.specs.Setup.{IsKnown, IsRunnable, opened}
 use Rattle.pipe_laws.specs.Setup.{interface_at, pipe_conn}
 use Rattle.adapter_policies.specs.SetupData.{SetupData}
 use Rattle.adapter_policies.specs.declared.object_spec.ObjectSpec.{ObjectSpec}
-use Rattle.pipe_laws.specs.Said.{item_bytes, call_bytes, said}
+use Rattle.item_writer.specs.ItemBytes.{item_bytes}
+use Rattle.pipe_laws.specs.Said.{call_bytes, said}
 use Rattle.pipe_laws.specs.Piped.{Run, closed_by, grouped as grouped_so, answer_of, piped}
 use Rattle.ping_laws.specs.Built.{IsBuilt}
 use Rattle.ping_laws.specs.Hearing.{MeanJobs}

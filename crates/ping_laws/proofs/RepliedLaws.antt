@@ -32,7 +32,8 @@ use Rattle.ping_laws.specs.declared.place.Place.{Place}
 use Rattle.adapter_policies.specs.BuiltIn.{built_in}
 use Rattle.adapter_policies.specs.SetupData.{SetupData}
 use Rattle.ping_laws.specs.Ping.{ping_request}
-use Rattle.pipe_laws.specs.Said.{reply_status, reply_body, bare, call_bytes, said}
+use Rattle.item_writer.specs.ItemBytes.{reply_status, reply_body, bare}
+use Rattle.pipe_laws.specs.Said.{call_bytes, said}
 use Rattle.pipe_laws.specs.Groups.{Group, folded}
 use Rattle.pipe_laws.specs.Piped.{Run, settled, closed_by, answer_of, piped}
 use Rattle.pipe_laws.proofs.Folds.{groups_are_folded}

@@ -8,7 +8,7 @@ use Rattle.cdr_core.specs.Spelling.{fields_bytes}
 use Rattle.cdr_core.proofs.CallerLemmas.{fields_end-is, length-number_bytes}
 use Rattle.giop_messages.specs.Message.{reply}
 use Rattle.giop_messages.specs.Spelling.{framed, spelled, all_fields}
-use Rattle.pipe_laws.specs.Said.{bare}
+use Rattle.item_writer.specs.ItemBytes.{bare}
 
 framed_len : (order : Order) (kind : ℕ) (inner : List ℕ) → length (framed order kind inner) ≡ 12 + length inner
 framed_len order kind inner =

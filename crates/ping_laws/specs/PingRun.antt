@@ -23,7 +23,7 @@ use Rattle.pipe_laws.specs.Setup.{interface_of, pipe_conn}
 use Rattle.adapter_policies.specs.SetupData.{SetupData}
 use Rattle.ping_laws.specs.Ping.{ping_request}
 use Rattle.ping_laws.specs.Heard.{job_of}
-use Rattle.pipe_laws.specs.Said.{item_bytes}
+use Rattle.item_writer.specs.ItemBytes.{item_bytes}
 use Rattle.text_streams.specs.Streams.{WroteText, WroteSome}
 
 -- the request of so many bytes for `current` of the object of a number, at a priority, as the call of this number of the pipe's

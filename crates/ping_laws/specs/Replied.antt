@@ -12,7 +12,8 @@ use Rattle.giop_messages.specs.Written.{wholes_from}
 use Rattle.orb_base.specs.JobRecord.{JobRecord}
 use Rattle.orb_base.specs.declared.outcome.Outcome.{Outcome}
 use Rattle.ping_laws.specs.Telling.{TellPriorities}
-use Rattle.pipe_laws.specs.Said.{reply_status, reply_body, bare, said}
+use Rattle.item_writer.specs.ItemBytes.{reply_status, reply_body, bare}
+use Rattle.pipe_laws.specs.Said.{said}
 use Rattle.lane_machine.specs.Histories.{History}
 use Rattle.pipe_laws.specs.Setup.{pipe_conn}
 use Rattle.conn_engine.specs.Streams.{IsRunOf}

@@ -75,7 +75,7 @@ ShowsRun end.Closed history shown setup outcome batch earlier bytes ended old ne
 ShowsRun end.WriteFault history shown setup outcome batch earlier bytes ended old new out out' =
     StopsShowing shown setup outcome batch earlier bytes ended history old new out out' × MayFail old new × Rose out.faults out'.faults
 
--- what was written where memory was wanting: nothing, or a front of what the run of some of the bytes says; nothing of the text
+-- what was written where memory ran out: nothing, or a prefix of what the run of some of the bytes says; nothing of the text. No write failed
 abbrev pub BeganShowing : Shown → SetupData → (List ℕ → JobRecord → Outcome) → ℕ → List ℕ → SinkState → SinkState → Type 0
 BeganShowing Bytes setup outcome batch bytes out out' = (out' ≡ out) ⊎ RanFront setup outcome batch bytes out out'
 BeganShowing Text setup outcome batch bytes out out' = out' ≡ out

@@ -1,9 +1,9 @@
 //! The messages of items, byte by byte: CORBA 3.0.3, section 15.4.
 
 ghost use Rattle.std.specs.Prelude.{IsTrue};
-ghost use Rattle.item_writer.specs.Shortness.{HandsShort};
+ghost use Rattle.pipe_laws.specs.Said.{HandsShort};
 
-use item_writer::*;
+use lane_driver::write_said;
 use lane_machine::LaneReply;
 use orb_base::limits::MAX_BODY;
 use orb_base::{

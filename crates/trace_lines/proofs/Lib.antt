@@ -1,7 +1,6 @@
 pub mod Maps
 pub mod Offered
 pub mod Commutes
-pub mod Known
 pub mod Items
 pub mod Rebuilds
 pub mod Once

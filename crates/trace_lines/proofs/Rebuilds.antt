@@ -37,7 +37,7 @@ use Rattle.trace_lines.specs.ReadBack.{notice_of, answer_of, with_job, finish_by
 use Rattle.trace_lines.specs.Plain.{plain, plain_item, plain_call, plain_reply, plain_entry}
 use Rattle.lane_machine.specs.Fates.{named, finishes, finished}
 use Rattle.thread_borrowing.proofs.Places.{at_place}
-use Rattle.trace_lines.proofs.Known.{AreKnown, If, Offers, step_known, IsTaken, taken_takes}
+use Rattle.lane_machine.proofs.Known.{AreKnown, If, Offers, step_known, IsTaken, taken_takes}
 use Rattle.trace_lines.proofs.Items.{NewBy, step_out}
 use Rattle.trace_lines.proofs.Offered.{Among, AllAmong, plain_there, one_number, offered_parts, conn_itself}
 

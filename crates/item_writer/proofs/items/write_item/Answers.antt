@@ -2,7 +2,7 @@ use Rattle.std.proofs.Common.{◌≡◌, ◌∙◌, ap, sym, subst}
 use Rattle.orb_base.specs.declared.item.Item.{Item}
 use Rattle.orb_base.specs.declared.item.Item.TheVariants.{Transient}
 use Rattle.text_streams.specs.Streams.{WritesAll}
-use Rattle.pipe_laws.specs.Said.{item_bytes}
+use Rattle.item_writer.specs.ItemBytes.{item_bytes}
 use Rattle.item_writer.proofs.items.write_item.Goals as goal
 
 pub returns-in-Transient : goal.returns-in-Transient

@@ -1,5 +1,6 @@
 use Rattle.std.proofs.Common.{◌≡◌, ℕ, ◌+◌, ◌<◌, ◌≤◌, ◌∷◌, [], length, length-append, ap, subst, sym, refl, ◌∙◌, arith}
 use Rattle.link_slots.proofs.Serving.{goes_first, goes_further, comes_closed}
+use Rattle.link_slots.specs.Slots.{SlotRan}
 use Rattle.link_slots.proofs.slot.run_slot.Goals as goal
 
 pub loop-nth-init : goal.loop-nth-init
@@ -14,10 +15,11 @@ pub returns-then-closes : goal.returns-then-closes
 returns-then-closes g c =
     let t = c.loop-nth-test.true in
     let few : c.loop-nth.nth < c.args.host.now.most = omega (arith, t, c.loop-nth.auto.nth-end) in record {
-      ran = comes_closed g.A.In.Source.state g.A.Out.Sink.state g.A.Acceptor.state _ _ c.args.host.now.most
-          c.args.job c.loop-nth.place (g.A.Acceptor.state c.loop-nth.acceptor) c.loop-nth.nth c.in-Link.source c.in-Link.sink c.loop-nth.logs.items c.serve-served.result _
-          c.loop-nth.invariant.0 c.in-Link.ensures.links c.in-Link.ensures.fault c.in-Link.ensures.end c.loop-nth.invariant.1 c.serve-served.ensures
-          c.if-closes.true few refl c.push_reserved.ensures.items refl;
+      ran = subst (λ r. SlotRan g.A.Acceptor.state (goal.F-post g c.args.host.now.serve) c.args.host.now.most c.args.job r) (sym c.left.ensures) (
+          comes_closed g.A.In.Source.state g.A.Out.Sink.state g.A.Acceptor.state _ _ c.args.host.now.most
+            c.args.job c.loop-nth.place (g.A.Acceptor.state c.loop-nth.acceptor) c.loop-nth.nth c.in-Link.source c.in-Link.sink c.loop-nth.logs.items c.serve-served.result _
+            c.loop-nth.invariant.0 c.in-Link.ensures.links c.in-Link.ensures.fault c.in-Link.ensures.end c.loop-nth.invariant.1 c.serve-served.ensures
+            c.if-closes.true few refl c.push_reserved.ensures.items refl);
     }
 
 pub loop-nth-preserved : goal.loop-nth-preserved
