@@ -4,3 +4,5 @@ pub mod Room
 pub mod Ending
 pub mod Served
 pub mod Done
+pub mod Replying
+pub mod Quieting
