@@ -47,7 +47,7 @@ written_of : {I O : Type 0} (h : History) (slot nth : ℕ) (cs : List (Conn I O)
 written_of h slot nth [] e = tt
 written_of h slot nth (c ∷ cs) e = (e.0, written_of h slot (nth + 1) cs e.1)
 
-count_few : {I O : Type 0} (end : SlotEnd) (most count : ℕ) (closed : Bool) (old new : AcceptorState I O) → HasCause end most count closed old new → count ≤ most
+pub count_few : {I O : Type 0} (end : SlotEnd) (most count : ℕ) (closed : Bool) (old new : AcceptorState I O) → HasCause end most count closed old new → count ≤ most
 count_few Done most count closed old new c = let a = c.0 in omega arith
 count_few Served most count closed old new c = let a = c.0 in omega arith
 count_few Closed most count closed old new c = c.0

@@ -7,3 +7,4 @@ pub mod Lanes
 pub mod Admitting
 pub mod Closing
 pub mod AtRest
+pub mod Replied

@@ -26,7 +26,7 @@ mod serve;
 mod slots;
 mod staff;
 
-pub use laws::a_run_ends_at_rest;
+pub use laws::{a_run_ends_at_rest, each_reply_is_handed_once};
 pub use link_slots::SlotEnd;
 pub use run::{ConnLog, Run};
 pub use serve::serve_run;
