@@ -55,21 +55,23 @@ module _ {I O : Type 0} (source : I → SourceState) (sink : O → SinkState) (s
 
 module _ {A I O : Type 0} (state : A → AcceptorState I O) (source : I → SourceState) (sink : O → SinkState) (setup : SetupData) (h : History) where
   served_all : (s : Slot A I O) (end : SlotEnd) → AcceptsWell end
-      → HasCause end setup.per_slot (length s.conns) (closed_behind false s.conns) (state s.before) (state s.behind) → ServedAll state source sink setup s end
+      → HasCause end setup.per_slot (length s.conns) (closed_behind false s.conns) (state s.before) (state s.behind) → ServedAll state source sink setup h s end
   served_all s Done well cause = cause.4
   served_all s Served well cause = cause.0
   served_all s Closed well cause = cause.1
   served_all s AcceptFault well cause = absurd well
 
-  slot_complete : (slot : ℕ) (s : Slot A I O) → WentWell s.conns → AcceptsWell s.end → SlotRan state source sink setup h slot s → SlotComplete state source sink setup slot s
+  slot_complete : (slot : ℕ) (s : Slot A I O) → WentWell s.conns → AcceptsWell s.end → SlotRan state source sink setup h slot s → SlotComplete state source sink setup h slot s
   slot_complete slot s well accepts ran = record {
     cs = ran.cs;
     logs_are = ran.serves.logs_are;
     links = ran.serves.links;
+    called = ran.read;
+    written = ran.written;
     each = are_complete source sink setup slot 0 ran.cs (subst (λ (ls : List (ConnLog I O)). WentWell ls) ran.serves.logs_are well) ran.serves.served;
     all = served_all s s.end accepts ran.cause;
   }
 
-  pub slots_complete : (slot : ℕ) (ss : List (Slot A I O)) → AllWentWell ss → SlotsRan state source sink setup h slot ss → AllComplete state source sink setup slot ss
+  pub slots_complete : (slot : ℕ) (ss : List (Slot A I O)) → AllWentWell ss → SlotsRan state source sink setup h slot ss → AllComplete state source sink setup h slot ss
   slots_complete slot [] well ran = tt
   slots_complete slot (s ∷ ss) well ran = (slot_complete slot s well.0 well.1 ran.0, slots_complete (slot + 1) ss well.2 ran.1)

@@ -3,7 +3,7 @@ use Rattle.std.specs.Prelude.{◌≡◌, ◌++◌, ◌∷◌, ◌+◌, ℕ, Bool
 use Rattle.orb_base.specs.Links.{AcceptorState}
 use Rattle.orb_base.specs.Outside.{SourceState, SinkState}
 use Rattle.orb_base.specs.declared.conn_id.ConnId.{ConnId}
-use Rattle.lane_machine.specs.Callers.{slot_seat}
+use Rattle.lane_machine.specs.Callers.{of, slot_seat}
 use Rattle.lane_machine.specs.Histories.{History}
 use Rattle.lane_machine.specs.declared.call.LaneCall.TheVariants.{End}
 use Rattle.lane_machine.specs.declared.call.LaneReply.TheVariants.{Noted}
@@ -18,11 +18,11 @@ use Rattle.conn_sides.specs.ReadSides.{HeardWhole, how_by}
 use Rattle.conn_sides.specs.WriteSides.{course_of}
 use Rattle.conn_sides.specs.declared.read_side_end.ReadSideEnd.{ReadSideEnd}
 use Rattle.conn_sides.specs.declared.read_side_end.ReadSideEnd.TheVariants as side
-use Rattle.orb_server.specs.Connections.{Conn, conn_at}
+use Rattle.orb_server.specs.Connections.{Conn, conn_at, AreWritten}
 use Rattle.orb_server.specs.Runs.{Slot}
 use Rattle.orb_server.specs.SlotEnds.{closed_behind}
 use Rattle.link_slots.specs.Slots.{HandsOut}
-use Rattle.orb_server.specs.Slots.{logs_of, links_of}
+use Rattle.orb_server.specs.Slots.{logs_of, links_of, read_by, leaving}
 use Rattle.orb_server.specs.declared.run.ConnLog.{ConnLog}
 use Rattle.link_slots.specs.declared.slot_end.SlotEnd.{SlotEnd}
 use Rattle.link_slots.specs.declared.slot_end.SlotEnd.TheVariants.{Done, Served, Closed, AcceptFault}
@@ -74,7 +74,8 @@ module _ {I O : Type 0} (source : I → SourceState) (sink : O → SinkState) (s
   AreComplete slot nth [] = Unit {0}
   AreComplete slot nth (c ∷ cs) = IsComplete (conn_at slot nth) c × AreComplete slot (nth + 1) cs
 
-module _ {A I O : Type 0} (state : A → AcceptorState I O) (source : I → SourceState) (sink : O → SinkState) (setup : SetupData) where
+module _ {A I O : Type 0} (state : A → AcceptorState I O) (source : I → SourceState) (sink : O → SinkState) (setup : SetupData)
+    (h : History) where
   -- all links were served that came: no further one is there, or as many were served as may be, or the last one closed
   abbrev pub ServedAll : Slot A I O → SlotEnd → Type 0
   ServedAll s Done = IfSome (state s.behind).links (λ links. links ≡ [])
@@ -82,11 +83,13 @@ module _ {A I O : Type 0} (state : A → AcceptorState I O) (source : I → Sour
   ServedAll s Closed = closed_behind false s.conns ≡ true
   ServedAll s AcceptFault = ⊥
 
-  -- a slot that left nothing out
+  -- a slot that left nothing out; what its connections called and were handed are the entries of their seats in the history
   pub record SlotComplete (slot : ℕ) (s : Slot A I O) : Type 0 where
     pub cs : List (Conn I O)
     pub logs_are : s.conns ≡ logs_of cs
     pub links : HandsOut (links_of cs) (state s.before) (state s.behind)
+    pub called : of (slot_seat slot) h ≡ read_by cs ++ leaving slot
+    pub written : AreWritten h slot 0 cs
     pub each : AreComplete source sink setup slot 0 cs
     pub all : ServedAll s s.end
 
