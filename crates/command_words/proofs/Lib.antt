@@ -1,1 +1,3 @@
-pub mod Places
+pub mod Built
+pub mod NulWords
+pub mod Orders

@@ -39,8 +39,8 @@ pub enum Meaning {
     RefsAt(Address, Option<Text>),
     /// The command `idl`, with the name of a file.
     Idl(Text),
-    /// A command, or options of one, that isn't built yet.
+    /// A command that isn't built yet, with any words after it.
     Unbuilt,
-    /// No command.
+    /// The words have no reading.
     Unread,
 }

@@ -1,310 +1,253 @@
 //! Reading the words of a command line.
-ghost use Rattle.std.specs.Prelude.{◌≡◌, IfOk, OnErr, IsSome, None, option_map, string_bytes};
+ghost use Rattle.std.specs.Prelude.{◌≡◌, ◌∷◌, true, IfOk, OnErr, is_some, map, option_map, string_bytes};
 ghost use Rattle.orb_base.specs.NulFree.{nul_at};
+ghost use Rattle.command_options.specs.Commands as Takes;
+ghost use Rattle.command_options.specs.Found.{given_by};
+ghost use Rattle.command_options.specs.Given.{given};
+ghost use Rattle.command_options.specs.Uses.{reading};
+ghost use Rattle.command_words.specs.Meanings as By;
 ghost use Rattle.command_words.specs.Words as Spec;
 
 use crate::meaning::{Meaning, PipeWords, ServeWords};
-use object_lines::{Address, read_address};
+use command_options::{Options, read_dump, read_idl, read_pipe, read_refs, read_serve};
+use object_lines::read_address;
 use object_refs::port_number;
 use orb_base::{NoMemory, Text, first_nul};
 use pipe_runs::{Batch, Shown};
 use std::alloc::Global;
+use std::convert::AsStr;
 
-/// What the words mean, the first of which is the command. Memory is asked for an address, and for the name of a file.
+/// The most digits of a number, own profile.
+const MAX_DIGITS: usize = 10;
+
+/// What the words mean, the first of which is the command: the options after it come in any order, each once at most, as
+/// `--name value` or `--name=value`. The reading, also of words that have none, takes time and memory in the length of the words.
+#[tactic(auto, unfolding(crate::specs::Words::command_of, crate::specs::Words::asks_memory))]
 pub fn read_words(alloc: Global, words: &[String]) -> Result<Meaning, NoMemory>
-    ensures { Spec.Means result (Spec.command_of string_bytes words.now) }
+    // The meaning, where memory is there.
+    ensures meaning { IfOk result (λ meaning. meaning ≡ Spec.command_of (map string_bytes words.now)) }
+    // Memory is asked for the words of a command that is built alone, where none of them holds a NUL.
+    ensures memory { OnErr result (Spec.asks_memory (map string_bytes words.now) ≡ true) }
 {
+    if has_nul(words) {
+        return Ok(Meaning::Unread);
+    }
     match words {
         [] => Ok(Meaning::Unread),
-        [word, options @ ..] => {
-            if !is_command(word.as_str()) {
-                Ok(Meaning::Unread)
-            } else if word.as_str() == "refs" {
-                read_refs(alloc, options)
-            } else if word.as_str() == "pipe" {
-                read_pipe(alloc, options)
-            } else if word.as_str() == "idl" {
-                read_idl(alloc, options)
-            } else if word.as_str() == "serve" {
-                read_serve(alloc, options)
-            } else {
-                Ok(alone(word.as_str(), options))
-            }
+        [name, options @ ..] => read_named(alloc, name.as_str(), options),
+    }
+}
+
+/// Whether one of the words holds a NUL.
+fn has_nul<S: AsStr>(words: &[S]) -> bool
+    ensures { result ≡ Spec.has_nul (map S.text words.now) }
+{
+    for word in words {
+        if holds_nul(word.as_str()) {
+            return true;
         }
     }
+    false
 }
 
-fn is_command(word: &str) -> bool
-    ensures { result ≡ Spec.is_command word.now }
+/// Whether a word holds a NUL.
+fn holds_nul(word: &str) -> bool
+    ensures { result ≡ is_some (nul_at word.now) }
 {
-    word == "pipe"
-        || word == "serve"
-        || word == "call"
-        || word == "refs"
-        || word == "dump"
-        || word == "idl"
-        || word == "load"
+    first_nul(word.as_bytes()).is_some()
 }
 
-/// What a command other than `pipe`, `serve`, `refs` and `idl` means.
-fn alone(word: &str, options: &[String]) -> Meaning
-    ensures { result ≡ Spec.alone_of word.now options.now }
+/// Whether this is the name of a command that isn't built yet.
+fn is_unbuilt(name: &str) -> bool
+    ensures { result ≡ Spec.is_unbuilt name.now }
 {
-    match options {
-        [] => {
-            if word == "dump" {
-                Meaning::Dump
-            } else {
-                Meaning::Unbuilt
-            }
-        }
-        [_, ..] => Meaning::Unbuilt,
+    name == "call" || name == "load"
+}
+
+/// What the command of this name means with these words after it.
+fn read_named(alloc: Global, name: &str, words: &[String]) -> Result<Meaning, NoMemory>
+    ensures meaning { IfOk result (λ meaning. meaning ≡ Spec.named_by (name.now ∷ map string_bytes words.now)) }
+    ensures memory { OnErr result (is_some (Spec.command_named name.now) ≡ true) }
+{
+    if name == "pipe" {
+        pipe(alloc, words)
+    } else if name == "serve" {
+        serve(alloc, words)
+    } else if name == "refs" {
+        refs(alloc, words)
+    } else if name == "dump" {
+        dump(alloc, words)
+    } else if name == "idl" {
+        idl(alloc, words)
+    } else if is_unbuilt(name) {
+        Ok(Meaning::Unbuilt)
+    } else {
+        Ok(Meaning::Unread)
     }
 }
 
-/// What `pipe` means with these words behind it: the options stand in one order.
-fn read_pipe(alloc: Global, options: &[String]) -> Result<Meaning, NoMemory>
-    ensures { Spec.Means result (Spec.pipe_of string_bytes options.now) }
+/// What `pipe` means with these words after it.
+fn pipe(alloc: Global, words: &[String]) -> Result<Meaning, NoMemory>
+    ensures { IfOk result (λ meaning. meaning
+        ≡ Spec.meant By.pipe_by (option_map given (reading Takes.pipe_items (map string_bytes words.now)))) }
 {
-    match options {
-        [option, name, rest @ ..] => {
-            if option.as_str() == "--config" {
-                pipe_with(alloc, name.as_str(), rest)
-            } else {
-                pipe_by(alloc, None, options)
-            }
-        }
-        _ => pipe_by(alloc, None, options),
+    match read_pipe(alloc, words)? {
+        Some(options) => pipe_by(alloc, &options),
+        None => Ok(Meaning::Unread),
     }
 }
 
-/// The pipe by a configuration, where the word is a name, with these words behind it.
-fn pipe_with(alloc: Global, name: &str, options: &[String]) -> Result<Meaning, NoMemory>
-    ensures { Spec.Means result (Spec.named_pipe string_bytes (Spec.name_of name.now) options.now) }
+/// What `pipe` means by what its options give.
+fn pipe_by(alloc: Global, options: &Options<'_>) -> Result<Meaning, NoMemory>
+    ensures { IfOk result (λ meaning. meaning ≡ By.pipe_by (given_by options.now)) }
 {
-    if !is_name(name.as_bytes()) {
-        return Ok(Meaning::Unbuilt);
-    }
-    pipe_by(alloc, Some(name), options)
-}
-
-/// The pipe with these words behind those of the configuration.
-fn pipe_by(alloc: Global, config: Option<&str>, options: &[String]) -> Result<Meaning, NoMemory>
-    ensures { Spec.Means result (Spec.grouped_pipe string_bytes (option_map (λ name. name.now) config.entry) options.now) }
-{
-    match options {
-        [option, number, rest @ ..] => {
-            if option.as_str() == "--batch" {
-                piped(alloc, config, batch_of(number.as_bytes()), shown_by(rest))
-            } else {
-                piped(alloc, config, Some(Batch::one()), shown_by(options))
-            }
-        }
-        _ => piped(alloc, config, Some(Batch::one()), shown_by(options)),
-    }
-}
-
-/// The pipe, where each option has a value.
-fn piped(
-    alloc: Global,
-    config: Option<&str>,
-    batch: Option<Batch>,
-    shown: Option<Shown>,
-) -> Result<Meaning, NoMemory>
-    ensures { Spec.Means result (Spec.piped (option_map (λ name. name.now) config.entry) batch shown) }
-{
-    let (Some(batch), Some(shown)) = (batch, shown) else {
-        return Ok(Meaning::Unbuilt);
+    let Some(batch) = batch_by(options.value("batch")) else {
+        return Ok(Meaning::Unread);
     };
-    let config = match config {
-        Some(name) => Some(text_of(alloc, name.as_bytes())?),
-        None => None,
-    };
+    let config = text_by(alloc, options.value("config"))?;
     Ok(Meaning::Pipe(PipeWords {
         config,
         batch,
-        shown,
+        shown: shown_by(options.value("history")),
     }))
 }
 
-/// A number from 1 to 64, of 1 to 10 decimal digits.
-fn batch_of(word: &[u8]) -> Option<Batch>
-    ensures { result ≡ Spec.batch_of word.now }
-{
-    let number = port_number(word, 10)?;
-    Batch::new(number)
-}
-
-/// What is written by these words, which are `--history` or none.
-fn shown_by(words: &[String]) -> Option<Shown>
-    ensures { result ≡ Spec.shown_by string_bytes words.now }
-{
-    match words {
-        [] => Some(Shown::Bytes),
-        [option] => {
-            if option.as_str() == "--history" {
-                Some(Shown::Text)
-            } else {
-                None
-            }
-        }
-        [_, _, ..] => None,
-    }
-}
-
-/// What `idl` means with these words behind it.
-fn read_idl(alloc: Global, options: &[String]) -> Result<Meaning, NoMemory>
-    ensures { Spec.Means result (Spec.idl_of string_bytes options.now) }
-{
-    match options {
-        [] => Ok(Meaning::Unbuilt),
-        [_] => Ok(Meaning::Unbuilt),
-        [option, name] => {
-            if option.as_str() == "--file" {
-                listing_of(alloc, name.as_str())
-            } else {
-                Ok(Meaning::Unbuilt)
-            }
-        }
-        [_, _, _, ..] => Ok(Meaning::Unbuilt),
-    }
-}
-
-/// The listing of a file, where the word is a name.
-fn listing_of(alloc: Global, name: &str) -> Result<Meaning, NoMemory>
-    ensures { Spec.Means result (Spec.listed_by (Spec.name_of name.now)) }
-{
-    if !is_name(name.as_bytes()) {
-        return Ok(Meaning::Unbuilt);
-    }
-    let name = text_of(alloc, name.as_bytes())?;
-    Ok(Meaning::Idl(name))
-}
-
-/// What `serve` means with these words behind it: the options stand in one order.
-fn read_serve(alloc: Global, options: &[String]) -> Result<Meaning, NoMemory>
-    ensures { Spec.Means result (Spec.serve_of string_bytes options.now) }
-{
-    match options {
-        [option, name, other, place] => {
-            if option.as_str() == "--config" && other.as_str() == "--listen" {
-                serve_by(alloc, name.as_str(), place.as_str())
-            } else {
-                Ok(Meaning::Unbuilt)
-            }
-        }
-        [_, _, _, _, _, ..] => Ok(Meaning::Unbuilt),
-        [_, _, _] => Ok(Meaning::Unbuilt),
-        [_, _] => Ok(Meaning::Unbuilt),
-        [_] => Ok(Meaning::Unbuilt),
-        [] => Ok(Meaning::Unbuilt),
-    }
-}
-
-/// The server of a configuration at an address, where the words are a name and an address.
-#[tactic(auto, using(crate::proofs::Places::served_there))]
-fn serve_by(alloc: Global, name: &str, place: &str) -> Result<Meaning, NoMemory>
-    ensures { Spec.Means result (Spec.serve_at (Spec.name_of name.now) (Spec.place_of place.now)) }
-{
-    if !is_name(name.as_bytes()) {
-        return Ok(Meaning::Unbuilt);
-    }
-    match read_place(alloc, place.as_bytes())? {
-        Some(at) => {
-            let config = text_of(alloc, name.as_bytes())?;
-            Ok(Meaning::Serve(ServeWords { config, at }))
-        }
-        None => Ok(Meaning::Unbuilt),
-    }
-}
-
-/// What `refs` means with these words behind it.
-fn read_refs(alloc: Global, options: &[String]) -> Result<Meaning, NoMemory>
-    ensures { Spec.Means result (Spec.refs_of string_bytes options.now) }
-{
-    match options {
-        [] => Ok(Meaning::Refs),
-        [_] => Ok(Meaning::Unbuilt),
-        [option, place] => {
-            if option.as_str() == "--at" {
-                refs_at(alloc, place.as_str())
-            } else {
-                Ok(Meaning::Unbuilt)
-            }
-        }
-        [_, _, _] => Ok(Meaning::Unbuilt),
-        [option, place, other, name] => {
-            if option.as_str() == "--at" && other.as_str() == "--config" {
-                refs_with(alloc, place.as_str(), name.as_str())
-            } else {
-                Ok(Meaning::Unbuilt)
-            }
-        }
-        [_, _, _, _, _, ..] => Ok(Meaning::Unbuilt),
-    }
-}
-
-/// References at an address, where the word is one.
-#[tactic(auto, using(crate::proofs::Places::refs_there))]
-fn refs_at(alloc: Global, place: &str) -> Result<Meaning, NoMemory>
-    ensures { Spec.Means result (Spec.at_place (Spec.place_of place.now) None) }
-{
-    match read_place(alloc, place.as_bytes())? {
-        Some(address) => Ok(Meaning::RefsAt(address, None)),
-        None => Ok(Meaning::Unbuilt),
-    }
-}
-
-/// References at an address by a configuration, where the words are an address and a name.
-#[tactic(auto, using(crate::proofs::Places::refs_there))]
-fn refs_with(alloc: Global, place: &str, name: &str) -> Result<Meaning, NoMemory>
-    ensures { Spec.Means result (Spec.filed_at (Spec.place_of place.now) (Spec.name_of name.now)) }
-{
-    if !is_name(name.as_bytes()) {
-        return Ok(Meaning::Unbuilt);
-    }
-    match read_place(alloc, place.as_bytes())? {
-        Some(address) => {
-            let name = text_of(alloc, name.as_bytes())?;
-            Ok(Meaning::RefsAt(address, Some(name)))
-        }
-        None => Ok(Meaning::Unbuilt),
-    }
-}
-
-/// The address that the value of an option is. Memory is asked for where it is one.
-fn read_place(alloc: Global, word: &[u8]) -> Result<Option<Address>, NoMemory>
-    ensures found { IfOk result (λ found. found ≡ Spec.place_of word.now) }
-    ensures only { OnErr result (IsSome (Spec.place_of word.now)) }
-{
-    if !is_value(word) {
-        return Ok(None);
-    }
-    read_address(alloc, word)
-}
-
-/// Whether a word can be the value of an option: it begins with no dash.
-fn is_value(word: &[u8]) -> bool
-    ensures { result ≡ Spec.is_value word.now }
+/// How many calls a group has: the number that the word is, 1 to 64 in 1 to 10 decimal digits, or 1 where there is no word. None
+/// where the word is no such number.
+fn batch_by(word: Option<&str>) -> Option<Batch>
+    ensures { result ≡ By.batch_by (option_map (λ word. word.now) word.entry) }
 {
     match word {
-        [] => true,
-        [first, ..] => *first != b'-',
+        Some(word) => {
+            let number = port_number(word.as_bytes(), MAX_DIGITS)?;
+            Batch::new(number)
+        }
+        None => Some(Batch::one()),
     }
 }
 
-/// Whether a word can be the name of a file: it is a value, and holds no NUL.
-fn is_name(word: &[u8]) -> bool
-    ensures { result ≡ Spec.is_name word.now }
+/// What is written: the bytes, or with `--history` the text of the history.
+fn shown_by(history: Option<&str>) -> Shown
+    ensures { result ≡ By.shown_by (option_map (λ word. word.now) history.entry) }
 {
-    is_value(word) && first_nul(word).is_none()
+    match history {
+        Some(_) => Shown::Text,
+        None => Shown::Bytes,
+    }
 }
 
-/// The text of a word that holds no NUL.
-fn text_of(alloc: Global, word: &[u8]) -> Result<Text, NoMemory>
+/// What `serve` means with these words after it.
+fn serve(alloc: Global, words: &[String]) -> Result<Meaning, NoMemory>
+    ensures { IfOk result (λ meaning. meaning
+        ≡ Spec.meant By.serve_by (option_map given (reading Takes.serve_items (map string_bytes words.now)))) }
+{
+    match read_serve(alloc, words)? {
+        Some(options) => serve_by(alloc, &options),
+        None => Ok(Meaning::Unread),
+    }
+}
+
+/// What `serve` means by what its options give.
+fn serve_by(alloc: Global, options: &Options<'_>) -> Result<Meaning, NoMemory>
+    ensures { IfOk result (λ meaning. meaning ≡ By.serve_by (given_by options.now)) }
+{
+    let (Some(config), Some(place)) = (options.value("config"), options.value("listen")) else {
+        return Ok(Meaning::Unread);
+    };
+    let Some(at) = read_address(alloc, place.as_bytes())? else {
+        return Ok(Meaning::Unread);
+    };
+    let config = text_of(alloc, config)?;
+    Ok(Meaning::Serve(ServeWords { config, at }))
+}
+
+/// What `refs` means with these words after it.
+fn refs(alloc: Global, words: &[String]) -> Result<Meaning, NoMemory>
+    ensures { IfOk result (λ meaning. meaning
+        ≡ Spec.meant By.refs_by (option_map given (reading Takes.refs_items (map string_bytes words.now)))) }
+{
+    match read_refs(alloc, words)? {
+        Some(options) => refs_by(alloc, &options),
+        None => Ok(Meaning::Unread),
+    }
+}
+
+/// What `refs` means by what its options give: without a place there is no configuration.
+fn refs_by(alloc: Global, options: &Options<'_>) -> Result<Meaning, NoMemory>
+    ensures { IfOk result (λ meaning. meaning ≡ By.refs_by (given_by options.now)) }
+{
+    match (options.value("at"), options.value("config")) {
+        (Some(place), config) => refs_at(alloc, place, config),
+        (None, Some(_)) => Ok(Meaning::Unread),
+        (None, None) => Ok(Meaning::Refs),
+    }
+}
+
+/// The references at this place, where it is an address.
+fn refs_at(alloc: Global, place: &str, config: Option<&str>) -> Result<Meaning, NoMemory>
+    ensures { IfOk result (λ meaning. meaning
+        ≡ By.refs_of (Some place.now) (option_map (λ name. name.now) config.entry)) }
+{
+    let Some(at) = read_address(alloc, place.as_bytes())? else {
+        return Ok(Meaning::Unread);
+    };
+    let config = text_by(alloc, config)?;
+    Ok(Meaning::RefsAt(at, config))
+}
+
+/// What `dump` means with these words after it.
+fn dump(alloc: Global, words: &[String]) -> Result<Meaning, NoMemory>
+    ensures { IfOk result (λ meaning. meaning
+        ≡ Spec.meant By.dump_by (option_map given (reading Takes.dump_items (map string_bytes words.now)))) }
+{
+    match read_dump(alloc, words)? {
+        Some(_) => Ok(Meaning::Dump),
+        None => Ok(Meaning::Unread),
+    }
+}
+
+/// What `idl` means with these words after it.
+fn idl(alloc: Global, words: &[String]) -> Result<Meaning, NoMemory>
+    ensures { IfOk result (λ meaning. meaning
+        ≡ Spec.meant By.idl_by (option_map given (reading Takes.idl_items (map string_bytes words.now)))) }
+{
+    match read_idl(alloc, words)? {
+        Some(options) => idl_by(alloc, &options),
+        None => Ok(Meaning::Unread),
+    }
+}
+
+/// What `idl` means by what its options give.
+fn idl_by(alloc: Global, options: &Options<'_>) -> Result<Meaning, NoMemory>
+    ensures { IfOk result (λ meaning. meaning ≡ By.idl_by (given_by options.now)) }
+{
+    match options.value("file") {
+        Some(name) => {
+            let name = text_of(alloc, name)?;
+            Ok(Meaning::Idl(name))
+        }
+        None => Ok(Meaning::Unread),
+    }
+}
+
+/// The text of a word, if there is one.
+fn text_by(alloc: Global, word: Option<&str>) -> Result<Option<Text>, NoMemory>
+    ensures { IfOk result (λ text. text ≡ option_map (λ word. word.now) word.entry) }
+{
+    match word {
+        Some(word) => {
+            let text = text_of(alloc, word)?;
+            Ok(Some(text))
+        }
+        None => Ok(None),
+    }
+}
+
+/// The text of a word, none of which holds a NUL here.
+fn text_of(alloc: Global, word: &str) -> Result<Text, NoMemory>
     ensures { IfOk result (λ text. text ≡ word.now) }
 {
-    match Text::new(alloc, word) {
+    match Text::new(alloc, word.as_bytes()) {
         Ok(text) => Ok(text),
         Err(_) => Err(NoMemory),
     }

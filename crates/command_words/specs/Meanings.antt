@@ -1,0 +1,80 @@
+-- What each command means by what its words give its items: own profile.
+use Rattle.std.specs.Prelude.{ℕ, codes, Option, Some, None}
+use Rattle.std.specs.Option.{option_and_then}
+use Rattle.object_refs.specs.LocationReading.{port_number}
+use Rattle.object_lines.specs.Addresses.{Place, address_of}
+use Rattle.pipe_runs.specs.Batches.{batch}
+use Rattle.pipe_runs.specs.declared.shown.Shown.{Shown}
+use Rattle.pipe_runs.specs.declared.shown.Shown.TheVariants as shown
+use Rattle.command_options.specs.Items.{Text}
+use Rattle.command_words.specs.declared.meaning.Meaning.{Meaning}
+use Rattle.command_words.specs.declared.meaning.Meaning.TheVariants.{Pipe, Serve, Dump, Refs, RefsAt, Idl, Unread}
+
+-- what words give the items of a command: for each name its text, where the item is used
+abbrev pub Gives : Type 0
+Gives = Text → Option Text
+
+-- ---- `pipe [--config FILE] [--batch N] [--history]`
+
+-- a number from 1 to 64, of 1 to 10 decimal digits
+abbrev pub batch_of : Text → Option ℕ
+batch_of word = option_and_then batch (port_number 10 word)
+
+-- how many calls a group has: the number that the word is, or 1 where there is no word
+abbrev pub batch_by : Option Text → Option ℕ
+batch_by (Some word) = batch_of word
+batch_by None = Some 1
+
+-- what is written: the bytes, or with the switch the text of the history
+abbrev pub shown_by : Option Text → Shown
+shown_by (Some _) = shown.Text
+shown_by None = shown.Bytes
+
+-- the pipe, where its batch is a number that it may be
+abbrev pub piped : Option Text → Option ℕ → Shown → Meaning
+piped config (Some batch) shown = Pipe (record { config = config; batch = batch; shown = shown })
+piped config None shown = Unread
+
+abbrev pub pipe_by : Gives → Meaning
+pipe_by gives = piped (gives (codes "config")) (batch_by (gives (codes "batch"))) (shown_by (gives (codes "history")))
+
+-- ---- `serve --config FILE --listen HOST:PORT`
+
+-- the server of a configuration, where its place is an address
+abbrev pub served_at : Option Text → Option Place → Meaning
+served_at (Some config) (Some at) = Serve (record { config = config; at = at })
+served_at (Some config) None = Unread
+served_at None at = Unread
+
+abbrev pub serve_by : Gives → Meaning
+serve_by gives = served_at (gives (codes "config")) (option_and_then address_of (gives (codes "listen")))
+
+-- ---- `refs`, or `refs --at HOST:PORT [--config FILE]`
+
+-- the references at a place, where it is an address
+abbrev pub refs_at : Option Place → Option Text → Meaning
+refs_at (Some place) config = RefsAt place config
+refs_at None config = Unread
+
+-- without a place there is no configuration
+abbrev pub refs_of : Option Text → Option Text → Meaning
+refs_of (Some place) config = refs_at (address_of place) config
+refs_of None (Some config) = Unread
+refs_of None None = Refs
+
+abbrev pub refs_by : Gives → Meaning
+refs_by gives = refs_of (gives (codes "at")) (gives (codes "config"))
+
+-- ---- `dump`
+
+abbrev pub dump_by : Gives → Meaning
+dump_by gives = Dump
+
+-- ---- `idl --file FILE`
+
+abbrev pub listed : Option Text → Meaning
+listed (Some name) = Idl name
+listed None = Unread
+
+abbrev pub idl_by : Gives → Meaning
+idl_by gives = listed (gives (codes "file"))
