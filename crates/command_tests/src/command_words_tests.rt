@@ -2,34 +2,62 @@
 
 use crate::text_streams_tests::devices::puts_words;
 use command_words::*;
+use object_lines::Address;
+use orb_base::Text;
 use pipe_runs::Shown;
 use std::alloc::Global;
 
-/// A meaning without its texts.
+/// What words mean.
 #[derive(Clone, Copy)]
 enum Said {
-    /// Whether a configuration is named, the batch, and what is shown.
-    Pipe(bool, u8, Shown),
-    Serve,
+    /// The configuration, the batch, and what is shown.
+    Pipe(Option<&'static str>, u8, Shown),
+    /// The configuration, and the host and port.
+    Serve(&'static str, &'static str, u16),
     Dump,
     Refs,
-    /// Whether a configuration is named.
-    RefsAt(bool),
-    Idl,
+    /// The host and port, and the configuration.
+    RefsAt(&'static str, u16, Option<&'static str>),
+    /// The file.
+    Idl(&'static str),
     Unbuilt,
     Unread,
+}
+
+fn is_text(text: &Text, want: &str) -> bool {
+    text.as_slice() == want.as_bytes()
+}
+
+fn is_name(name: Option<&Text>, want: Option<&str>) -> bool {
+    match (name, want) {
+        (Some(name), Some(want)) => is_text(name, want),
+        (None, None) => true,
+        _ => false,
+    }
+}
+
+fn is_place(at: &Address, host: &str, port: u16) -> bool {
+    is_text(&at.host, host) && at.port == port
+}
+
+fn is_pipe(words: &PipeWords, config: Option<&str>, batch: u8, shown: Shown) -> bool {
+    is_name(words.config.as_ref(), config) && words.batch.calls() == batch && words.shown == shown
 }
 
 fn is_said(meaning: &Meaning, want: Said) -> bool {
     match (meaning, want) {
         (Meaning::Pipe(words), Said::Pipe(config, batch, shown)) => {
-            words.config.is_some() == config && words.batch.calls() == batch && words.shown == shown
+            is_pipe(words, config, batch, shown)
         }
-        (Meaning::RefsAt(_, name), Said::RefsAt(config)) => name.is_some() == config,
-        (Meaning::Serve(_), Said::Serve)
-        | (Meaning::Dump, Said::Dump)
+        (Meaning::Serve(words), Said::Serve(config, host, port)) => {
+            is_text(&words.config, config) && is_place(&words.at, host, port)
+        }
+        (Meaning::RefsAt(at, name), Said::RefsAt(host, port, config)) => {
+            is_place(at, host, port) && is_name(name.as_ref(), config)
+        }
+        (Meaning::Idl(name), Said::Idl(want)) => is_text(name, want),
+        (Meaning::Dump, Said::Dump)
         | (Meaning::Refs, Said::Refs)
-        | (Meaning::Idl(_), Said::Idl)
         | (Meaning::Unbuilt, Said::Unbuilt)
         | (Meaning::Unread, Said::Unread) => true,
         _ => false,
@@ -62,62 +90,415 @@ fn all_mean(alloc: Global, rows: &[Row]) -> bool {
 }
 
 const PIPES: &[Row] = &[
-    (&["pipe"], Said::Pipe(false, 1, Shown::Bytes)),
-    (
-        &["pipe", "--batch", "64"],
-        Said::Pipe(false, 64, Shown::Bytes),
-    ),
-    (
-        &["pipe", "--batch", "007", "--history"],
-        Said::Pipe(false, 7, Shown::Text),
-    ),
-    (&["pipe", "--history"], Said::Pipe(false, 1, Shown::Text)),
+    // Nothing, and all in any order and in both forms.
+    (&["pipe"], Said::Pipe(None, 1, Shown::Bytes)),
     (
         &["pipe", "--config", "c", "--batch", "3", "--history"],
-        Said::Pipe(true, 3, Shown::Text),
+        Said::Pipe(Some("c"), 3, Shown::Text),
     ),
-    (&["pipe", "--batch", "0"], Said::Unbuilt),
-    (&["pipe", "--batch", "65"], Said::Unbuilt),
-    (&["pipe", "--batch", "00000000001"], Said::Unbuilt),
-    (&["pipe", "--batch", "1", "--batch", "1"], Said::Unbuilt),
-    (&["pipe", "--history", "--batch", "1"], Said::Unbuilt),
-    (&["pipe", "--config"], Said::Unbuilt),
-    (&["pipe", "--config", "-c"], Said::Unbuilt),
-    (&["pipe", "--"], Said::Unbuilt),
-    (&["pipe", "--history", "--history"], Said::Unbuilt),
+    (
+        &["pipe", "--config=c", "--batch=3", "--history"],
+        Said::Pipe(Some("c"), 3, Shown::Text),
+    ),
+    (
+        &["pipe", "--history", "--batch", "3", "--config", "c"],
+        Said::Pipe(Some("c"), 3, Shown::Text),
+    ),
+    (
+        &["pipe", "--batch=3", "--history", "--config", "c"],
+        Said::Pipe(Some("c"), 3, Shown::Text),
+    ),
+    (
+        &["pipe", "--batch", "3", "--config=c", "--history"],
+        Said::Pipe(Some("c"), 3, Shown::Text),
+    ),
+    // Each alone, in both forms.
+    (
+        &["pipe", "--config", "c"],
+        Said::Pipe(Some("c"), 1, Shown::Bytes),
+    ),
+    (
+        &["pipe", "--config=c"],
+        Said::Pipe(Some("c"), 1, Shown::Bytes),
+    ),
+    (&["pipe", "--batch", "3"], Said::Pipe(None, 3, Shown::Bytes)),
+    (&["pipe", "--batch=3"], Said::Pipe(None, 3, Shown::Bytes)),
+    (&["pipe", "--history"], Said::Pipe(None, 1, Shown::Text)),
+    // Each left out.
+    (
+        &["pipe", "--history", "--batch=3"],
+        Said::Pipe(None, 3, Shown::Text),
+    ),
+    (
+        &["pipe", "--history", "--config", "c"],
+        Said::Pipe(Some("c"), 1, Shown::Text),
+    ),
+    (
+        &["pipe", "--batch", "3", "--config", "c"],
+        Said::Pipe(Some("c"), 3, Shown::Bytes),
+    ),
+    // Each twice.
+    (&["pipe", "--config", "c", "--config", "c"], Said::Unread),
+    (
+        &["pipe", "--config=c", "--batch", "3", "--config", "d"],
+        Said::Unread,
+    ),
+    (&["pipe", "--batch", "3", "--batch=3"], Said::Unread),
+    (
+        &["pipe", "--history", "--config", "c", "--history"],
+        Said::Unread,
+    ),
+    // Without a value, with an empty one, and a switch with one.
+    (&["pipe", "--config"], Said::Unread),
+    (&["pipe", "--history", "--batch"], Said::Unread),
+    (
+        &["pipe", "--config="],
+        Said::Pipe(Some(""), 1, Shown::Bytes),
+    ),
+    (
+        &["pipe", "--config", ""],
+        Said::Pipe(Some(""), 1, Shown::Bytes),
+    ),
+    (&["pipe", "--batch="], Said::Unread),
+    (&["pipe", "--batch", ""], Said::Unread),
+    (&["pipe", "--history="], Said::Unread),
+    (&["pipe", "--history=true"], Said::Unread),
+    (&["pipe", "--history", "true"], Said::Unread),
+    // A value that begins with a dash.
+    (&["pipe", "--config", "-c"], Said::Unread),
+    (&["pipe", "--config", "--history"], Said::Unread),
+    (
+        &["pipe", "--config=-c"],
+        Said::Pipe(Some("-c"), 1, Shown::Bytes),
+    ),
+    (
+        &["pipe", "--config=--history"],
+        Said::Pipe(Some("--history"), 1, Shown::Bytes),
+    ),
+    (
+        &["pipe", "--config=a=b"],
+        Said::Pipe(Some("a=b"), 1, Shown::Bytes),
+    ),
+    (&["pipe", "--batch", "-5"], Said::Unread),
+    (&["pipe", "--batch=-5"], Said::Unread),
+    // Numbers.
+    (&["pipe", "--batch", "0"], Said::Unread),
+    (&["pipe", "--batch", "1"], Said::Pipe(None, 1, Shown::Bytes)),
+    (
+        &["pipe", "--batch", "64"],
+        Said::Pipe(None, 64, Shown::Bytes),
+    ),
+    (&["pipe", "--batch", "65"], Said::Unread),
+    (&["pipe", "--batch=65"], Said::Unread),
+    (
+        &["pipe", "--batch", "007"],
+        Said::Pipe(None, 7, Shown::Bytes),
+    ),
+    (
+        &["pipe", "--batch=0000000064"],
+        Said::Pipe(None, 64, Shown::Bytes),
+    ),
+    (&["pipe", "--batch", "00000000064"], Said::Unread),
+    (&["pipe", "--batch", "9999999999"], Said::Unread),
+    (&["pipe", "--batch=65537"], Said::Unread),
+    (&["pipe", "--batch", "+7"], Said::Unread),
+    (&["pipe", "--batch=+7"], Said::Unread),
+    (&["pipe", "--batch", "7 "], Said::Unread),
+    (&["pipe", "--batch", "x"], Said::Unread),
+    // Words that the pipe does not take.
+    (&["pipe", "c"], Said::Unread),
+    (&["pipe", ""], Said::Unread),
+    (&["pipe", "--config", "c", "d"], Said::Unread),
+    (&["pipe", "--fragment", "24"], Said::Unread),
+    (&["pipe", "--conf", "c"], Said::Unread),
+    (&["pipe", "--listen", "h:1"], Said::Unread),
+    (&["pipe", "--file=f"], Said::Unread),
+    (&["pipe", "pipe"], Said::Unread),
+    (&["pipe", "--help"], Said::Unread),
+    (&["pipe", "-h"], Said::Unread),
+    (&["pipe", "--version"], Said::Unread),
+    (&["pipe", "-"], Said::Unread),
+    (&["pipe", "--"], Said::Unread),
+    (&["pipe", "--", "--history"], Said::Unread),
+    (&["pipe", "--history", "--"], Said::Unread),
+    (&["pipe", "-history"], Said::Unread),
+    // A word with a NUL.
+    (&["pipe", "--config", "c\0"], Said::Unread),
+    (&["pipe", "--config=\0"], Said::Unread),
+    (&["pipe", "--batch", "3\0"], Said::Unread),
+    (&["pipe", "--history\0"], Said::Unread),
 ];
 
 #[test]
-fn the_pipe_has_its_options_in_one_order(rt: HostRuntime) {
+fn the_words_of_pipe(rt: HostRuntime) {
     assert!(rt; all_mean(rt.alloc(), PIPES));
 }
 
-const OTHERS: &[Row] = &[
-    (&[], Said::Unread),
-    (&["pipes"], Said::Unread),
-    (&["dump"], Said::Dump),
-    (&["dump", "x"], Said::Unbuilt),
-    (&["refs"], Said::Refs),
-    (&["refs", "--at", "h:1"], Said::RefsAt(false)),
+const SERVES: &[Row] = &[
+    // Nothing, and all in any order and in both forms.
+    (&["serve"], Said::Unread),
     (
-        &["refs", "--at", "h:1", "--config", "c"],
-        Said::RefsAt(true),
+        &["serve", "--config", "c", "--listen", "h:1"],
+        Said::Serve("c", "h", 1),
     ),
-    (&["idl", "--file", "f"], Said::Idl),
-    (&["serve", "--config", "c", "--listen", "h:1"], Said::Serve),
     (
-        &["serve", "--config", "c", "--listen", "h:0"],
-        Said::Unbuilt,
+        &["serve", "--config=c", "--listen=h:1"],
+        Said::Serve("c", "h", 1),
     ),
+    (
+        &["serve", "--listen", "h:1", "--config", "c"],
+        Said::Serve("c", "h", 1),
+    ),
+    (
+        &["serve", "--listen=h:1", "--config", "c"],
+        Said::Serve("c", "h", 1),
+    ),
+    // Each alone, which leaves out the other.
+    (&["serve", "--config", "c"], Said::Unread),
+    (&["serve", "--config=c"], Said::Unread),
+    (&["serve", "--listen", "h:1"], Said::Unread),
+    (&["serve", "--listen=h:1"], Said::Unread),
+    // Each twice.
+    (
+        &["serve", "--config", "c", "--listen", "h:1", "--config", "c"],
+        Said::Unread,
+    ),
+    (
+        &["serve", "--listen=h:1", "--config", "c", "--listen", "h:1"],
+        Said::Unread,
+    ),
+    // Without a value, with an empty one, and with a dash.
+    (&["serve", "--config", "c", "--listen"], Said::Unread),
+    (
+        &["serve", "--config=", "--listen=h:1"],
+        Said::Serve("", "h", 1),
+    ),
+    (&["serve", "--config=c", "--listen="], Said::Unread),
     (
         &["serve", "--config", "-c", "--listen", "h:1"],
-        Said::Unbuilt,
+        Said::Unread,
     ),
-    (&["serve", "--config", "c"], Said::Unbuilt),
-    (&["serve"], Said::Unbuilt),
+    (
+        &["serve", "--config=-c", "--listen=-h:1"],
+        Said::Serve("-c", "-h", 1),
+    ),
+    (
+        &["serve", "--config", "c", "--listen", "-h:1"],
+        Said::Unread,
+    ),
+    // Addresses.
+    (&["serve", "--config", "c", "--listen", "h"], Said::Unread),
+    (&["serve", "--config", "c", "--listen", "h:"], Said::Unread),
+    (&["serve", "--config", "c", "--listen", ":1"], Said::Unread),
+    (&["serve", "--config", "c", "--listen", "h:0"], Said::Unread),
+    (
+        &["serve", "--config", "c", "--listen", "h:65535"],
+        Said::Serve("c", "h", 65535),
+    ),
+    (
+        &["serve", "--config", "c", "--listen", "h:65536"],
+        Said::Unread,
+    ),
+    (
+        &["serve", "--config", "c", "--listen", "h:0000000080"],
+        Said::Serve("c", "h", 80),
+    ),
+    (
+        &["serve", "--config", "c", "--listen=h:00000000080"],
+        Said::Unread,
+    ),
+    (
+        &["serve", "--config", "c", "--listen", "h:+1"],
+        Said::Unread,
+    ),
+    (&["serve", "--config", "c", "--listen=h:-1"], Said::Unread),
+    (
+        &["serve", "--config", "c", "--listen", "h:1:1"],
+        Said::Unread,
+    ),
+    (
+        &["serve", "--config", "c", "--listen", "h: 1"],
+        Said::Unread,
+    ),
+    // Words that the server does not take.
+    (
+        &["serve", "--config", "c", "--listen", "h:1", "d"],
+        Said::Unread,
+    ),
+    (&["serve", "--config", "c", "h:1"], Said::Unread),
+    (
+        &["serve", "--config", "c", "--listen", "h:1", "--history"],
+        Said::Unread,
+    ),
+    (
+        &["serve", "--config", "c", "--listen", "h:1", "--at=h:1"],
+        Said::Unread,
+    ),
+    (
+        &["serve", "--config", "c", "--listen", "h:1", "--help"],
+        Said::Unread,
+    ),
+    (
+        &["serve", "--config", "c", "--listen", "h:1", "-h"],
+        Said::Unread,
+    ),
+    (
+        &["serve", "--config", "c", "--listen", "h:1", "--"],
+        Said::Unread,
+    ),
+    (
+        &["serve", "--", "--config", "c", "--listen", "h:1"],
+        Said::Unread,
+    ),
+    (&["serve", "--help"], Said::Unread),
+    (&["serve", "--version"], Said::Unread),
+    // A word with a NUL.
+    (
+        &["serve", "--config", "c\0", "--listen", "h:1"],
+        Said::Unread,
+    ),
+    (
+        &["serve", "--config", "c", "--listen", "h\0:1"],
+        Said::Unread,
+    ),
 ];
 
 #[test]
-fn the_other_commands_have_theirs(rt: HostRuntime) {
-    assert!(rt; all_mean(rt.alloc(), OTHERS));
+fn the_words_of_serve(rt: HostRuntime) {
+    assert!(rt; all_mean(rt.alloc(), SERVES));
+}
+
+const REFS: &[Row] = &[
+    (&["refs"], Said::Refs),
+    (
+        &["refs", "--at", "h:1", "--config", "c"],
+        Said::RefsAt("h", 1, Some("c")),
+    ),
+    (
+        &["refs", "--config", "c", "--at", "h:1"],
+        Said::RefsAt("h", 1, Some("c")),
+    ),
+    (
+        &["refs", "--config=c", "--at=h:1"],
+        Said::RefsAt("h", 1, Some("c")),
+    ),
+    (&["refs", "--at", "h:1"], Said::RefsAt("h", 1, None)),
+    (&["refs", "--at=h:65535"], Said::RefsAt("h", 65535, None)),
+    // A configuration without an address.
+    (&["refs", "--config", "c"], Said::Unread),
+    (&["refs", "--config=c"], Said::Unread),
+    // Each twice.
+    (&["refs", "--at", "h:1", "--at", "h:1"], Said::Unread),
+    (
+        &["refs", "--config=c", "--at=h:1", "--config=c"],
+        Said::Unread,
+    ),
+    // Without a value, with an empty one, and with a dash.
+    (&["refs", "--at"], Said::Unread),
+    (&["refs", "--at", "h:1", "--config"], Said::Unread),
+    (&["refs", "--at="], Said::Unread),
+    (
+        &["refs", "--at=h:1", "--config="],
+        Said::RefsAt("h", 1, Some("")),
+    ),
+    (&["refs", "--at", "-h:1"], Said::Unread),
+    (&["refs", "--at=-h:1"], Said::RefsAt("-h", 1, None)),
+    (&["refs", "--at", "h:1", "--config", "-c"], Said::Unread),
+    // Addresses.
+    (&["refs", "--at", "h:0"], Said::Unread),
+    (&["refs", "--at", "h:65536"], Said::Unread),
+    (&["refs", "--at=h:0000000001"], Said::RefsAt("h", 1, None)),
+    (&["refs", "--at", "h:00000000001"], Said::Unread),
+    (&["refs", "--at", "h"], Said::Unread),
+    // Words that are no options of it.
+    (&["refs", "h:1"], Said::Unread),
+    (&["refs", "--at", "h:1", "c"], Said::Unread),
+    (&["refs", "--at", "h:1", "--listen", "h:1"], Said::Unread),
+    (&["refs", "--at", "h:1", "--history"], Said::Unread),
+    (&["refs", "--help"], Said::Unread),
+    (&["refs", "-h"], Said::Unread),
+    (&["refs", "--version"], Said::Unread),
+    (&["refs", "--"], Said::Unread),
+    (&["refs", "-"], Said::Unread),
+    (&["refs", "--at", "h:1", "--config", "c\0"], Said::Unread),
+];
+
+#[test]
+fn the_words_of_refs(rt: HostRuntime) {
+    assert!(rt; all_mean(rt.alloc(), REFS));
+}
+
+const DUMPS: &[Row] = &[
+    (&["dump"], Said::Dump),
+    (&["dump", "x"], Said::Unread),
+    (&["dump", ""], Said::Unread),
+    (&["dump", "\0"], Said::Unread),
+    (&["dump", "--config", "c"], Said::Unread),
+    (&["dump", "--history"], Said::Unread),
+    (&["dump", "--help"], Said::Unread),
+    (&["dump", "-h"], Said::Unread),
+    (&["dump", "--version"], Said::Unread),
+    (&["dump", "-"], Said::Unread),
+    (&["dump", "--"], Said::Unread),
+];
+
+#[test]
+fn the_words_of_dump(rt: HostRuntime) {
+    assert!(rt; all_mean(rt.alloc(), DUMPS));
+}
+
+const IDLS: &[Row] = &[
+    (&["idl"], Said::Unread),
+    (&["idl", "--file", "f"], Said::Idl("f")),
+    (&["idl", "--file=f"], Said::Idl("f")),
+    (&["idl", "--file="], Said::Idl("")),
+    (&["idl", "--file", ""], Said::Idl("")),
+    (&["idl", "--file=-f"], Said::Idl("-f")),
+    (&["idl", "--file", "-f"], Said::Unread),
+    (&["idl", "--file"], Said::Unread),
+    (&["idl", "--file", "f", "--file=f"], Said::Unread),
+    (&["idl", "--file", "f", "g"], Said::Unread),
+    (&["idl", "f"], Said::Unread),
+    (&["idl", "--file", "f", "--config", "c"], Said::Unread),
+    (&["idl", "--idl=f"], Said::Unread),
+    (&["idl", "--help"], Said::Unread),
+    (&["idl", "-h"], Said::Unread),
+    (&["idl", "--version"], Said::Unread),
+    (&["idl", "--"], Said::Unread),
+    (&["idl", "--", "--file", "f"], Said::Unread),
+    (&["idl", "--file", "f\0"], Said::Unread),
+];
+
+#[test]
+fn the_words_of_idl(rt: HostRuntime) {
+    assert!(rt; all_mean(rt.alloc(), IDLS));
+}
+
+const FIRSTS: &[Row] = &[
+    (&[], Said::Unread),
+    (&[""], Said::Unread),
+    (&["pipes"], Said::Unread),
+    (&["Pipe"], Said::Unread),
+    (&["pip"], Said::Unread),
+    (&[" pipe"], Said::Unread),
+    (&["pipe\0"], Said::Unread),
+    (&["--history", "pipe"], Said::Unread),
+    (&["--"], Said::Unread),
+    (&["--", "pipe"], Said::Unread),
+    (&["--pipe"], Said::Unread),
+    (&["help"], Said::Unread),
+    (&["--help"], Said::Unread),
+    (&["-h"], Said::Unread),
+    (&["--version"], Said::Unread),
+    // Two commands that are not built yet.
+    (&["call"], Said::Unbuilt),
+    (&["call", "--ref", "x", "--op", "y"], Said::Unbuilt),
+    (&["load"], Said::Unbuilt),
+    (&["load", "1", "2", "--"], Said::Unbuilt),
+    (&["load", "1\0"], Said::Unread),
+];
+
+#[test]
+fn the_first_word_is_a_command(rt: HostRuntime) {
+    assert!(rt; all_mean(rt.alloc(), FIRSTS));
 }

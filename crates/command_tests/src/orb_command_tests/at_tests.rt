@@ -44,6 +44,21 @@ const ROWS: &[Row<'static>] = &[
         ..CONFIGURED
     },
     Row {
+        story: "the same by options in another order",
+        words: &["refs", "--config=c", "--at", "127.0.0.1:2809"],
+        files: &[("c", OBJECT)],
+        output: PING,
+        ..CONFIGURED
+    },
+    Row {
+        story: "a configuration without an address",
+        words: &["refs", "--config", "c"],
+        files: &[("c", OBJECT)],
+        status: 1,
+        note: "Usage",
+        ..CONFIGURED
+    },
+    Row {
         story: "a configuration that can't be read",
         files: &[("c", OBJECT)],
         failed_files: &[0],

@@ -90,12 +90,21 @@ const OBJECTS: &[Row<'static>] = &[
         ..PIPE
     },
     Row {
-        story: "a name with a dash, which no file has",
+        story: "a name with a dash after a blank",
         words: &["pipe", "--config", "-c"],
         files: &[("c", TWO)],
         input: THREE,
-        status: 14,
-        note: "NotBuilt",
+        status: 1,
+        note: "Usage",
+        ..PIPE
+    },
+    Row {
+        story: "a name with a dash, which no file has",
+        words: &["pipe", "--config=-c"],
+        files: &[("c", TWO)],
+        input: THREE,
+        status: 10,
+        note: "Absent(Config)",
         ..PIPE
     },
     Row {
@@ -185,6 +194,14 @@ const OVERTAKEN: &[Row<'static>] = &[
     Row {
         story: "the history of an urgent request",
         words: &["pipe", "--config", "c", "--batch", "3", "--history"],
+        files: &[("c", LANES)],
+        input: URGENT,
+        output: URGENT_HISTORY,
+        ..PIPE
+    },
+    Row {
+        story: "the same history by options in another order",
+        words: &["pipe", "--history", "--batch=3", "--config=c"],
         files: &[("c", LANES)],
         input: URGENT,
         output: URGENT_HISTORY,

@@ -28,6 +28,20 @@ const SERVED: Row<'static> = Row {
 const ROWS: &[Row<'static>] = &[
     SERVED,
     Row {
+        story: "a run by options in another order",
+        words: &["serve", "--listen=h:7", "--config", "c"],
+        ..SERVED
+    },
+    Row {
+        story: "words without an address",
+        words: &["serve", "--config", "c"],
+        status: 1,
+        note: "Usage",
+        output: &[],
+        left: Left::NoServer,
+        ..SERVED
+    },
+    Row {
         story: "a run whose summary can't be written",
         failed_writes: &[0],
         status: 4,

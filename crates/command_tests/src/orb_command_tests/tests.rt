@@ -277,16 +277,40 @@ const MISREAD: &[Row<'static>] = &[
         ..EMPTY
     },
     Row {
-        story: "serve",
+        story: "no command",
+        words: &["--history", "pipe"],
+        input: PING_REQUEST,
+        status: 1,
+        note: "Usage",
+        ..EMPTY
+    },
+    Row {
+        story: "no word that serve must have",
         words: &["serve"],
         input: PING_REQUEST,
-        status: 14,
-        note: "NotBuilt",
+        status: 1,
+        note: "Usage",
         ..EMPTY
     },
     Row {
         story: "a batch of 65",
         words: &["pipe", "--batch", "65"],
+        input: PING_REQUEST,
+        status: 1,
+        note: "Usage",
+        ..EMPTY
+    },
+    Row {
+        story: "an option twice",
+        words: &["pipe", "--batch", "2", "--batch=2"],
+        input: PING_REQUEST,
+        status: 1,
+        note: "Usage",
+        ..EMPTY
+    },
+    Row {
+        story: "a command that isn't built",
+        words: &["call", "--op", "current"],
         input: PING_REQUEST,
         status: 14,
         note: "NotBuilt",

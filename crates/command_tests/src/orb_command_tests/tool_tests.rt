@@ -202,11 +202,19 @@ const LISTED: &[Row<'static>] = &[
         ..IDL
     },
     Row {
-        story: "a name with a dash, which no file has",
+        story: "a name with a dash after a blank",
         words: &["idl", "--file", "-c"],
         files: &[("c", TWICE)],
-        status: 14,
-        note: "NotBuilt",
+        status: 1,
+        note: "Usage",
+        ..IDL
+    },
+    Row {
+        story: "a name with a dash, which no file has",
+        words: &["idl", "--file=-c"],
+        files: &[("c", TWICE)],
+        status: 10,
+        note: "Absent(Idl)",
         ..IDL
     },
 ];
