@@ -1,3 +1,4 @@
 pub mod Built
 pub mod NulWords
 pub mod Orders
+pub mod Written

@@ -1,9 +1,14 @@
 //! Laws of what words mean. The bodies are empty: each contract is a law of the definitions.
-ghost use Rattle.std.specs.Prelude.{◌≡◌, ◌++◌, ◌∷◌, List, Some};
+ghost use Rattle.std.specs.Prelude.{◌≡◌, ◌++◌, ◌∷◌, [], List, Some, codes};
+ghost use Rattle.orb_base.specs.NulFree.{HasNoNul};
+ghost use Rattle.object_lines.specs.Addresses.{address_of};
+ghost use Rattle.pipe_runs.specs.declared.shown.Shown.TheVariants as shown;
 ghost use Rattle.command_options.specs.Items.{Text};
 ghost use Rattle.command_options.specs.Uses.{Use};
 ghost use Rattle.command_options.specs.Whole.{IsWhole};
+ghost use Rattle.command_options.specs.Words.{form_of, plain};
 ghost use Rattle.command_words.specs.declared.meaning.Meaning.TheVariants.{Unread};
+ghost use Rattle.command_words.specs.Meanings.{batch_of, listed, piped, refs_at, served_at};
 ghost use Rattle.command_words.specs.Words.{Command, command_named, command_of};
 
 /// The order of options is free: words in which two options of a command, each written out whole, change places mean the same. So do
@@ -19,4 +24,34 @@ pub fn second_use_is_refused()
     ensures { (name : Text) (command : Command) (before a between b after : List Text) (u v : Use) → command_named name ≡ Some command
         → IsWhole command.items a u → IsWhole command.items b v → u.0 ≡ v.0
         → command_of (name ∷ (before ++ (a ++ (between ++ (b ++ after))))) ≡ Unread }
+{}
+
+/// What each command's words mean, written out with all its options: with a value after each name, where no value begins with a
+/// dash, and the other way round with `=`; no value holds a NUL. What isn't the number or the address that it has to be has no
+/// reading, by `piped`, `served_at` and `refs_at`.
+pub fn commands_mean_what_they_say()
+    ensures pipe { (file number : Text) → form_of file ≡ plain → form_of number ≡ plain → HasNoNul file → HasNoNul number
+        → command_of (codes "pipe" ∷ codes "--config" ∷ file ∷ codes "--batch" ∷ number ∷ codes "--history" ∷ [])
+        ≡ piped (Some file) (batch_of number) shown.Text }
+    ensures pipe_joined { (file number : Text) → HasNoNul file → HasNoNul number
+        → command_of (codes "pipe" ∷ codes "--history" ∷ (codes "--batch=" ++ number) ∷ (codes "--config=" ++ file) ∷ [])
+        ≡ piped (Some file) (batch_of number) shown.Text }
+    ensures serve { (file place : Text) → form_of file ≡ plain → form_of place ≡ plain → HasNoNul file → HasNoNul place
+        → command_of (codes "serve" ∷ codes "--config" ∷ file ∷ codes "--listen" ∷ place ∷ [])
+        ≡ served_at (Some file) (address_of place) }
+    ensures serve_joined { (file place : Text) → HasNoNul file → HasNoNul place
+        → command_of (codes "serve" ∷ (codes "--listen=" ++ place) ∷ (codes "--config=" ++ file) ∷ [])
+        ≡ served_at (Some file) (address_of place) }
+    ensures refs { (place file : Text) → form_of place ≡ plain → form_of file ≡ plain → HasNoNul place → HasNoNul file
+        → command_of (codes "refs" ∷ codes "--at" ∷ place ∷ codes "--config" ∷ file ∷ [])
+        ≡ refs_at (address_of place) (Some file) }
+    ensures refs_joined { (place file : Text) → HasNoNul place → HasNoNul file
+        → command_of (codes "refs" ∷ (codes "--config=" ++ file) ∷ (codes "--at=" ++ place) ∷ [])
+        ≡ refs_at (address_of place) (Some file) }
+    ensures idl { (file : Text) → form_of file ≡ plain → HasNoNul file
+        → command_of (codes "idl" ∷ codes "--file" ∷ file ∷ [])
+        ≡ listed (Some file) }
+    ensures idl_joined { (file : Text) → HasNoNul file
+        → command_of (codes "idl" ∷ (codes "--file=" ++ file) ∷ [])
+        ≡ listed (Some file) }
 {}

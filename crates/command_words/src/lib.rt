@@ -6,6 +6,6 @@ mod laws;
 mod meaning;
 mod words;
 
-pub use laws::{order_is_free, second_use_is_refused};
+pub use laws::{commands_mean_what_they_say, order_is_free, second_use_is_refused};
 pub use meaning::{Meaning, PipeWords, ServeWords};
 pub use words::read_words;
