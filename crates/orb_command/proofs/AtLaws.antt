@@ -65,7 +65,7 @@ at_answers answer place config answered before after same h note status none = r
   few = subst (λ (s : SourceState). GaveFew 0 before.input s) (sym same) (gave_none 0 before.input);
 }
 
--- where memory is wanting for the words, nothing was done
+-- where memory runs out over the words, nothing was done
 pub broker_wanting : (config : Option (List ℕ)) (files : FilesState) → GivesBroker (Err why.NoMemory) config files files
 broker_wanting (Some name) files = refl
 broker_wanting None files = refl

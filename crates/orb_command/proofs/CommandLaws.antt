@@ -1,5 +1,5 @@
 -- The answers of the top call, by what its words mean.
-use Rattle.std.proofs.Common.{◌≡◌, ℕ, List, refl, ap, ◌∙◌, subst, sym}
+use Rattle.std.proofs.Common.{◌≡◌, ℕ, List, refl, ap, ◌∙◌, subst, sym, inl, inr}
 use Rattle.std.specs.Prelude.{None, Result, Ok, Err}
 use Rattle.orb_base.specs.Outside.{SinkState}
 use Rattle.orb_base.specs.declared.no_memory.NoMemory.{NoMemory}
@@ -9,10 +9,12 @@ use Rattle.giop_dump.specs.Dump.{Dumps, FaultsOf}
 use Rattle.reference_lines.specs.declared.refs_end.RefsEnd.{RefsEnd}
 use Rattle.reference_lines.specs.declared.refs_end.RefsEnd.TheVariants as refs
 use Rattle.reference_lines.specs.Refs.{Refs, RefsBytes}
+use Rattle.giop_dump.proofs.Runs.{dump_wants_first}
+use Rattle.reference_lines.proofs.RefsLaws.{wanting as refs_wants}
 use Rattle.text_streams.proofs.CallerLemmas.{gave_none}
 use Rattle.orb_command.specs.declared.answered.Reported.{Reported}
 use Rattle.command_words.specs.declared.meaning.Meaning.TheVariants.{Dump, Refs as RefsMeaning, Unbuilt, Unread}
-use Rattle.orb_command.specs.declared.note.Note.TheVariants.{Usage, NotBuilt}
+use Rattle.orb_command.specs.declared.note.Note.TheVariants.{Usage, Memory, NotBuilt}
 use Rattle.orb_command.specs.Moment.{Moment}
 use Rattle.orb_command.specs.DumpAnswer.{dump_note}
 use Rattle.orb_command.specs.RefsAnswer.{refs_note}
@@ -73,8 +75,33 @@ unbuilt_answers answered before note status none = record {
 pub unread_answers : (answered : Reported) (before : Moment) → answered.note ≡ Usage → answered.status ≡ 1 → answered.piped ≡ None → Reports Unread answered before before
 unread_answers answered before note status none = record {
   status = status ∙ ap status_of (sym note);
-  means = (note, refl);
+  means = (inl note, refl);
   piped = none;
   faults = (refl, subst (λ n. StreamFaults n before before) (sym note) (refl, refl));
+  few = gave_none 0 before.input;
+}
+
+-- ---- where memory runs out over the words, nothing was done
+
+abbrev no_dump : Result DumpEnd NoMemory
+no_dump = Err (record {})
+
+abbrev no_refs : Result RefsEnd NoMemory
+no_refs = Err (record {})
+
+pub dump_wanting : (answered : Reported) (before : Moment) → answered.note ≡ Memory → answered.status ≡ 12 → answered.piped ≡ None → Reports Dump answered before before
+dump_wanting answered before note status none =
+    dump_answers no_dump answered before before refl (dump_wants_first no_dump before.input before.out tt) note status none
+
+pub refs_wanting : (answered : Reported) (before : Moment) → answered.note ≡ Memory → answered.status ≡ 12 → answered.piped ≡ None → Reports RefsMeaning answered before before
+refs_wanting answered before note status none =
+    refs_answers no_refs answered before before refl (refs_wants (record {}) before.input before.input before.out (gave_none 65538 before.input) refl) note status none
+
+pub unread_wanting : (answered : Reported) (before : Moment) → answered.note ≡ Memory → answered.status ≡ 12 → answered.piped ≡ None → Reports Unread answered before before
+unread_wanting answered before note status none = record {
+  status = status ∙ ap status_of (sym note);
+  means = (inr note, refl);
+  piped = none;
+  faults = (refl, subst (λ n. StreamFaults n before before) (sym note) tt);
   few = gave_none 0 before.input;
 }

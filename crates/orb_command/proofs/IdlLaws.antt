@@ -41,7 +41,7 @@ idl_answers answer name answered before after same h only exact note status none
   few = subst (λ (s : SourceState). GaveFew 0 before.input s) (sym same) (gave_none 0 before.input);
 }
 
--- where memory is wanting for the words, nothing was done
+-- where memory runs out over the words, nothing was done
 pub idl_wanting : (name : List ℕ) (answered : Reported) (before : Moment) → answered.note ≡ Memory → answered.status ≡ 12 → answered.piped ≡ None
     → Reports (Idl name) answered before before
 idl_wanting name answered before note status none = idl_answers end.NoMemory name answered before before refl (refl, refl) (λ things tells. tt) (λ bytes told. tt) note status none

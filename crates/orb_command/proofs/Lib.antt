@@ -4,3 +4,4 @@ pub mod IdlLaws
 pub mod PipeNotes
 pub mod Plain
 pub mod ServeNotes
+pub mod UsageLaws

@@ -42,7 +42,8 @@ use Rattle.orb_command.specs.Faults.{RunFaults, ConfiguredFaults, PipeFaults, Se
 use Rattle.orb_command.specs.Moment.{Moment, moment}
 use Rattle.orb_command.specs.PipeAnswer.{note_of, note_of_run, piped_of, Ran, Declined, PipeAnswers}
 use Rattle.orb_command.specs.SetupNotes.{serving_note, setup_note}
-use Rattle.command_words.specs.Words.{NamesThings}
+use Rattle.command_words.proofs.Built.{IsBuilt}
+use Rattle.orb_command.proofs.CommandLaws.{dump_wanting, refs_wanting, unread_wanting}
 use Rattle.orb_command.proofs.IdlLaws.{idl_wanting}
 use Rattle.orb_command.proofs.AtLaws.{broker_wanting, at_wanting}
 
@@ -181,9 +182,9 @@ pipe_answers words answered before after h status = record {
   few = few_taken words answered.note answered.piped before after h;
 }
 
--- ---- where memory is wanting for the words, nothing was done
+-- ---- where memory runs out over the words, nothing was done
 
-pub wanting_answers : (command : Meaning) (answered : Reported) (before : Moment) → NamesThings command → answered.note ≡ Memory → answered.status ≡ 12 → answered.piped ≡ None
+pub wanting_answers : (command : Meaning) (answered : Reported) (before : Moment) → IsBuilt command → answered.note ≡ Memory → answered.status ≡ 12 → answered.piped ≡ None
     → Reports command answered before before
 wanting_answers (RefsAt place config) answered before h note status none = at_wanting place config answered before note status none
 wanting_answers (Pipe words) answered before h note status none =
@@ -198,7 +199,7 @@ wanting_answers (Serve words) answered before h note status none = record {
   faults = (refl, subst (λ n. ServeFaults n before before) (sym note) (refl, refl));
   few = gave_none 0 before.input;
 }
-wanting_answers Dump answered before h note status none = absurd h
-wanting_answers Refs answered before h note status none = absurd h
+wanting_answers Dump answered before h note status none = dump_wanting answered before note status none
+wanting_answers Refs answered before h note status none = refs_wanting answered before note status none
+wanting_answers Unread answered before h note status none = unread_wanting answered before note status none
 wanting_answers Unbuilt answered before h note status none = absurd h
-wanting_answers Unread answered before h note status none = absurd h

@@ -25,7 +25,7 @@ use Rattle.server_runs.specs.declared.run_at.ServeEnd.TheVariants as end
 use Rattle.server_runs.specs.declared.run_at.Served.{Served}
 use Rattle.text_streams.proofs.CallerLemmas.{gave_none}
 use Rattle.text_streams.specs.Streams.{GaveFew}
-use Rattle.command_words.specs.Words.{NamesThings}
+use Rattle.command_words.proofs.Built.{IsBuilt}
 use Rattle.command_words.specs.declared.meaning.Meaning.{Meaning}
 use Rattle.command_words.specs.declared.meaning.Meaning.TheVariants.{Pipe, Serve, Dump, Refs, RefsAt, Idl, Unbuilt, Unread}
 use Rattle.command_words.specs.declared.meaning.ServeWords.{ServeWords}
@@ -138,8 +138,8 @@ module _ {A I O : Type 0} (state : A → AcceptorState I O) (source : I → Sour
     served = h;
   }
 
-  -- where memory is wanting for the words, nothing was done
-  pub wanting : (command : Meaning) (reported : Reported) (answered : Answered A I O) (before : Moment) (net : NetState I O) → NamesThings command
+  -- where memory runs out over the words, nothing was done
+  pub wanting : (command : Meaning) (reported : Reported) (answered : Answered A I O) (before : Moment) (net : NetState I O) → IsBuilt command
       → reported.note ≡ Memory → reported.status ≡ 12 → reported.piped ≡ None → report_of answered ≡ reported → answered.run ≡ None → answered.acceptors.items ≡ []
       → Answers state source sink command answered before before net net
   wanting (Serve words) reported answered before net names note status none same run empty =
@@ -153,7 +153,10 @@ module _ {A I O : Type 0} (state : A → AcceptorState I O) (source : I → Sour
       plain_answers state source sink (RefsAt place config) reported answered before before net tt (wanting_answers (RefsAt place config) reported before names note status none) same run empty
   wanting (Idl name) reported answered before net names note status none same run empty =
       plain_answers state source sink (Idl name) reported answered before before net tt (wanting_answers (Idl name) reported before names note status none) same run empty
-  wanting Dump reported answered before net names note status none same run empty = absurd names
-  wanting Refs reported answered before net names note status none same run empty = absurd names
+  wanting Dump reported answered before net names note status none same run empty =
+      plain_answers state source sink Dump reported answered before before net tt (wanting_answers Dump reported before names note status none) same run empty
+  wanting Refs reported answered before net names note status none same run empty =
+      plain_answers state source sink Refs reported answered before before net tt (wanting_answers Refs reported before names note status none) same run empty
   wanting Unbuilt reported answered before net names note status none same run empty = absurd names
-  wanting Unread reported answered before net names note status none same run empty = absurd names
+  wanting Unread reported answered before net names note status none same run empty =
+      plain_answers state source sink Unread reported answered before before net tt (wanting_answers Unread reported before names note status none) same run empty

@@ -1,8 +1,10 @@
 -- The answers of the top call: for each note its cause, and what was written.
-use Rattle.std.specs.Prelude.{◌≡◌, ◌+◌, ℕ, [], Option, None}
+use Rattle.std.specs.Prelude.{◌≡◌, ◌+◌, ◌⊎◌, ℕ, true, List, [], Option, None}
 use Rattle.orb_base.specs.Links.{AcceptorState}
 use Rattle.orb_base.specs.Outside.{SourceState, SinkState}
 use Rattle.orb_nets.specs.Nets.{NetState}
+use Rattle.command_options.specs.Items.{Text}
+use Rattle.command_words.specs.Words.{asks_memory, command_of}
 use Rattle.command_words.specs.declared.meaning.Meaning.{Meaning}
 use Rattle.command_words.specs.declared.meaning.Meaning.TheVariants.{Pipe, Serve, Dump, Refs, RefsAt, Idl, Unbuilt, Unread}
 use Rattle.orb_command.specs.declared.answered.Answered.{Answered}
@@ -55,8 +57,8 @@ most_taken (Idl name) = 0
 most_taken Unbuilt = 0
 most_taken Unread = 0
 
--- what each note means, and what a run of the pipe says, by what the words mean; a command that isn't there does nothing, and the server
--- takes no input
+-- what each note means, and what a run of the pipe says, by what the words mean; words without a reading do nothing, whether they are
+-- refused or memory runs out over them, and neither does a command that isn't built; the server takes no input
 abbrev pub NoteMeans : Meaning → Note → Option Piped → Moment → Moment → Type 0
 NoteMeans (Pipe words) note piped before after = PipeAnswers words note piped before after
 NoteMeans (Serve words) note piped before after = after.input ≡ before.input
@@ -65,7 +67,7 @@ NoteMeans Refs note piped before after = RefsAnswers note before after
 NoteMeans (RefsAt place config) note piped before after = AtAnswers place config note before after
 NoteMeans (Idl name) note piped before after = IdlAnswers name note before after
 NoteMeans Unbuilt note piped before after = (note ≡ NotBuilt) × (after ≡ before)
-NoteMeans Unread note piped before after = (note ≡ Usage) × (after ≡ before)
+NoteMeans Unread note piped before after = ((note ≡ Usage) ⊎ (note ≡ Memory)) × (after ≡ before)
 
 -- no other command than the pipe has a run of it
 abbrev pub PipedBy : Meaning → Option Piped → Type 0
@@ -119,3 +121,7 @@ module _ {A I O : Type 0} where
     pub record Answers (command : Meaning) (answered : Answered A I O) (before after : Moment) (net net' : NetState I O) : Type 0 where
       pub reports : Reports command (report_of answered) before after
       pub served : ServedBy command answered before after net net'
+
+-- words without a reading end with the status 1 of usage, or with the 12 of out of memory where memory is asked for to read them
+abbrev pub UsageStatus : List Text → ℕ → Type 0
+UsageStatus words status = command_of words ≡ Unread → (status ≡ 1) ⊎ ((status ≡ 12) × (asks_memory words ≡ true))

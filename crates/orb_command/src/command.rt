@@ -1,6 +1,7 @@
 //! The top call.
-ghost use Rattle.std.specs.Prelude.{◌≡◌, string_bytes, None};
+ghost use Rattle.std.specs.Prelude.{◌≡◌, map, string_bytes, None};
 ghost use Rattle.command_words.specs.Words.{command_of};
+ghost use Rattle.command_words.specs.declared.meaning.Meaning.TheVariants.{Unread};
 ghost use Rattle.orb_command.specs.Moment.{moment};
 ghost use Rattle.orb_command.specs.Command.{Answers};
 ghost use Rattle.orb_command.specs.Command as Spec;
@@ -86,15 +87,52 @@ fn answered_serve<A, I, O>(told: ServeTold<A, I, O>) -> Answered<A, I, O>
     }
 }
 
+/// Carries out what words mean, where they were read, and answers the status with its note. Each status has its cause: see `orb_main`.
+fn carry_out<N: Net, F: Files, I: Source, O: Sink, R: Wait + Threads + Sync>(
+    rt: &R,
+    alloc: Global,
+    meaning: Meaning,
+    net: &mut N,
+    files: &mut F,
+    input: &mut I,
+    out: &mut O,
+) -> Answered<N::Acc, N::In, N::Out>
+    ensures answers { Answers N.Acc.state N.In.state N.Out.state meaning result
+        (moment (F.state files.old) (I.state input.old) (O.state out.old))
+        (moment (F.state files.new) (I.state input.new) (O.state out.new)) (N.state net.old) (N.state net.new) }
+    ensures usage { meaning ≡ Unread → result.status ≡ 1 }
+{
+    match meaning {
+        Meaning::Pipe(words) => Answered::plain(
+            alloc,
+            reported_pipe(run_pipe(alloc, files, &words, input, out)),
+        ),
+        Meaning::Serve(words) => answered_serve(run_server(rt, alloc, net, files, &words, out)),
+        Meaning::Dump => Answered::plain(alloc, reported(dump_note(dump_run(alloc, input, out)))),
+        Meaning::Refs => Answered::plain(alloc, reported(refs_note(refs_run(alloc, input, out)))),
+        Meaning::RefsAt(at, config) => Answered::plain(
+            alloc,
+            reported(note_at(at_run(alloc, files, out, config.as_ref(), &at))),
+        ),
+        Meaning::Idl(name) => Answered::plain(
+            alloc,
+            reported(idl_note(idl_run(alloc, files, &name, out))),
+        ),
+        Meaning::Unbuilt => Answered::plain(alloc, reported(Note::NotBuilt)),
+        Meaning::Unread => Answered::plain(alloc, reported(Note::Usage)),
+    }
+}
+
 /// Does all that the program does: reads the words, runs the command over the net, the files, the input and the output, and answers
-/// the status with its note. `pipe` carries out the requests of its input while it reads them, by the built-in setup, and with
-/// `--config FILE` by the configuration of this name and the interfaces and scripts that it names, in groups of one, or with `--batch
-/// N` of up to N calls, and writes what is answered, or with `--history` the text of the run's history. `serve --config FILE --listen
-/// HOST:PORT` serves the configuration of this name at that address, and writes one line of summary when the run ends. `dump` writes
-/// a line for each message of the input, and `refs` writes the parts of the reference that it is. `refs --at HOST:PORT` writes the
-/// reference of each object of the built-in setup at that address, and with `--config FILE` of each object of the configuration of
-/// this name. `idl --file FILE` lists what the IDL of the file declares. The other commands aren't built yet. It returns where each
-/// read and write returns, and `serve` where its run ends. The answers to `pipe` and `serve` have their runs, with the history.
+/// the status with its note. Options come in any order, as `--name value` or `--name=value`. `pipe` carries out the requests of its
+/// input while it reads them, by the built-in setup, and with `--config FILE` by the configuration of this name and the interfaces and
+/// scripts that it names, in groups of one, or with `--batch N` of up to N calls, and writes what is answered, or with `--history` the
+/// text of the run's history. `serve --config FILE --listen HOST:PORT` serves the configuration of this name at that address, and
+/// writes one line of summary when the run ends. `dump` writes a line for each message of the input, and `refs` writes the parts of
+/// the reference that it is. `refs --at HOST:PORT` writes the reference of each object of the built-in setup at that address, and with
+/// `--config FILE` of each object of the configuration of this name. `idl --file FILE` lists what the IDL of the file declares. The
+/// other commands aren't built yet. It returns where each read and write returns, and `serve` where its run ends. The answers to
+/// `pipe` and `serve` have their runs, with the history.
 pub fn orb_main<N: Net, F: Files, I: Source, O: Sink, R: Wait + Threads + Sync>(
     rt: &R,
     alloc: Global,
@@ -104,39 +142,21 @@ pub fn orb_main<N: Net, F: Files, I: Source, O: Sink, R: Wait + Threads + Sync>(
     input: &mut I,
     out: &mut O,
 ) -> Answered<N::Acc, N::In, N::Out>
-    // The status is that of the note, and each note has its cause, by what the words mean: 1 exactly where they mean no
-    // command, 14 exactly where they mean one that isn't built; 3 only where the count of faults of the input or of the files rose,
-    // 4 only where that of the output did, and 5 only where that of the net did; 8 and 13 of `dump`, and 8 of `refs`, exactly where
-    // the bytes that it took say so, and of `pipe` what its history and its bytes say; 2 and 10 exactly where the files say so. A run
-    // of `serve` is one legal history, whose summary is written.
-    ensures { Answers N.Acc.state N.In.state N.Out.state (command_of string_bytes words.now) result
+    // The status is that of the note, and each note has its cause, by what the words mean: 14 exactly where they are of a command that
+    // isn't built; 3 only where the count of faults of the input or of the files rose, 4 only where that of the output did, and 5 only
+    // where that of the net did; 8 and 13 of `dump`, and 8 of `refs`, exactly where the bytes that it took say so, and of `pipe` what
+    // its history and its bytes say; 2 and 10 exactly where the files say so. A run of `serve` is one legal history, whose summary is
+    // written.
+    ensures answers { Answers N.Acc.state N.In.state N.Out.state (command_of (map string_bytes words.now)) result
         (moment (F.state files.old) (I.state input.old) (O.state out.old))
         (moment (F.state files.new) (I.state input.new) (O.state out.new)) (N.state net.old) (N.state net.new) }
+    // Status 1 comes only where the words have no reading.
+    ensures only { result.status ≡ 1 → command_of (map string_bytes words.now) ≡ Unread }
+    // It comes wherever they have none, but for memory: 12 may come in its place where memory is asked for to read the words.
+    ensures usage { Spec.UsageStatus (map string_bytes words.now) result.status }
 {
     match read_words(alloc, words) {
-        Ok(Meaning::Pipe(words)) => Answered::plain(
-            alloc,
-            reported_pipe(run_pipe(alloc, files, &words, input, out)),
-        ),
-        Ok(Meaning::Serve(words)) => {
-            answered_serve(run_server(rt, alloc, net, files, &words, out))
-        }
-        Ok(Meaning::Dump) => {
-            Answered::plain(alloc, reported(dump_note(dump_run(alloc, input, out))))
-        }
-        Ok(Meaning::Refs) => {
-            Answered::plain(alloc, reported(refs_note(refs_run(alloc, input, out))))
-        }
-        Ok(Meaning::RefsAt(at, config)) => Answered::plain(
-            alloc,
-            reported(note_at(at_run(alloc, files, out, config.as_ref(), &at))),
-        ),
-        Ok(Meaning::Idl(name)) => Answered::plain(
-            alloc,
-            reported(idl_note(idl_run(alloc, files, &name, out))),
-        ),
-        Ok(Meaning::Unbuilt) => Answered::plain(alloc, reported(Note::NotBuilt)),
-        Ok(Meaning::Unread) => Answered::plain(alloc, reported(Note::Usage)),
+        Ok(meaning) => carry_out(rt, alloc, meaning, net, files, input, out),
         Err(NoMemory) => Answered::plain(alloc, reported(Note::Memory)),
     }
 }

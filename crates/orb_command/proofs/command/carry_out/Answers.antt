@@ -1,0 +1,118 @@
+use Rattle.std.proofs.Common.{◌≡◌, refl, sym, ap, ◌∙◌}
+use Rattle.command_words.specs.declared.meaning.Meaning.TheVariants.{Pipe, Serve, Dump, Refs, RefsAt, Idl, Unbuilt, Unread}
+use Rattle.orb_command.specs.Moment.{moment}
+use Rattle.orb_command.specs.Command.{status_of}
+use Rattle.orb_command.proofs.CommandLaws.{dump_answers, refs_answers, unbuilt_answers, unread_answers}
+use Rattle.orb_command.proofs.AtLaws.{at_answers}
+use Rattle.orb_command.proofs.IdlLaws.{idl_answers}
+use Rattle.orb_command.proofs.PipeNotes.{pipe_answers}
+use Rattle.orb_command.proofs.Plain.{plain_answers}
+use Rattle.orb_command.proofs.ServeNotes.{serve_answers}
+use Rattle.orb_command.proofs.command.carry_out.Goals as goal
+
+pub returns-in-Pipe-clause-answers : goal.returns-in-Pipe-clause-answers
+returns-in-Pipe-clause-answers g c =
+    let note = c.reported_pipe.ensures.note in
+    let before = moment (g.F.Files.state c.args.files.now) (g.I.Source.state c.args.input.now) (g.O.Sink.state c.args.out.now) in
+    let after = moment (g.F.Files.state c.run_pipe.new.files) (g.I.Source.state c.run_pipe.new.input) (g.O.Sink.state c.run_pipe.new.out) in
+    rw c.in-Pipe.is
+    (plain_answers g.N.Acc.Acceptor.state g.N.In.Source.state g.N.Out.Sink.state (Pipe c.in-Pipe.words) c.reported_pipe.result c.plain.result before after (g.N.Net.state c.args.net.now) tt
+    (pipe_answers c.in-Pipe.words c.reported_pipe.result before after
+    (rw (note, c.reported_pipe.ensures.piped) c.run_pipe.ensures) (c.reported_pipe.ensures.status ∙ ap status_of (sym note)))
+    c.plain.ensures.reported c.plain.ensures.run c.plain.ensures.acceptors)
+
+pub returns-in-Serve-clause-answers : goal.returns-in-Serve-clause-answers
+returns-in-Serve-clause-answers g c =
+    let told = c.answered_serve.ensures in
+    let before = moment (g.F.Files.state c.args.files.now) (g.I.Source.state c.args.input.now) (g.O.Sink.state c.args.out.now) in
+    let after = moment (g.F.Files.state c.run_server.new.files) (g.I.Source.state c.args.input.now) (g.O.Sink.state c.run_server.new.out) in
+    rw c.in-Serve.is
+    (serve_answers g.N.Acc.Acceptor.state g.N.In.Source.state g.N.Out.Sink.state c.in-Serve.words c.answered_serve.result before after
+    (g.N.Net.state c.args.net.now) (g.N.Net.state c.run_server.new.net) refl
+    (rw told.told c.run_server.ensures) (told.status ∙ ap (λ t. status_of t.note) (sym told.told)) told.piped)
+
+pub returns-in-Dump-clause-answers : goal.returns-in-Dump-clause-answers
+returns-in-Dump-clause-answers g c =
+    let note = c.reported.ensures.note ∙ c.dump_note.ensures in
+    let status = c.reported.ensures.status ∙ ap status_of c.dump_note.ensures in
+    let before = moment (g.F.Files.state c.args.files.now) (g.I.Source.state c.args.input.now) (g.O.Sink.state c.args.out.now) in
+    let after = moment (g.F.Files.state c.args.files.now) (g.I.Source.state c.dump_run.new.source) (g.O.Sink.state c.dump_run.new.sink) in
+    rw c.in-Dump.is
+    (plain_answers g.N.Acc.Acceptor.state g.N.In.Source.state g.N.Out.Sink.state Dump c.reported.result c.plain-in-Dump.result before after (g.N.Net.state c.args.net.now) tt
+    (dump_answers c.dump_run.result c.reported.result before after refl c.dump_run.ensures note status c.reported.ensures.piped)
+    c.plain-in-Dump.ensures.reported c.plain-in-Dump.ensures.run c.plain-in-Dump.ensures.acceptors)
+
+pub returns-in-Refs-clause-answers : goal.returns-in-Refs-clause-answers
+returns-in-Refs-clause-answers g c =
+    let note = c.reported-in-Refs.ensures.note ∙ c.refs_note.ensures in
+    let status = c.reported-in-Refs.ensures.status ∙ ap status_of c.refs_note.ensures in
+    let before = moment (g.F.Files.state c.args.files.now) (g.I.Source.state c.args.input.now) (g.O.Sink.state c.args.out.now) in
+    let after = moment (g.F.Files.state c.args.files.now) (g.I.Source.state c.refs_run.new.source) (g.O.Sink.state c.refs_run.new.sink) in
+    rw c.in-Refs.is
+    (plain_answers g.N.Acc.Acceptor.state g.N.In.Source.state g.N.Out.Sink.state Refs c.reported-in-Refs.result c.plain-in-Refs.result before after (g.N.Net.state c.args.net.now) tt
+    (refs_answers c.refs_run.result c.reported-in-Refs.result before after refl c.refs_run.ensures note status c.reported-in-Refs.ensures.piped)
+    c.plain-in-Refs.ensures.reported c.plain-in-Refs.ensures.run c.plain-in-Refs.ensures.acceptors)
+
+pub returns-in-RefsAt-clause-answers : goal.returns-in-RefsAt-clause-answers
+returns-in-RefsAt-clause-answers g c =
+    let note = c.reported-in-RefsAt.ensures.note ∙ c.note_at.ensures in
+    let status = c.reported-in-RefsAt.ensures.status ∙ ap status_of c.note_at.ensures in
+    let before = moment (g.F.Files.state c.args.files.now) (g.I.Source.state c.args.input.now) (g.O.Sink.state c.args.out.now) in
+    let after = moment (g.F.Files.state c.at_run.new.files) (g.I.Source.state c.args.input.now) (g.O.Sink.state c.at_run.new.sink) in
+    rw c.in-RefsAt.is
+    (plain_answers g.N.Acc.Acceptor.state g.N.In.Source.state g.N.Out.Sink.state (RefsAt c.in-RefsAt.at c.in-RefsAt.config) c.reported-in-RefsAt.result c.plain-in-RefsAt.result before after (g.N.Net.state c.args.net.now) tt
+    (at_answers c.at_run.result c.in-RefsAt.at c.in-RefsAt.config c.reported-in-RefsAt.result before after
+    refl (rw (sym c.as_ref.ensures.value) c.at_run.ensures) note status c.reported-in-RefsAt.ensures.piped)
+    c.plain-in-RefsAt.ensures.reported c.plain-in-RefsAt.ensures.run c.plain-in-RefsAt.ensures.acceptors)
+
+pub returns-in-Idl-clause-answers : goal.returns-in-Idl-clause-answers
+returns-in-Idl-clause-answers g c =
+    let note = c.reported-in-Idl.ensures.note ∙ c.idl_note.ensures in
+    let status = c.reported-in-Idl.ensures.status ∙ ap status_of c.idl_note.ensures in
+    let before = moment (g.F.Files.state c.args.files.now) (g.I.Source.state c.args.input.now) (g.O.Sink.state c.args.out.now) in
+    let after = moment (g.F.Files.state c.idl_run.new.files) (g.I.Source.state c.args.input.now) (g.O.Sink.state c.idl_run.new.out) in
+    rw c.in-Idl.is
+    (plain_answers g.N.Acc.Acceptor.state g.N.In.Source.state g.N.Out.Sink.state (Idl c.in-Idl.name) c.reported-in-Idl.result c.plain-in-Idl.result before after (g.N.Net.state c.args.net.now) tt
+    (idl_answers c.idl_run.result c.in-Idl.name c.reported-in-Idl.result before after
+    refl c.idl_run.ensures.lists c.idl_run.ensures.only c.idl_run.ensures.exact note status c.reported-in-Idl.ensures.piped)
+    c.plain-in-Idl.ensures.reported c.plain-in-Idl.ensures.run c.plain-in-Idl.ensures.acceptors)
+
+pub returns-in-Unbuilt-clause-answers : goal.returns-in-Unbuilt-clause-answers
+returns-in-Unbuilt-clause-answers g c =
+    let before = moment (g.F.Files.state c.args.files.now) (g.I.Source.state c.args.input.now) (g.O.Sink.state c.args.out.now) in
+    rw c.in-Unbuilt.is
+    (plain_answers g.N.Acc.Acceptor.state g.N.In.Source.state g.N.Out.Sink.state Unbuilt c.reported-in-Unbuilt.result c.plain-in-Unbuilt.result before before (g.N.Net.state c.args.net.now) tt
+    (unbuilt_answers c.reported-in-Unbuilt.result before c.reported-in-Unbuilt.ensures.note c.reported-in-Unbuilt.ensures.status c.reported-in-Unbuilt.ensures.piped)
+    c.plain-in-Unbuilt.ensures.reported c.plain-in-Unbuilt.ensures.run c.plain-in-Unbuilt.ensures.acceptors)
+
+pub returns-in-Unread-clause-answers : goal.returns-in-Unread-clause-answers
+returns-in-Unread-clause-answers g c =
+    let before = moment (g.F.Files.state c.args.files.now) (g.I.Source.state c.args.input.now) (g.O.Sink.state c.args.out.now) in
+    rw c.in-Unread.is
+    (plain_answers g.N.Acc.Acceptor.state g.N.In.Source.state g.N.Out.Sink.state Unread c.reported-in-Unread.result c.plain-in-Unread.result before before (g.N.Net.state c.args.net.now) tt
+    (unread_answers c.reported-in-Unread.result before c.reported-in-Unread.ensures.note c.reported-in-Unread.ensures.status c.reported-in-Unread.ensures.piped)
+    c.plain-in-Unread.ensures.reported c.plain-in-Unread.ensures.run c.plain-in-Unread.ensures.acceptors)
+
+pub returns-in-Pipe-clause-usage : goal.returns-in-Pipe-clause-usage
+returns-in-Pipe-clause-usage g c = λ e. let no : Pipe c.in-Pipe.words ≡ Unread = sym c.in-Pipe.is ∙ e in absurd (cc)
+
+pub returns-in-Serve-clause-usage : goal.returns-in-Serve-clause-usage
+returns-in-Serve-clause-usage g c = λ e. let no : Serve c.in-Serve.words ≡ Unread = sym c.in-Serve.is ∙ e in absurd (cc)
+
+pub returns-in-Dump-clause-usage : goal.returns-in-Dump-clause-usage
+returns-in-Dump-clause-usage g c = λ e. let no : Dump ≡ Unread = sym c.in-Dump.is ∙ e in absurd (cc)
+
+pub returns-in-Refs-clause-usage : goal.returns-in-Refs-clause-usage
+returns-in-Refs-clause-usage g c = λ e. let no : Refs ≡ Unread = sym c.in-Refs.is ∙ e in absurd (cc)
+
+pub returns-in-RefsAt-clause-usage : goal.returns-in-RefsAt-clause-usage
+returns-in-RefsAt-clause-usage g c = λ e. let no : RefsAt c.in-RefsAt.at c.in-RefsAt.config ≡ Unread = sym c.in-RefsAt.is ∙ e in absurd (cc)
+
+pub returns-in-Idl-clause-usage : goal.returns-in-Idl-clause-usage
+returns-in-Idl-clause-usage g c = λ e. let no : Idl c.in-Idl.name ≡ Unread = sym c.in-Idl.is ∙ e in absurd (cc)
+
+pub returns-in-Unbuilt-clause-usage : goal.returns-in-Unbuilt-clause-usage
+returns-in-Unbuilt-clause-usage g c = λ e. let no : Unbuilt ≡ Unread = sym c.in-Unbuilt.is ∙ e in absurd (cc)
+
+pub returns-in-Unread-clause-usage : goal.returns-in-Unread-clause-usage
+returns-in-Unread-clause-usage g c = λ e. ap (λ r. r.status) c.plain-in-Unread.ensures.reported ∙ c.reported-in-Unread.ensures.status
