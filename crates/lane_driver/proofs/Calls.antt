@@ -78,6 +78,7 @@ drives_as one other outcome (Err e) s s' log log' out out' same want = record {
     begins = begins_as one other s want.entries same want.begins.begins;
   };
   wrote = want.wrote;
+  faults = want.faults;
 }
 
 pub did_nothing : (does : Doer) (outcome : Servant) (s : State) (log : Option History) (out : SinkState) → ((servant : Servant) (h : History) → does servant (run_at s h) ≡ run_at s h) → Did does outcome s s log log out out
