@@ -1,3 +1,6 @@
+pub mod Growing
+pub mod Numbered
+pub mod Wrote
 pub mod Maps
 pub mod Offered
 pub mod Commutes
