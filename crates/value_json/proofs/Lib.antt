@@ -1,0 +1,9 @@
+pub mod Characters
+pub mod Plain
+pub mod Data
+pub mod Loops
+pub mod Fields
+pub mod NumbersBack
+pub mod MembersBack
+pub mod Back
+pub mod OfType

@@ -1,0 +1,6 @@
+pub mod Texts
+pub mod Numerals
+pub mod Shown
+pub mod Meant
+pub mod Gives
+pub mod Laws
