@@ -1,0 +1,5 @@
+//! Tests of `value_json`.
+#![tactic(auto)]
+
+#[cfg(test)]
+mod value_json_tests;
