@@ -43,7 +43,7 @@ module _ {A I O : Type 0} (state : A → AcceptorState I O) (source : I → Sour
   pub is_told : SlotRan state source sink setup h slot s → (nth : ℕ) → nth < length s.conns → (nth < setup.per_slot) × (may_collect (latest None (of (writer_seat (conn_at slot nth)) h)) ≡ false)
   is_told ran nth l =
       let few = count_few s.end setup.per_slot (length s.conns) _ (state s.before) (state s.behind) ran.cause in
-      let same : length s.conns ≡ length ran.cs = ap length ran.serves.logs_are ∙ length-map (λ (c : Conn I O). c.log) ran.cs in (
+      let same : length s.conns ≡ length ran.cs = ap length ran.serves.logs_are ∙ length-map ran.cs (λ (c : Conn I O). c.log) in (
         omega arith,
         subst (λ (n : ℕ). may_collect (latest None (of (writer_seat (conn_at slot n)) h)) ≡ false) (omega arith)
             (told_from source sink setup h slot 0 ran.cs ran.serves.served ran.written nth (omega arith)),

@@ -1,7 +1,5 @@
 //! Laws over what a run of the server leaves. A body only calls the laws that its contract follows from.
 ghost use Rattle.std.specs.Prelude.{◌≡◌, ◌<◌, List, ℕ, length};
-ghost use Rattle.orb_base.specs.Links.{AcceptorState};
-ghost use Rattle.orb_base.specs.Outside.{SourceState, SinkState};
 ghost use Rattle.orb_base.specs.JobRecord.{JobRecord};
 ghost use Rattle.orb_base.specs.declared.outcome.Outcome.{Outcome};
 ghost use Rattle.lane_machine.specs.Histories.{History, replay};
@@ -12,6 +10,7 @@ ghost use Rattle.orb_server.specs.Connections.{conn_at};
 ghost use Rattle.orb_server.specs.Runs.{opening_of, IsLawful, Slot, SlotRan, WorkersRan};
 
 use lane_laws::{all_is_done, each_in_one_place, replies_are_counted};
+use orb_base::Acceptor;
 
 /// The end of a run: where its history is lawful and its workers ran to their end, as `serve_run` says, no request waits, and no
 /// thread has one in hand.
@@ -24,12 +23,11 @@ pub fn a_run_ends_at_rest()
 }
 
 /// Each reply once: where the history of a run is lawful, and its slots ran, as `serve_run` says, each connection that a slot served was
-/// handed one reply to each of its requests that was carried out and whose reply is due with its answer, and no other. What it was
-/// handed was written, or its sink failed, as `SlotRan` says of each connection.
-pub fn each_reply_is_handed_once()
-    ensures { {A I O : Type 0} (state : A → AcceptorState I O) (source : I → SourceState) (sink : O → SinkState) (setup : SetupData)
-        (h : History) (slot : ℕ) (s : Slot A I O) → IsLawful setup h → SlotRan state source sink setup h slot s
-        → (nth : ℕ) → nth < length s.conns → (serial : ℕ)
+/// handed one reply to each of its requests that was carried out and whose reply is due with its answer, and no other such reply. What
+/// it was handed was written, or its sink failed, as `SlotRan` says of each connection.
+pub fn each_reply_is_handed_once<A: Acceptor>()
+    ensures { (setup : SetupData) (h : History) (slot : ℕ) (s : Slot A A.In A.Out) → IsLawful setup h
+        → SlotRan A.state A.In.state A.Out.state setup h slot s → (nth : ℕ) → nth < length s.conns → (serial : ℕ)
         → handed_replies (conn_at slot nth) serial h ≡ finished_awaited (conn_at slot nth) serial h }
 {
     replies_are_counted();
