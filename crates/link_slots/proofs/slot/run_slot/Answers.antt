@@ -17,9 +17,9 @@ returns-then-closes g c =
     let few : c.loop-nth.nth < c.args.host.now.most = omega (arith, t, c.loop-nth.auto.nth-end) in record {
       ran = subst (λ r. SlotRan g.A.Acceptor.state (goal.F-post g c.args.host.now.serve) c.args.host.now.most c.args.job r) (sym c.left.ensures) (
           comes_closed g.A.In.Source.state g.A.Out.Sink.state g.A.Acceptor.state _ _ c.args.host.now.most
-            c.args.job c.loop-nth.place (g.A.Acceptor.state c.loop-nth.acceptor) c.loop-nth.nth c.in-Link.source c.in-Link.sink c.loop-nth.logs.items c.serve-served.result _
-            c.loop-nth.invariant.0 c.in-Link.ensures.links c.in-Link.ensures.fault c.in-Link.ensures.end c.loop-nth.invariant.1 c.serve-served.ensures
-            c.if-closes.true few refl c.push_reserved.ensures.items refl);
+          c.args.job c.loop-nth.place (g.A.Acceptor.state c.loop-nth.acceptor) c.loop-nth.nth c.in-Link.source c.in-Link.sink c.loop-nth.logs.items c.serve-served.result _
+          c.loop-nth.invariant.0 c.in-Link.ensures.links c.in-Link.ensures.fault c.in-Link.ensures.end c.loop-nth.invariant.1 c.serve-served.ensures
+          c.if-closes.true few refl c.push_reserved.ensures.items refl);
     }
 
 pub loop-nth-preserved : goal.loop-nth-preserved
