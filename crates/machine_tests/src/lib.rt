@@ -1,4 +1,4 @@
-//! Tests of `turn_cell`, `thread_borrowing`, `request_buffer`, `history_lines`, `lane_pool`.
+//! Tests of `turn_cell`, `thread_borrowing`, `request_buffer`, `history_lines`, `lane_pool`, `trace_lines`.
 #![tactic(auto)]
 
 #[cfg(test)]
@@ -9,5 +9,7 @@ mod lane_pool_tests;
 mod request_buffer_tests;
 #[cfg(test)]
 mod thread_borrowing_tests;
+#[cfg(test)]
+mod trace_lines_tests;
 #[cfg(test)]
 mod turn_cell_tests;
