@@ -91,7 +91,7 @@ no_refs = Err (record {})
 
 pub dump_wanting : (answered : Reported) (before : Moment) → answered.note ≡ Memory → answered.status ≡ 12 → answered.piped ≡ None → Reports Dump answered before before
 dump_wanting answered before note status none =
-    dump_answers no_dump answered before before refl (dump_wants_first no_dump before.input before.out tt) note status none
+    dump_answers no_dump answered before before refl (dump_wants_first no_dump before.input before.out refl) note status none
 
 pub refs_wanting : (answered : Reported) (before : Moment) → answered.note ≡ Memory → answered.status ≡ 12 → answered.piped ≡ None → Reports RefsMeaning answered before before
 refs_wanting answered before note status none =
