@@ -4,7 +4,7 @@ use Rattle.std.specs.Prelude.{codes, if◌then◌else◌, IsSome, option_to_list
 use Rattle.std.specs.Option.{option_map, option_and_then}
 use Rattle.std.specs.List.{All, AllByRecursion}
 use Rattle.orb_base.specs.JobRecord.{JobRecord}
-use Rattle.orb_base.specs.Priorities.{mandated}
+use Rattle.priority_models.specs.Transforms.{mandated}
 use Rattle.orb_base.specs.Span.{Span}
 use Rattle.cdr_core.specs.Encapsulation.{order_byte}
 use Rattle.giop_frames.specs.Messages as Frames

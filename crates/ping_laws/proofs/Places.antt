@@ -4,7 +4,7 @@ use Rattle.std.proofs.lemmas.Option.{same_Some}
 use Rattle.std.specs.Cmp.Lexicographic.{bytes_decides, pointwise}
 use Rattle.std.specs.Prelude.{IsSome, ℤ, codes, nat_eq, slice_get}
 use Rattle.std.specs.Option.{option_map, option_and_then}
-use Rattle.orb_base.specs.Priorities.{mandated}
+use Rattle.priority_models.specs.Transforms.{mandated}
 use Rattle.priority_maps.specs.Maps.{to_native}
 use Rattle.adapter_policies.specs.BuiltIn.{built_in, built_in_adapter, built_in_object}
 use Rattle.adapter_policies.specs.Index.{number_from}

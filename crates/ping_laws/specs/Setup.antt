@@ -2,7 +2,7 @@
 use Rattle.std.specs.Prelude.{◌≡◌, ◌≤◌, ◌*◌, ℕ, false, List, [], ◌∷◌, Option, None, Some, IsSome, slice_get}
 use Rattle.std.specs.Option.{option_map, option_and_then}
 use Rattle.orb_base.specs.Pool.{Pool, HasSlots}
-use Rattle.orb_base.specs.Priorities.{mandated}
+use Rattle.priority_models.specs.Transforms.{mandated}
 use Rattle.orb_base.specs.declared.lane_spec.LaneSpec.{LaneSpec}
 use Rattle.adapter_policies.specs.Index.{number_from}
 use Rattle.adapter_policies.specs.SetupData.{AdapterData, SetupData}

@@ -1,6 +1,6 @@
 //! The mandated priority.
 ghost use Rattle.std.specs.Prelude.{◌≡◌};
-ghost use Rattle.orb_base.specs.Priorities.{mandated};
+ghost use Rattle.priority_models.specs.Transforms.{mandated};
 
 use orb_base::{Priority, PriorityModel};
 

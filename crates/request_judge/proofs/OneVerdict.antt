@@ -2,7 +2,7 @@
 use Rattle.std.proofs.Common.{◌≡◌, ◌⊎◌, inl, inr, ℕ, List, [], Option, Some, None, Result, Ok, Err, IsSome, refl, sym, ap, ◌∙◌, subst}
 use Rattle.std.proofs.lemmas.Option.{same_Some}
 use Rattle.orb_base.specs.Pool.{Pool}
-use Rattle.orb_base.specs.Priorities.{mandated}
+use Rattle.priority_models.specs.Transforms.{mandated}
 use Rattle.orb_base.specs.Span.{Span}
 use Rattle.service_contexts.specs.declared.contexts.Contexts.{Contexts}
 use Rattle.service_contexts.proofs.Faults.{one_told, not_both}

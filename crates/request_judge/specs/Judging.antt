@@ -2,7 +2,8 @@
 -- of the causes is own profile: each is told only where none before it is there.
 use Rattle.std.specs.Prelude.{◌≡◌, ℕ, true, false, List, Option, Some, None, Result, Ok, Err, IsSome, codes}
 use Rattle.orb_base.specs.Pool.{Pool}
-use Rattle.orb_base.specs.Priorities.{mandated, lane_of}
+use Rattle.orb_base.specs.Priorities.{lane_of}
+use Rattle.priority_models.specs.Transforms.{mandated}
 use Rattle.orb_base.specs.Span.{Span}
 use Rattle.banded_links.specs.Binding.{serves}
 use Rattle.priority_maps.specs.Maps.{to_native}
