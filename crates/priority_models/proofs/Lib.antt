@@ -1,2 +1,3 @@
 pub mod OneWay
 pub mod Lanes
+pub mod Rows
