@@ -40,10 +40,10 @@ pub enum ConfigCause {
     /// The map's ends are reversed, or its rows don't rise.
     #[error("BadMap")]
     BadMap,
-    /// A band's low end is above its high one.
+    /// The low end of a band, or of a row of a transform, is above its high one.
     #[error("BandEmpty")]
     BandEmpty,
-    /// A band shares a priority with an earlier one of its adapter.
+    /// A band, or a row of a transform, shares a priority with an earlier one of its adapter.
     #[error("BandOverlap")]
     BandOverlap,
     /// An adapter's name or an object's key stands twice.
@@ -55,7 +55,7 @@ pub enum ConfigCause {
     /// An object under CLIENT_PROPAGATED has a priority of its own.
     #[error("PriorityNotAllowed")]
     PriorityNotAllowed,
-    /// A priority is that of no lane.
+    /// A priority, or the one that a row of a transform gives, is that of no lane.
     #[error("PriorityNotALane")]
     PriorityNotALane,
     /// The map has no native priority for a priority.
@@ -64,6 +64,9 @@ pub enum ConfigCause {
     /// No lane's priority lies in a band.
     #[error("BandWithoutLane")]
     BandWithoutLane,
+    /// An adapter under SERVER_DECLARED has a transform.
+    #[error("TransformNotAllowed")]
+    TransformNotAllowed,
     /// No servant serves an object's interface.
     #[error("UnknownInterface")]
     UnknownInterface,
