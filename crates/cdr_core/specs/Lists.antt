@@ -1,6 +1,6 @@
 -- Items, as tagged data and service contexts are, and lists of any values behind their count: CORBA 3.0.3, sections
 -- 13.6.2, 13.7 and 15.3.2.
-use Rattle.std.specs.Prelude.{ℕ, ◌^◌, ◌<◌, ◌==◌, List, ◌∷◌, length, find, Option, Ok}
+use Rattle.std.specs.Prelude.{ℕ, ◌^◌, ◌<◌, ◌==◌, List, [], ◌∷◌, length, find, Option, Ok, Err, IsOk}
 use Rattle.std.specs.Int.{w32}
 use Rattle.std.specs.List.{AllByRecursion, flat_map}
 use Rattle.orb_base.specs.Tagged.{Context, Tagged}
@@ -48,6 +48,19 @@ FitsList Fits list = (length list < 2 ^ 32) × AllByRecursion Fits list
 -- the list at a cursor
 unfoldable pub list_at : {A : Type 0} → (Cursor → Reads A) → Cursor → Reads (List A)
 list_at one c = count_at c >>= λ count. times one count.0 count.1
+
+-- what is read, or the empty list where there is no reading
+abbrev pub read_or_none : {A : Type 0} → Reads (List A) → List A
+read_or_none (Ok x) = x.0
+read_or_none (Err e) = []
+
+-- the list at a cursor, of what is made of its items
+abbrev pub listed : {A : Type 0} → (Item → A) → Cursor → List A
+listed made c = read_or_none (list_at (made_at made) c)
+
+-- a list has a reading at the cursor
+abbrev pub IsAtList : {A : Type 0} → (Item → A) → Cursor → Type 0
+IsAtList made c = IsOk (list_at (made_at made) c)
 
 -- a list of values, each spelled as its item
 abbrev pub are_spelled_as : {A : Type 0} → (A → Item) → List A → List Field

@@ -1,5 +1,5 @@
 -- Readings one behind the other, over any error.
-use Rattle.std.specs.Prelude.{ℕ, zero, suc, List, [], ◌∷◌, Result, Ok, Err}
+use Rattle.std.specs.Prelude.{◌≡◌, ℕ, zero, suc, List, [], ◌∷◌, Result, Ok, Err}
 use Rattle.cdr_core.specs.Cursor.{Cursor}
 
 -- a value and the cursor behind it, or the first fault
@@ -24,3 +24,13 @@ times one (suc n) c = do
 abbrev pub told_as : {E F A : Type 0} → (E → F) → Result A E → Result A F
 told_as name (Ok x) = Ok x
 told_as name (Err e) = Err (name e)
+
+-- the cursor behind what is read, or the first fault
+abbrev pub behind : {E A : Type 0} → Parsed E A → Result Cursor E
+behind (Ok x) = Ok x.1
+behind (Err e) = Err e
+
+-- a call that passes over what is read, and gives none of it, leaves the cursor behind it, or tells the first fault
+abbrev pub Leaves : {E A : Type 0} → Result (Unit {0}) E → Cursor → Parsed E A → Type 0
+Leaves (Ok done) new reading = behind reading ≡ Ok new
+Leaves (Err e) new reading = behind reading ≡ Err e

@@ -3,13 +3,13 @@ ghost use Rattle.std.specs.Prelude.{◌≡◌, ◌<◌, ◌^◌, length, refl, O
 ghost use Rattle.std.specs.List.{AllByRecursion, flat_map};
 ghost use Rattle.cdr_core.specs.Answers.{Gives};
 ghost use Rattle.cdr_core.specs.Errors.{fault_of};
-ghost use Rattle.cdr_core.specs.Lists.{made_at, list_at, are_spelled_as, AreCounted};
+ghost use Rattle.cdr_core.specs.Lists.{item_at, made_at, list_at, are_spelled_as, AreCounted};
 ghost use Rattle.cdr_core.specs.Lists.{item_of_tagged, tagged_of, item_of_context, context_of};
 ghost use Rattle.cdr_core.specs.Lists as Spec;
-ghost use Rattle.cdr_core.specs.Sequence.{times};
+ghost use Rattle.cdr_core.specs.Sequence.{times, Leaves};
 ghost use Rattle.cdr_core.specs.Writing.{Puts};
 
-use crate::fault::CdrError;
+use crate::fault::{CdrError, CdrFault};
 use crate::reader::Reader;
 use crate::writer::Writer;
 use orb_base::{Context, List, NoMemory, Octets, Tagged};
@@ -126,6 +126,31 @@ fn take_one<T: Item>(alloc: Global, reader: &mut Reader<'_>) -> Result<T, CdrErr
         },
         Err(fault) => Err(CdrError::Refused(fault)),
     }
+}
+
+/// Passes over a list behind its count: tagged data or service contexts. Tells the first fault, of the count or of an
+/// item, as `take_list` does, and leaves the reader where it stood where it tells one. Takes no memory; work grows with
+/// the number of items.
+#[tactic(auto, unfolding(crate::specs::Lists::list_at))]
+pub fn pass_list(reader: &mut Reader<'_>) -> Result<(), CdrFault>
+    ensures exact { Leaves result reader.new (list_at item_at reader.old) }
+    ensures kept { OnErr result (reader.new ≡ reader.old) }
+{
+    let mut copy = reader.copy();
+    let count = copy.take_count()?;
+    pass_items(count, &mut copy)?;
+    *reader = copy;
+    Ok(())
+}
+
+/// Passes over so many items.
+fn pass_items(count: u32, reader: &mut Reader<'_>) -> Result<(), CdrFault>
+    ensures { Leaves result reader.new (times item_at count reader.old) }
+{
+    for _ in 0..count {
+        reader.take_item()?;
+    }
+    Ok(())
 }
 
 /// Puts a list behind its count: tagged data or service contexts. Work grows with the bytes that it puts.
