@@ -3,6 +3,7 @@ pub mod Taking
 pub mod Carried
 pub mod Firsts
 pub mod Faults
+pub mod AtList
 pub mod StandardFacts
 pub mod FirstPolicies
 pub mod Published

@@ -17,7 +17,9 @@ mod short;
 
 pub use bands::{bands_policy, read_bands_policy};
 pub use content::{priority_context, range_context};
-pub use contexts::{ContextFault, Contexts, PRIORITY_CONTEXT, RANGE_CONTEXT, contexts_of};
+pub use contexts::{
+    ContextFault, Contexts, PRIORITY_CONTEXT, RANGE_CONTEXT, contexts_at, contexts_of,
+};
 pub use model::{model_policy, read_model_policy};
 pub use policies::{
     BANDS_POLICY, MODEL_POLICY, POLICIES_TAG, policies_component, read_policies_component,

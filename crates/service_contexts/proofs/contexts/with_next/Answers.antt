@@ -1,11 +1,20 @@
-use Rattle.std.proofs.Common.{◌≡◌, ap, ◌∙◌}
+use Rattle.std.proofs.Common.{◌≡◌, ◌∷◌, [], ◌++◌, ℕ, List, IfOk, IfErr, ap, subst, ◌∙◌}
 use Rattle.orb_base.specs.Tagged.{Context}
-use Rattle.service_contexts.proofs.Firsts.{other_tells}
+use Rattle.cdr_core.specs.Lists.{context_of}
+use Rattle.service_contexts.specs.Telling.{Tells, IsFirstFault}
 use Rattle.service_contexts.proofs.contexts.with_next.Goals as goal
 
-pub returns-else-next-eq-RANGE_CONTEXT-clause-told : goal.returns-else-next-eq-RANGE_CONTEXT-clause-told
-returns-else-next-eq-RANGE_CONTEXT-clause-told c =
-    let id : c.next.inside.id ≡ c.args.next.now.id = ap (λ (x : Context). x.id) c.next.view_is in
-    λ list h.
-    other_tells list c.args.next.now c.args.told (λ e. c.if-next-eq-PRIORITY_CONTEXT.false (id ∙ e))
-    (λ e. c.if-next-eq-RANGE_CONTEXT.false (id ∙ e)) h
+pub returns-clause-told : goal.returns-clause-told
+returns-clause-told c =
+    let next : context_of (c.next.inside.id, c.as_slice.result.now) ≡ c.args.next.now =
+    ap (λ (bytes : List ℕ). context_of (c.next.inside.id, bytes)) c.as_slice.ensures ∙ c.next.view_is in
+    subst (λ (x : Context). IfOk c.with_item.result (λ more. (list : List Context) → Tells list c.args.told → Tells (list ++ x ∷ []) more))
+    next c.with_item.ensures.told
+
+pub returns-clause-fault : goal.returns-clause-fault
+returns-clause-fault c =
+    let next : context_of (c.next.inside.id, c.as_slice.result.now) ≡ c.args.next.now =
+    ap (λ (bytes : List ℕ). context_of (c.next.inside.id, bytes)) c.as_slice.ensures ∙ c.next.view_is in
+    subst (λ (x : Context). IfErr c.with_item.result
+    (λ f. (list behind : List Context) → Tells list c.args.told → IsFirstFault (list ++ x ∷ behind) f))
+    next c.with_item.ensures.fault
