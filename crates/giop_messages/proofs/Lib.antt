@@ -3,6 +3,7 @@ pub mod ReadingLaws
 pub mod WritingLaws
 pub mod OneReading
 pub mod LengthLaws
+pub mod SizedContexts
 pub mod PutLaws
 mod RangeLaws
 mod MessageFound

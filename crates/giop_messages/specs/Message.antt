@@ -51,6 +51,11 @@ pub data Message : Type 0 where
   close : Message
   error : Message
 
+-- a request of these parts
+abbrev pub request_of : ℕ → ℕ → Target → List ℕ → List Context → List ℕ → Message
+request_of id flags target operation contexts body =
+    request (record { id = id; flags = flags; target = target; operation = operation; contexts = contexts; body = body })
+
 -- a reply of these parts
 abbrev pub reply_of : ℕ → ℕ → List Context → List ℕ → Message
 reply_of id status contexts body = reply (record { id = id; status = status; contexts = contexts; body = body })

@@ -1,5 +1,5 @@
 //! How long messages are as they are spelled.
-ghost use Rattle.std.specs.Prelude.{◌≡◌, ◌+◌, ◌<◌, ◌≤◌, ℕ, List, [], ◌∷◌, length};
+ghost use Rattle.std.specs.Prelude.{◌≡◌, ◌+◌, ◌<◌, ◌≤◌, ℕ, List, [], ◌∷◌, length, map};
 ghost use Rattle.std.specs.Int.{w32};
 ghost use Rattle.std.specs.List.{flat_map};
 ghost use Rattle.orb_base.specs.declared.order.Order.{Order};
@@ -11,7 +11,7 @@ ghost use Rattle.giop_messages.specs.Layout.{target_fields, contexts_fields, bod
 ghost use Rattle.giop_messages.specs.Spelling.{spelled, all_fields};
 ghost use Rattle.giop_messages.specs.TargetView.{target_of};
 ghost use Rattle.giop_messages.specs.Views.{message_of};
-ghost use Rattle.giop_messages.specs.Lengths.{Ends, held};
+ghost use Rattle.giop_messages.specs.Lengths.{Ends, held, data_len};
 
 use crate::message::Message;
 use crate::request::Request;
@@ -106,13 +106,51 @@ fn behind_body(place: usize, len: usize) -> usize
     }
 }
 
-fn request_len(request: &Request) -> usize
+fn whole_request_len(request: &Request) -> usize
     ensures { Ends 12 (all_fields (Spec.request request.now)) result }
 {
     let target = behind_target(20, &request.target);
     let operation = behind_text(target, request.operation.len());
     let contexts = behind_contexts(operation, request.contexts.as_slice());
     behind_body(contexts, request.body.len())
+}
+
+/// The place after contexts of which the data have these lengths in octets.
+fn behind_sizes(place: usize, sizes: &[usize]) -> usize
+    ensures { (contexts : List Context) → map data_len contexts ≡ sizes.now → Ends place (flat_map context_fields contexts) result }
+{
+    let mut at = place;
+    for size in sizes {
+        at = behind_octets(behind_u32(at), *size);
+    }
+    at
+}
+
+/// The same after their number.
+fn behind_sized_contexts(place: usize, sizes: &[usize]) -> usize
+    ensures { (contexts : List Context) → map data_len contexts ≡ sizes.now → Ends place (contexts_fields contexts) result }
+{
+    behind_sizes(behind_u32(place), sizes)
+}
+
+/// The place after a target that is a key of so many octets.
+fn behind_key(place: usize, len: usize) -> usize
+    ensures { (bytes : List ℕ) → length bytes ≡ len → Ends place (target_fields (Spec.key bytes)) result }
+{
+    behind_octets(behind(place, 2, 2), len)
+}
+
+/// The length in bytes of a request for the object of a key, as it is spelled, or usize::MAX where that is greater: by the
+/// key, the operation's name, how many octets the data of each context have, and how many the body has. A pad stands before
+/// a body that isn't empty. Takes no memory; one pass over the contexts. CORBA 3.0.3, section 15.4.2.
+pub fn request_len(key: &[u8], operation: &[u8], contexts: &[usize], len: usize) -> usize
+    ensures { (order : Order) (id flags : ℕ) (told : List Context) (body : List ℕ) → map data_len told ≡ contexts.now → length body ≡ len
+        → result ≡ held (length (spelled order (Spec.request_of id flags (Spec.key key.now) operation.now told body))) }
+{
+    let target = behind_key(20, key.len());
+    let named = behind_text(target, operation.len());
+    let at = behind_sized_contexts(named, contexts);
+    behind_body(at, len)
 }
 
 /// The length in bytes of a reply with these contexts and a body of so many octets as it is spelled, or usize::MAX where
@@ -131,7 +169,7 @@ pub fn message_len(message: &Message) -> usize
     ensures { (order : Order) → result ≡ held (length (spelled order (message_of message.now))) }
 {
     match message {
-        Message::Request(request) => request_len(request),
+        Message::Request(request) => whole_request_len(request),
         Message::Reply(reply) => reply_len(reply.contexts.as_slice(), reply.body.len()),
         Message::Cancel(_) => 16,
         Message::Locate(locate) => behind_target(16, &locate.target),

@@ -23,7 +23,7 @@ mod write;
 pub use exceptions::{completion_status, system_exception_body};
 pub use flags::due_of;
 pub use laws::{framed_is_message, reads_one_way, spelled_is_read, written_is_read};
-pub use length::{message_len, reply_len};
+pub use length::{message_len, reply_len, request_len};
 pub use locate::Locate;
 pub use located::Located;
 pub use message::Message;

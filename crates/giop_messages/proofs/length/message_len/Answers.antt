@@ -8,7 +8,7 @@ use Rattle.giop_messages.proofs.LengthLaws.{length_is, ends_same, cancel_len, lo
 use Rattle.giop_messages.proofs.length.message_len.Goals as goal
 
 pub returns-in-Request : goal.returns-in-Request
-returns-in-Request c order = rw c.in-Request.is (length_is order (Spec.request c.in-Request.request) c.request_len.result c.request_len.ensures)
+returns-in-Request c order = rw c.in-Request.is (length_is order (Spec.request c.in-Request.request) c.whole_request_len.result c.whole_request_len.ensures)
 
 pub returns-in-Reply : goal.returns-in-Reply
 returns-in-Reply c order =
