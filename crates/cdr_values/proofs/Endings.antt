@@ -51,7 +51,7 @@ stop e here next start one more left all is put so_far =
 abbrev pub each_left : Kind → List IdlValue → Option (List Field)
 each_left k vs = fields_each (values_of (values_view vs)) k
 
-first_element : (k : Kind) (vs more : List IdlValue) (v : IdlValue) → vs ≡ v ∷ more → each_left k vs ≡ both (fields_of (value_of v) k) (each_left k more)
+pub first_element : (k : Kind) (vs more : List IdlValue) (v : IdlValue) → vs ≡ v ∷ more → each_left k vs ≡ both (fields_of (value_of v) k) (each_left k more)
 first_element k vs more v is = rw is refl
 
 pub each_step : (k : Kind) (vs more : List IdlValue) (v : IdlValue) (here next start : Page) (all : Option (List Field)) → vs ≡ v ∷ more
@@ -72,7 +72,7 @@ each_done k vs here start all none so_far = done here start (each_left k vs) all
 abbrev pub members_left : List IdlValue → List Member → Option (List Field)
 members_left vs ms = fields_members (values_of (values_view vs)) (members_of (members_view ms))
 
-first_member : (vs behind : List IdlValue) (ms more : List Member) (v : IdlValue) (m : Member) → vs ≡ v ∷ behind → ms ≡ m ∷ more
+pub first_member : (vs behind : List IdlValue) (ms more : List Member) (v : IdlValue) (m : Member) → vs ≡ v ∷ behind → ms ≡ m ∷ more
     → members_left vs ms ≡ both (fields_of (value_of v) (kind_of m.kind)) (members_left behind more)
 first_member vs behind ms more v m is it = rw (is, it, member_kind m) refl
 

@@ -17,3 +17,4 @@ pub mod Decoded
 pub mod OneMember
 pub mod Wrote
 pub mod Endings
+pub mod Ending

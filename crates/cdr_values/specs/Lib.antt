@@ -12,4 +12,5 @@ pub mod Gives
 pub mod Numerals
 pub mod Numbers
 pub mod Writing
+pub mod Lengths
 pub mod Laws
