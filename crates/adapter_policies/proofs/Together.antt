@@ -3,6 +3,7 @@ use Rattle.std.proofs.Common.{◌≡◌, ◌≢◌, ◌<◌, ◌≤◌, ◌+◌,
 use Rattle.std.specs.List.{All, AllPairs, Any, list_any, position}
 use Rattle.std.specs.Option.{IfSome, IsSome}
 use Rattle.std.proofs.lemmas.Bool.Decides.{nat_tests}
+use Rattle.std.proofs.lemmas.List.{nil_from_length}
 use Rattle.std.proofs.lemmas.List.Elements.{All-cons, All-nil}
 use Rattle.std.proofs.lemmas.List.Folds.{Any-from_list_any, list_any_none}
 use Rattle.std.proofs.lemmas.Slice.Eq.{bytes_eq-Decides}
@@ -15,20 +16,22 @@ use Rattle.toml.specs.Data.{Members}
 use Rattle.config_tables.specs.Fault.{Fault, first_of}
 use Rattle.config_tables.specs.Keys.{same_text}
 use Rattle.config_tables.specs.declared.fault.ConfigCause.{ConfigCause}
-use Rattle.config_tables.specs.declared.fault.ConfigCause.TheVariants.{LaneOrder, NoThread, TooManyThreads, SlotLimit, BorrowWithoutLanes, BadMap, BandEmpty, BandOverlap, Duplicate, UnknownAdapter, PriorityNotAllowed, PriorityNotALane, NoNative, BandWithoutLane}
+use Rattle.config_tables.specs.declared.fault.ConfigCause.TheVariants.{LaneOrder, NoThread, TooManyThreads, SlotLimit, BorrowWithoutLanes, BadMap, BandEmpty, BandOverlap, Duplicate, UnknownAdapter, PriorityNotAllowed, PriorityNotALane, NoNative, BandWithoutLane, TransformNotAllowed}
 use Rattle.config_tables.proofs.RulesHold.{and_both, both_none}
-use Rattle.adapter_policies.specs.BandRelations.{bands_fault, bands_path, band_empty_fault, band_without_lane_fault, holds_lane, is_reversed, overlap_fault, share_one, without_lane}
+use Rattle.adapter_policies.specs.BandRelations.{band_empty_fault, band_without_lane_fault, ends_fault, holds_lane, is_reversed, is_row_reversed, outside_fault, overlap_fault, rows_share_one, share_one, shares_fault, without_lane}
 use Rattle.adapter_policies.specs.Configuration.{Configures, first_fault, levels_fault, links_fault, parts_fault, relations_fault}
 use Rattle.adapter_policies.specs.Document.{DocumentSaid, document_fault, document_of}
-use Rattle.adapter_policies.specs.Found.{entry_fault, entry_key_fault, fault_where, first_clash}
-use Rattle.adapter_policies.specs.Lawful.{BandsHold, HoldsTogether, IsServed, LevelsHold, MayHaveOwn, NamesHold, PartsHold, PoolHolds}
+use Rattle.adapter_policies.specs.Found.{adapter_key, adapters_fault, bands_path, entry_fault, entry_key_fault, fault_where, first_clash, inbound_path}
+use Rattle.adapter_policies.specs.Lawful.{BandsHold, HoldsTogether, IsServed, LevelsHold, MayHaveOwn, NamesHold, PartsHold, PoolHolds, TransformHolds}
 use Rattle.adapter_policies.specs.MapRelations.{has_native, is_lawful, map_fault, priority_map}
 use Rattle.adapter_policies.specs.NameRelations.{duplicate_fault, is_named, is_stray, is_too_many, not_allowed_fault, propagates, same_key, same_name, unknown_adapter_fault}
 use Rattle.adapter_policies.specs.PoolRelations.{borrowing_fault, is_idle, lane_order_fault, no_thread_fault, out_of_order, per_slot_of, pool_threads, slot_limit_fault, slots_of, thread_count_fault}
-use Rattle.adapter_policies.specs.PriorityRelations.{has_lane, no_native_fault, not_a_lane_fault, own_meets, pool_native_fault, unmet_fault}
+use Rattle.adapter_policies.specs.PriorityRelations.{has_lane, level_fault, no_native_fault, not_a_lane_fault, own_meets, pool_native_fault, unmet_fault}
 use Rattle.adapter_policies.specs.SetupData.{SetupData, adapter_made, object_made, span_of}
 use Rattle.adapter_policies.specs.Tables.{AdapterSaid, MapSaid, PoolSaid}
+use Rattle.adapter_policies.specs.TransformRelations.{has_idle_transform, has_rows, transform_not_allowed_fault}
 use Rattle.adapter_policies.specs.declared.band.BandTable.{BandTable}
+use Rattle.adapter_policies.specs.declared.inbound.InboundTable.{InboundTable}
 use Rattle.adapter_policies.specs.declared.lane.LaneTable.{LaneTable}
 use Rattle.adapter_policies.specs.declared.object.ObjectTable.{ObjectTable}
 use Rattle.adapter_policies.specs.declared.object_spec.ObjectSpec.{ObjectSpec}
@@ -104,12 +107,38 @@ parts_hold d none =
 
 -- ---- bands
 
-no_band : (cause : ConfigCause) (find : List BandTable → Option ℕ) (n : ℕ) (adapters : List AdapterSaid) → bands_fault cause find n adapters ≡ None
-    → All (λ a. find a.bands ≡ None) adapters
-no_band cause find n [] none = All-nil _
-no_band cause find n (a ∷ more) none =
-    let parts = both_none _ _ none in
-    All-cons (λ x. find x.bands ≡ None) a more (no_entry (bands_path n) cause (find a.bands) parts.0) (no_band cause find (n + 1) more parts.1)
+-- no adapter is at fault
+abbrev IsFine : (ℕ → AdapterSaid → Option Fault) → AdapterSaid → Type 0
+IsFine fault a = (n : ℕ) × (fault n a ≡ None)
+
+no_adapter : (fault : ℕ → AdapterSaid → Option Fault) (n : ℕ) (adapters : List AdapterSaid) → adapters_fault fault n adapters ≡ None → All (IsFine fault) adapters
+no_adapter fault n [] none = All-nil _
+no_adapter fault n (a ∷ more) none =
+    let parts = both_none (fault n a) (adapters_fault fault (n + 1) more) none in
+    All-cons (IsFine fault) a more (n, parts.0) (no_adapter fault (n + 1) more parts.1)
+
+-- an adapter has no band and no row whose ends are reversed
+ends_none : (n : ℕ) (a : AdapterSaid) → ends_fault n a ≡ None → (position is_reversed a.bands ≡ None) × (position is_row_reversed a.inbound ≡ None)
+unfolding ends_fault
+ends_none n a none =
+    let band : Option ℕ = position is_reversed a.bands in
+    let row : Option ℕ = position is_row_reversed a.inbound in
+    let parts = both_none (entry_fault (bands_path n) BandEmpty band) (entry_fault (inbound_path n) BandEmpty row) none in
+    (no_entry (bands_path n) BandEmpty band parts.0, no_entry (inbound_path n) BandEmpty row parts.1)
+
+-- an adapter has no band and no row that shares a priority with an earlier one
+shares_none : (n : ℕ) (a : AdapterSaid) → shares_fault n a ≡ None → (first_clash share_one [] 0 a.bands ≡ None) × (first_clash rows_share_one [] 0 a.inbound ≡ None)
+unfolding shares_fault
+shares_none n a none =
+    let band : Option ℕ = first_clash share_one [] 0 a.bands in
+    let row : Option ℕ = first_clash rows_share_one [] 0 a.inbound in
+    let parts = both_none (entry_fault (bands_path n) BandOverlap band) (entry_fault (inbound_path n) BandOverlap row) none in
+    (no_entry (bands_path n) BandOverlap band parts.0, no_entry (inbound_path n) BandOverlap row parts.1)
+
+-- an adapter has no band outside the lanes
+outside_none : (pool : PoolSaid) (n : ℕ) (a : AdapterSaid) → outside_fault pool n a ≡ None → without_lane pool a.bands ≡ None
+unfolding outside_fault
+outside_none pool n a none = no_entry (bands_path n) BandWithoutLane (without_lane pool a.bands) none
 
 holds_of : (pool : PoolSaid) (b : BandTable) → not (holds_lane pool b) ≡ false → Any (λ l. (b.low ≤ l.priority) × (l.priority ≤ b.high)) pool.lanes
 holds_of pool b h = any_as pool.lanes (λ l both. ends l.priority (and_both _ _ both)) (Any-from_list_any _ pool.lanes (not_false _ h))
@@ -190,26 +219,50 @@ own_served : (m : PriorityMap) (pool : PoolSaid) (p : Option ℕ) → own_meets 
 own_served m pool None lane native = tt
 own_served m pool (Some p) lane native = served m pool p lane native
 
+-- the priority of an adapter, and those that the rows of its transform give, meet a test
+record LevelsMeet (test : ℕ → Bool) (a : AdapterSaid) : Type 0 where
+  own : test a.priority ≡ true
+  rows : All (λ row. test row.to ≡ true) a.inbound
+
+levels_meet : (cause : ConfigCause) (test : ℕ → Bool) (n : ℕ) (a : AdapterSaid) → level_fault cause test n a ≡ None → LevelsMeet test a
+unfolding level_fault
+levels_meet cause test n a none =
+    let found : Option ℕ = position (λ row. not (test row.to)) a.inbound in
+    let path : List ℕ = adapter_key n (codes "priority") in
+    let each = both_none (fault_where (not (test a.priority)) path cause) (entry_key_fault (inbound_path n) (codes "to") cause found) none in
+    let of_rows = none_at (λ row. not (test row.to)) a.inbound (no_key (inbound_path n) (codes "to") cause found each.1) in
+    record {
+      own = not_false (test a.priority) (nowhere (not (test a.priority)) path cause each.0);
+      rows = λ k d h. not_false (test (get_or a.inbound k d).to) (of_rows k d h);
+    }
+
 record Met (test : ℕ → Bool) (adapters : List AdapterSaid) (objects : List ObjectTable) : Type 0 where
-  adapters_meet : All (λ a. test a.priority ≡ true) adapters
+  adapters_meet : All (LevelsMeet test) adapters
   objects_meet : All (λ o. own_meets test o.priority ≡ true) objects
 
 met : (cause : ConfigCause) (test : ℕ → Bool) (adapters : List AdapterSaid) (objects : List ObjectTable) → unmet_fault cause test adapters objects ≡ None → Met test adapters objects
 met cause test adapters objects none =
-    let first : Option ℕ = position (λ a. not (test a.priority)) adapters in
     let second : Option ℕ = position (λ o. not (own_meets test o.priority)) objects in
-    let each = both_none (entry_key_fault (codes "adapter") (codes "priority") cause first) (entry_key_fault (codes "object") (codes "priority") cause second) none in
-    let of_adapters = none_at (λ a. not (test a.priority)) adapters (no_key (codes "adapter") (codes "priority") cause first each.0) in
+    let each = both_none (adapters_fault (level_fault cause test) 0 adapters) (entry_key_fault (codes "object") (codes "priority") cause second) none in
+    let of_adapters = no_adapter (level_fault cause test) 0 adapters each.0 in
     let of_objects = none_at (λ o. not (own_meets test o.priority)) objects (no_key (codes "object") (codes "priority") cause second each.1) in
     record {
-      adapters_meet = λ k d h. not_false (test (get_or adapters k d).priority) (of_adapters k d h);
+      adapters_meet = λ k d h. levels_meet cause test (of_adapters k d h).0 (get_or adapters k d) (of_adapters k d h).1;
       objects_meet = λ k d h. not_false (own_meets test (get_or objects k d).priority) (of_objects k d h);
     }
+
+rows_served : (m : PriorityMap) (pool : PoolSaid) (a : AdapterSaid) → LevelsMeet (has_lane pool) a → LevelsMeet (has_native m) a → All (λ row. IsServed m pool row.to) a.inbound
+rows_served m pool a lane native = λ k d h. served m pool (get_or a.inbound k d).to (lane.rows k d h) (native.rows k d h)
 
 whole_native : (m : PriorityMap) (pool : PoolSaid) → (not pool.laned && not (has_native m pool.priority)) ≡ false → pool.laned ≡ false → IsSome (to_native m pool.priority)
 whole_native m pool h whole = not_false (has_native m pool.priority) (rw whole at h)
 
-levels_hold : (d : DocumentSaid) → not_a_lane_fault d.pool d.adapters d.objects ≡ None → no_native_fault (priority_map d.mapping) d.pool d.adapters d.objects ≡ None → LevelsHold d
+-- the levels hold, and the priorities that rows give are served
+record LevelsAndRows (d : DocumentSaid) : Type 0 where
+  levels : LevelsHold d
+  rows : All (λ a. All (λ row. IsServed (priority_map d.mapping) d.pool row.to) a.inbound) d.adapters
+
+levels_hold : (d : DocumentSaid) → not_a_lane_fault d.pool d.adapters d.objects ≡ None → no_native_fault (priority_map d.mapping) d.pool d.adapters d.objects ≡ None → LevelsAndRows d
 unfolding not_a_lane_fault no_native_fault pool_native_fault
 levels_hold d lane native =
     let m : PriorityMap = priority_map d.mapping in
@@ -223,11 +276,32 @@ levels_hold d lane native =
     let mapped = met NoNative (has_native m) d.adapters d.objects pool.1 in
     let of_lanes = none_at (λ l. not (has_native m l.priority)) d.pool.lanes (no_key (codes "pool.lanes") (codes "priority") NoNative missing natives.0) in
     record {
-      lanes = λ k x h. not_false (has_native m (get_or d.pool.lanes k x).priority) (of_lanes k x h);
-      whole = whole_native m d.pool (nowhere whole (codes "pool.default_priority") NoNative natives.1);
-      adapters = λ k x h. served m d.pool (get_or d.adapters k x).priority (in_lanes.adapters_meet k x h) (mapped.adapters_meet k x h);
-      objects = λ k x h. own_served m d.pool (get_or d.objects k x).priority (in_lanes.objects_meet k x h) (mapped.objects_meet k x h);
+      levels = record {
+        lanes = λ k x h. not_false (has_native m (get_or d.pool.lanes k x).priority) (of_lanes k x h);
+        whole = whole_native m d.pool (nowhere whole (codes "pool.default_priority") NoNative natives.1);
+        adapters = λ k x h. served m d.pool (get_or d.adapters k x).priority (in_lanes.adapters_meet k x h).own (mapped.adapters_meet k x h).own;
+        objects = λ k x h. own_served m d.pool (get_or d.objects k x).priority (in_lanes.objects_meet k x h) (mapped.objects_meet k x h);
+      };
+      rows = λ k x h. rows_served m d.pool (get_or d.adapters k x) (in_lanes.adapters_meet k x h) (mapped.adapters_meet k x h);
     }
+
+-- ---- transforms
+
+same_number : (a b : ℕ) → (a == b) ≡ true → a ≡ b
+same_number a b h = grind (arith, nat_tests)
+
+may_have : (model : PriorityModel) (rows : List InboundTable) → (not (propagates model) && has_rows rows) ≡ false → rows ≢ [] → model ≡ ClientPropagated
+may_have ClientPropagated rows h some = refl
+may_have ServerDeclared rows h some = absurd (some (nil_from_length rows (same_number (length rows) 0 (not_false (length rows == 0) h))))
+
+transform_holds : (m : PriorityMap) (pool : PoolSaid) (a : AdapterSaid) → has_idle_transform a ≡ false → position is_row_reversed a.inbound ≡ None
+    → first_clash rows_share_one [] 0 a.inbound ≡ None → All (λ row. IsServed m pool row.to) a.inbound → TransformHolds m pool a
+transform_holds m pool a idle empty overlap served = record {
+  allowed = may_have a.model a.inbound idle;
+  ordered = λ k d h. at_most (get_or a.inbound k d).high (get_or a.inbound k d).low (none_at is_row_reversed a.inbound empty k d h);
+  apart = none_clash rows_share_one a.inbound overlap;
+  served = served;
+}
 
 -- ---- all together
 
@@ -235,7 +309,8 @@ levels_hold d lane native =
 pub holds_together : (d : DocumentSaid) → relations_fault d ≡ None → HoldsTogether d
 unfolding relations_fault links_fault levels_fault
 holds_together d none =
-    let at_bands : Option Fault = band_without_lane_fault d.pool d.adapters in
+    let at_transforms : Option Fault = transform_not_allowed_fault d.adapters in
+    let at_bands : Option Fault = first_of (band_without_lane_fault d.pool d.adapters) at_transforms in
     let at_natives : Option Fault = first_of (no_native_fault (priority_map d.mapping) d.pool d.adapters d.objects) at_bands in
     let at_levels : Option Fault = first_of (not_a_lane_fault d.pool d.adapters d.objects) at_natives in
     let at_own : Option Fault = first_of (not_allowed_fault d.adapters d.objects) at_levels in
@@ -250,14 +325,20 @@ holds_together d none =
     let own = both_none (not_allowed_fault d.adapters d.objects) at_levels unknown.1 in
     let lane = both_none (not_a_lane_fault d.pool d.adapters d.objects) at_natives own.1 in
     let native = both_none (no_native_fault (priority_map d.mapping) d.pool d.adapters d.objects) at_bands lane.1 in
-    let empty = no_band BandEmpty (position is_reversed) 0 d.adapters ends.0 in
-    let overlap = no_band BandOverlap (first_clash share_one [] 0) 0 d.adapters overlaps.0 in
-    let within = no_band BandWithoutLane (without_lane d.pool) 0 d.adapters native.1 in
+    let last = both_none (band_without_lane_fault d.pool d.adapters) at_transforms native.1 in
+    let empty = no_adapter ends_fault 0 d.adapters ends.0 in
+    let overlap = no_adapter shares_fault 0 d.adapters overlaps.0 in
+    let within = no_adapter (outside_fault d.pool) 0 d.adapters last.0 in
+    let idle = none_at has_idle_transform d.adapters (no_key (codes "adapter") (codes "inbound") TransformNotAllowed (position has_idle_transform d.adapters) last.1) in
+    let levels = levels_hold d lane.0 native.0 in
     record {
       parts = parts_hold d a.0;
-      bands = λ k x h. bands_hold d.pool (get_or d.adapters k x).bands (empty k x h) (overlap k x h) (within k x h);
+      bands = λ k x h. bands_hold d.pool (get_or d.adapters k x).bands (ends_none (empty k x h).0 (get_or d.adapters k x) (empty k x h).1).0
+          (shares_none (overlap k x h).0 (get_or d.adapters k x) (overlap k x h).1).0 (outside_none d.pool (within k x h).0 (get_or d.adapters k x) (within k x h).1);
       names = names_hold d.adapters d.objects twice.0 unknown.0 own.0;
-      levels = levels_hold d lane.0 native.0;
+      levels = levels.levels;
+      transforms = λ k x h. transform_holds (priority_map d.mapping) d.pool (get_or d.adapters k x) (idle k x h)
+          (ends_none (empty k x h).0 (get_or d.adapters k x) (empty k x h).1).1 (shares_none (overlap k x h).0 (get_or d.adapters k x) (overlap k x h).1).1 (levels.rows k x h);
     }
 
 -- the same of a whole document

@@ -21,9 +21,9 @@ built_in_pool = record {
   run_bytes = MAX_RUN_BYTES;
 }
 
--- the adapter `main`, at priority 100
+-- the adapter `main`, at priority 100, without bands and without a transform
 abbrev pub built_in_adapter : AdapterData
-built_in_adapter = record { name = codes "main"; model = ClientPropagated; priority = 100; bands = [] }
+built_in_adapter = record { name = codes "main"; model = ClientPropagated; priority = 100; bands = []; inbound = [] }
 
 -- the object `ping`
 abbrev pub built_in_object : ObjectSpec

@@ -9,6 +9,7 @@ use Rattle.adapter_policies.specs.NameRelations.{duplicate_fault, unknown_adapte
 use Rattle.adapter_policies.specs.PoolRelations.{lane_order_fault, no_thread_fault, thread_count_fault, slot_limit_fault, borrowing_fault}
 use Rattle.adapter_policies.specs.PriorityRelations.{not_a_lane_fault, no_native_fault}
 use Rattle.adapter_policies.specs.SetupData.{SetupData, setup_of}
+use Rattle.adapter_policies.specs.TransformRelations.{transform_not_allowed_fault}
 
 -- the first relation within the pool, the server or the map that fails, in the order of the causes
 unfoldable pub parts_fault : DocumentSaid → Option Fault
@@ -16,11 +17,12 @@ parts_fault d =
     first_of (lane_order_fault d.pool) (first_of (no_thread_fault d.pool) (first_of (thread_count_fault d.pool)
     (first_of (slot_limit_fault d.server) (first_of (borrowing_fault d.pool) (map_fault d.mapping)))))
 
--- the first relation between priorities, lanes and the map that fails, in the order of the causes
+-- the first relation between priorities, lanes, the map and transforms that fails, in the order of the causes
 unfoldable pub levels_fault : DocumentSaid → Option Fault
 levels_fault d =
     first_of (not_a_lane_fault d.pool d.adapters d.objects)
-    (first_of (no_native_fault (priority_map d.mapping) d.pool d.adapters d.objects) (band_without_lane_fault d.pool d.adapters))
+    (first_of (no_native_fault (priority_map d.mapping) d.pool d.adapters d.objects)
+    (first_of (band_without_lane_fault d.pool d.adapters) (transform_not_allowed_fault d.adapters)))
 
 -- the first relation between adapters and objects, and then between priorities, that fails
 unfoldable pub links_fault : DocumentSaid → Option Fault

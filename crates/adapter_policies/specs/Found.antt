@@ -1,9 +1,10 @@
 -- Faults at the places where a relation of a configuration fails.
-use Rattle.std.specs.Prelude.{ℕ, ◌+◌, ◌++◌, Bool, true, false, List, [], ◌∷◌, Option, Some, None, option_map, if◌then◌else◌}
+use Rattle.std.specs.Prelude.{ℕ, ◌+◌, ◌++◌, Bool, true, false, List, [], ◌∷◌, Option, Some, None, option_map, codes, if◌then◌else◌}
 use Rattle.std.specs.List.{list_any}
-use Rattle.config_tables.specs.Fault.{Fault, at_path}
+use Rattle.config_tables.specs.Fault.{Fault, at_path, first_of}
 use Rattle.config_tables.specs.Path.{key_path, entry_path}
 use Rattle.config_tables.specs.declared.fault.ConfigCause.{ConfigCause}
+use Rattle.adapter_policies.specs.Tables.{AdapterSaid}
 
 -- a fault at a path where something holds
 abbrev pub fault_where : Bool → List ℕ → ConfigCause → Option Fault
@@ -23,3 +24,20 @@ abbrev pub first_clash : {A : Type 0} → (A → A → Bool) → List A → ℕ 
 first_clash clash earlier n [] = None
 first_clash clash earlier n (x ∷ xs) =
     if list_any (λ e. clash e x) earlier then Some n else first_clash clash (earlier ++ x ∷ []) (n + 1) xs
+
+-- the path of a key of the adapter of a number
+abbrev pub adapter_key : ℕ → List ℕ → List ℕ
+adapter_key n key = key_path (entry_path (codes "adapter") n) key
+
+-- the path of the bands of the adapter of a number
+abbrev pub bands_path : ℕ → List ℕ
+bands_path n = adapter_key n (codes "bands")
+
+-- the path of the rows of the transform of the adapter of a number
+abbrev pub inbound_path : ℕ → List ℕ
+inbound_path n = adapter_key n (codes "inbound")
+
+-- the first fault of adapters, adapter by adapter, where `fault` judges the one of a number
+abbrev pub adapters_fault : (ℕ → AdapterSaid → Option Fault) → ℕ → List AdapterSaid → Option Fault
+adapters_fault fault n [] = None
+adapters_fault fault n (a ∷ more) = first_of (fault n a) (adapters_fault fault (n + 1) more)

@@ -1,9 +1,9 @@
 -- What holds of a configuration without a fault, as a reader would say it: own profile.
-use Rattle.std.specs.Prelude.{◌≡◌, ◌≢◌, ◌<◌, ◌≤◌, ◌+◌, ◌*◌, ℕ, true, false, List, map, All, AllPairs, Any, IsSome, IfSome}
+use Rattle.std.specs.Prelude.{◌≡◌, ◌≢◌, ◌<◌, ◌≤◌, ◌+◌, ◌*◌, ℕ, true, false, List, [], map, All, AllPairs, Any, IsSome, IfSome}
 use Rattle.std.specs.List.Sorted.{IsStrictlyIncreasing}
-use Rattle.orb_base.specs.declared.priority_model.PriorityModel.TheVariants.{ServerDeclared}
+use Rattle.orb_base.specs.declared.priority_model.PriorityModel.TheVariants.{ClientPropagated, ServerDeclared}
 use Rattle.priority_maps.specs.Maps.{PriorityMap, to_native}
-use Rattle.adapter_policies.specs.BandRelations.{share_one}
+use Rattle.adapter_policies.specs.BandRelations.{rows_share_one, share_one}
 use Rattle.adapter_policies.specs.Document.{DocumentSaid}
 use Rattle.adapter_policies.specs.MapRelations.{is_lawful, priority_map}
 use Rattle.adapter_policies.specs.PoolRelations.{pool_threads, per_slot_of, slots_of}
@@ -54,9 +54,18 @@ pub record LevelsHold (d : DocumentSaid) : Type 0 where
   pub adapters : All (λ a. IsServed (priority_map d.mapping) d.pool a.priority) d.adapters
   pub objects : All (λ o. IfSome o.priority (IsServed (priority_map d.mapping) d.pool)) d.objects
 
+-- the transform of an adapter: it is there only where clients' priorities count, no low end of a row is above its high one, no two
+-- rows share a priority, and the priority that a row gives has a native one, and with lanes is that of a lane
+pub record TransformHolds (m : PriorityMap) (pool : PoolSaid) (a : AdapterSaid) : Type 0 where
+  pub allowed : a.inbound ≢ [] → a.model ≡ ClientPropagated
+  pub ordered : All (λ row. row.low ≤ row.high) a.inbound
+  pub apart : AllPairs (λ x y. rows_share_one x y ≡ false) a.inbound
+  pub served : All (λ row. IsServed m pool row.to) a.inbound
+
 -- everything that has to hold between the tables of a configuration
 pub record HoldsTogether (d : DocumentSaid) : Type 0 where
   pub parts : PartsHold d
   pub bands : All (λ a. BandsHold d.pool a.bands) d.adapters
   pub names : NamesHold d.adapters d.objects
   pub levels : LevelsHold d
+  pub transforms : All (TransformHolds (priority_map d.mapping) d.pool) d.adapters

@@ -7,6 +7,7 @@ pub mod MapRelations
 pub mod NameRelations
 pub mod BandRelations
 pub mod PriorityRelations
+pub mod TransformRelations
 pub mod SetupData
 pub mod BuiltIn
 pub mod Index

@@ -18,7 +18,7 @@ priority = number 0 32767
 abbrev pub threads : Scalar
 threads = number 0 64
 
--- a row of a map, a lane of the pool, a band of an adapter
+-- a row of a map
 abbrev pub row_rules : List (Rule Scalar)
 row_rules = key_of (codes "low") due priority ∷ key_of (codes "high") due priority ∷ key_of (codes "native") due native ∷ []
 
@@ -29,6 +29,10 @@ lane_rules = key_of (codes "priority") due priority ∷ key_of (codes "static") 
 -- a band
 abbrev pub band_rules : List (Rule Scalar)
 band_rules = key_of (codes "low") due priority ∷ key_of (codes "high") due priority ∷ []
+
+-- a row of a transform
+abbrev pub inbound_rules : List (Rule Scalar)
+inbound_rules = key_of (codes "low") due priority ∷ key_of (codes "high") due priority ∷ key_of (codes "to") due priority ∷ []
 
 -- the document's own keys
 abbrev pub top_rules : List (Rule Kind)
@@ -98,6 +102,7 @@ adapter_rules =
     ∷ key_of (codes "model") due (one (word (codes "CLIENT_PROPAGATED" ∷ codes "SERVER_DECLARED" ∷ [])))
     ∷ key_of (codes "priority") due (one priority)
     ∷ key_of (codes "bands") free (entries 1 16 band_rules)
+    ∷ key_of (codes "inbound") free (entries 1 32 inbound_rules)
     ∷ []
 
 -- the keys of an object

@@ -6,12 +6,14 @@ use Rattle.orb_base.specs.Span.{Span}
 use Rattle.orb_base.specs.declared.lane_spec.LaneSpec.{LaneSpec}
 use Rattle.orb_base.specs.declared.priority_model.PriorityModel.{PriorityModel}
 use Rattle.priority_maps.specs.Maps.{PriorityMap}
+use Rattle.priority_models.specs.declared.transform.TransformRow.{TransformRow}
 use Rattle.adapter_policies.specs.Document.{DocumentSaid}
 use Rattle.adapter_policies.specs.MapRelations.{priority_map}
 use Rattle.adapter_policies.specs.NameRelations.{is_named}
 use Rattle.adapter_policies.specs.PoolRelations.{slots_of, per_slot_of}
 use Rattle.adapter_policies.specs.Tables.{PoolSaid, AdapterSaid}
 use Rattle.adapter_policies.specs.declared.band.BandTable.{BandTable}
+use Rattle.adapter_policies.specs.declared.inbound.InboundTable.{InboundTable}
 use Rattle.adapter_policies.specs.declared.lane.LaneTable.{LaneTable}
 use Rattle.adapter_policies.specs.declared.object.ObjectTable.{ObjectTable}
 use Rattle.adapter_policies.specs.declared.object_spec.ObjectSpec.{ObjectSpec}
@@ -23,6 +25,7 @@ pub record AdapterData : Type 0 where
   pub model : PriorityModel
   pub priority : ℕ
   pub bands : List Span
+  pub inbound : List TransformRow
 
 -- a setup
 pub record SetupData : Type 0 where
@@ -72,9 +75,19 @@ pool_made pool server = record {
 abbrev pub span_of : BandTable → Span
 span_of band = record { low = band.low; high = band.high }
 
+-- a row of a transform
+abbrev pub transform_row_of : InboundTable → TransformRow
+transform_row_of row = record { band = record { low = row.low; high = row.high }; to = row.to }
+
 -- an adapter as the setup has it
 abbrev pub adapter_made : AdapterSaid → AdapterData
-adapter_made a = record { name = a.name; model = a.model; priority = a.priority; bands = map span_of a.bands }
+adapter_made a = record {
+  name = a.name;
+  model = a.model;
+  priority = a.priority;
+  bands = map span_of a.bands;
+  inbound = map transform_row_of a.inbound;
+}
 
 -- the number of the adapter of a name, which is there
 abbrev pub adapter_number : List AdapterSaid → List ℕ → ℕ

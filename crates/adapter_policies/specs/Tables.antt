@@ -9,6 +9,7 @@ use Rattle.config_tables.specs.Rules.{says}
 use Rattle.config_tables.specs.Standing.{holds}
 use Rattle.config_tables.specs.Values.{tables_at}
 use Rattle.adapter_policies.specs.declared.band.BandTable.{BandTable}
+use Rattle.adapter_policies.specs.declared.inbound.InboundTable.{InboundTable}
 use Rattle.adapter_policies.specs.declared.lane.LaneTable.{LaneTable}
 use Rattle.adapter_policies.specs.declared.row.RowTable.{RowTable}
 use Rattle.adapter_policies.specs.declared.server.ServerTable.{ServerTable}
@@ -90,6 +91,10 @@ server_of ms = record {
 abbrev pub band_of : Members → BandTable
 band_of ms = record { low = number_at (codes "low") ms; high = number_at (codes "high") ms }
 
+-- a row of an adapter's transform, whose ends may be reversed
+abbrev pub inbound_of : Members → InboundTable
+inbound_of ms = record { low = number_at (codes "low") ms; high = number_at (codes "high") ms; to = number_at (codes "to") ms }
+
 -- the model of a word: there are two words
 abbrev pub model_named : List ℕ → PriorityModel
 model_named w = if same_text w (codes "CLIENT_PROPAGATED") then ClientPropagated else ServerDeclared
@@ -100,6 +105,7 @@ pub record AdapterSaid : Type 0 where
   pub model : PriorityModel
   pub priority : ℕ
   pub bands : List BandTable
+  pub inbound : List InboundTable
 
 -- what the table of an adapter says
 abbrev pub adapter_of : Members → AdapterSaid
@@ -108,4 +114,5 @@ adapter_of ms = record {
   model = model_named (text_at (codes "model") ms);
   priority = number_at (codes "priority") ms;
   bands = map band_of (tables_at (get_member (codes "bands") ms));
+  inbound = map inbound_of (tables_at (get_member (codes "inbound") ms));
 }

@@ -1,39 +1,60 @@
-//! What holds of the bands of adapters.
-ghost use Rattle.std.specs.Prelude.{◌≡◌, [], IfOk, not, position, string_bytes};
+//! What holds of the bands of adapters, and of the rows of their transforms.
+ghost use Rattle.std.specs.Prelude.{◌≡◌, [], not, position};
 ghost use Rattle.config_tables.specs.Fault.{Judged};
-ghost use Rattle.adapter_policies.specs.BandRelations.{bands_path, band_empty_fault, overlap_fault, band_without_lane_fault, is_reversed, share_one, holds_lane, without_lane};
-ghost use Rattle.adapter_policies.specs.Found.{entry_fault, first_clash};
+ghost use Rattle.adapter_policies.specs.BandRelations.{band_empty_fault, overlap_fault, band_without_lane_fault, ends_fault, shares_fault, outside_fault, is_reversed, is_row_reversed, rows_share_one, share_one, holds_lane, without_lane};
+ghost use Rattle.adapter_policies.specs.Found.{first_clash};
 
 use crate::adapter::AdapterTable;
 use crate::band::BandTable;
 use crate::clashes::first_clash;
+use crate::inbound::InboundTable;
 use crate::pool::PoolTable;
-use crate::refusals::refuse_entry;
-use config_tables::{ConfigCause, SetupError, entry_path, key_path};
-use std::alloc::{AllocError, Global};
+use crate::refusals::{refuse_band, refuse_row};
+use config_tables::{ConfigCause, SetupError};
+use std::alloc::Global;
 
-/// Judges that no band's low end is above its high one.
+/// Judges that no low end of a band or of a row is above its high one.
 #[tactic(auto, using(config_tables::proofs::Judging::refuses_first, config_tables::proofs::Judging::refuses_later))]
 pub fn judge_ends(alloc: Global, adapters: &[AdapterTable]) -> Result<(), SetupError>
     ensures { Judged result (band_empty_fault adapters.now) }
 {
     for (n, adapter) in adapters.iter().enumerate() {
-        let found = first_reversed(adapter);
-        refuse_band(alloc, n, ConfigCause::BandEmpty, found)?;
+        judge_adapter_ends(alloc, n, adapter)?;
     }
     Ok(())
 }
 
-/// Judges that no two bands of an adapter share a priority.
+/// Judges the ends of an adapter's bands, and then of the rows of its transform.
+#[tactic(auto, unfolding(crate::specs::BandRelations::ends_fault), using(config_tables::proofs::Judging::refuses_first, config_tables::proofs::Judging::refuses_later))]
+fn judge_adapter_ends(alloc: Global, n: usize, adapter: &AdapterTable) -> Result<(), SetupError>
+    ensures { Judged result (ends_fault n adapter.now) }
+{
+    let band = first_reversed(adapter.bands.as_slice());
+    refuse_band(alloc, n, ConfigCause::BandEmpty, band)?;
+    let row = first_row_reversed(adapter.inbound.as_slice());
+    refuse_row(alloc, n, ConfigCause::BandEmpty, row)
+}
+
+/// Judges that no two bands of an adapter share a priority, and no two rows of its transform do.
 #[tactic(auto, using(config_tables::proofs::Judging::refuses_first, config_tables::proofs::Judging::refuses_later))]
 pub fn judge_overlaps(alloc: Global, adapters: &[AdapterTable]) -> Result<(), SetupError>
     ensures { Judged result (overlap_fault adapters.now) }
 {
     for (n, adapter) in adapters.iter().enumerate() {
-        let found = first_overlap(adapter);
-        refuse_band(alloc, n, ConfigCause::BandOverlap, found)?;
+        judge_adapter_overlaps(alloc, n, adapter)?;
     }
     Ok(())
+}
+
+/// Judges that no two of an adapter's bands share a priority, and then that no two rows of its transform do.
+#[tactic(auto, unfolding(crate::specs::BandRelations::shares_fault), using(config_tables::proofs::Judging::refuses_first, config_tables::proofs::Judging::refuses_later))]
+fn judge_adapter_overlaps(alloc: Global, n: usize, adapter: &AdapterTable) -> Result<(), SetupError>
+    ensures { Judged result (shares_fault n adapter.now) }
+{
+    let band = first_overlap(adapter.bands.as_slice());
+    refuse_band(alloc, n, ConfigCause::BandOverlap, band)?;
+    let row = first_row_overlap(adapter.inbound.as_slice());
+    refuse_row(alloc, n, ConfigCause::BandOverlap, row)
 }
 
 /// Judges that each band holds the priority of a lane, if there are lanes.
@@ -46,34 +67,61 @@ pub fn judge_lanes(
     ensures { Judged result (band_without_lane_fault pool.now adapters.now) }
 {
     for (n, adapter) in adapters.iter().enumerate() {
-        let found = first_without_lane(pool, adapter);
-        refuse_band(alloc, n, ConfigCause::BandWithoutLane, found)?;
+        judge_adapter_lanes(alloc, pool, n, adapter)?;
     }
     Ok(())
 }
 
-/// The number of the first band of an adapter whose low end is above its high one.
-fn first_reversed(adapter: &AdapterTable) -> Option<usize>
-    ensures { result ≡ position is_reversed adapter.now.bands }
+/// Judges that each of an adapter's bands holds the priority of a lane, if there are lanes.
+#[tactic(auto, unfolding(crate::specs::BandRelations::outside_fault))]
+fn judge_adapter_lanes(
+    alloc: Global,
+    pool: &PoolTable,
+    n: usize,
+    adapter: &AdapterTable,
+) -> Result<(), SetupError>
+    ensures { Judged result (outside_fault pool.now n adapter.now) }
 {
-    adapter.bands.iter().position(|band| band.high < band.low)
+    let found = first_without_lane(pool, adapter.bands.as_slice());
+    refuse_band(alloc, n, ConfigCause::BandWithoutLane, found)
 }
 
-/// The number of the first band of an adapter that shares a priority with an earlier one.
-fn first_overlap(adapter: &AdapterTable) -> Option<usize>
-    ensures { result ≡ first_clash share_one [] 0 adapter.now.bands }
+/// The number of the first band whose low end is above its high one.
+fn first_reversed(bands: &[BandTable]) -> Option<usize>
+    ensures { result ≡ position is_reversed bands.now }
 {
-    first_clash(adapter.bands.as_slice())
+    bands.iter().position(|band| band.high < band.low)
 }
 
-/// The number of the first band of an adapter that holds no lane's priority; none where there are no lanes.
-fn first_without_lane(pool: &PoolTable, adapter: &AdapterTable) -> Option<usize>
-    ensures { result ≡ without_lane pool.now adapter.now.bands }
+/// The number of the first row whose low end is above its high one.
+fn first_row_reversed(rows: &[InboundTable]) -> Option<usize>
+    ensures { result ≡ position is_row_reversed rows.now }
+{
+    rows.iter().position(|row| row.high < row.low)
+}
+
+/// The number of the first band that shares a priority with an earlier one.
+fn first_overlap(bands: &[BandTable]) -> Option<usize>
+    ensures { result ≡ first_clash share_one [] 0 bands.now }
+{
+    first_clash(bands)
+}
+
+/// The number of the first row that shares a priority with an earlier one.
+fn first_row_overlap(rows: &[InboundTable]) -> Option<usize>
+    ensures { result ≡ first_clash rows_share_one [] 0 rows.now }
+{
+    first_clash(rows)
+}
+
+/// The number of the first band that holds no lane's priority; none where there are no lanes.
+fn first_without_lane(pool: &PoolTable, bands: &[BandTable]) -> Option<usize>
+    ensures { result ≡ without_lane pool.now bands.now }
 {
     if !pool.laned {
         return None;
     }
-    first_outside(pool, adapter.bands.as_slice())
+    first_outside(pool, bands)
 }
 
 /// The number of the first band that holds no lane's priority.
@@ -88,30 +136,4 @@ fn holds_lane(pool: &PoolTable, band: BandTable) -> bool
     ensures { result ≡ holds_lane pool.now band }
 {
     pool.lanes.iter().any(|lane| band.low <= lane.priority && lane.priority <= band.high)
-}
-
-/// Refuses the band of a number, where there is one, of the adapter of a number.
-fn refuse_band(
-    alloc: Global,
-    n: usize,
-    cause: ConfigCause,
-    found: Option<usize>,
-) -> Result<(), SetupError>
-    ensures { Judged result (entry_fault (bands_path n) cause found) }
-{
-    if found.is_none() {
-        return Ok(());
-    }
-    match bands_path(alloc, n) {
-        Ok(path) => refuse_entry(alloc, path.as_str(), cause, found),
-        Err(_) => Err(SetupError::NoMemory),
-    }
-}
-
-/// The path of the bands of the adapter of a number.
-fn bands_path(alloc: Global, n: usize) -> Result<String, AllocError>
-    ensures { IfOk result (λ s. string_bytes s ≡ bands_path n) }
-{
-    let entry = entry_path(alloc, "adapter", n)?;
-    key_path(alloc, entry.as_str(), "bands")
 }

@@ -6,6 +6,7 @@ use crate::adapter_spec::AdapterSpec;
 use crate::object_spec::ObjectSpec;
 use orb_base::limits::{MAX_RUN_BYTES, MAX_RUN_CALLS};
 use orb_base::{LaneSpec, List, NoMemory, PoolSpec, Priority, PriorityModel, Text};
+use priority_models::Transform;
 use std::alloc::Global;
 
 /// The priority of the pool, the adapter and the object.
@@ -53,6 +54,7 @@ pub fn adapter(alloc: Global) -> Result<AdapterSpec, NoMemory>
         model: PriorityModel::ClientPropagated,
         priority: priority(),
         bands: List::new(alloc),
+        inbound: Transform::none(alloc),
     })
 }
 

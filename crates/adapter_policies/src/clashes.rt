@@ -1,12 +1,13 @@
 //! Things that clash with earlier ones of their list.
 ghost use Rattle.std.specs.Prelude.{◌≡◌, Bool, []};
 ghost use Rattle.std.specs.List.{list_any};
-ghost use Rattle.adapter_policies.specs.BandRelations.{share_one};
+ghost use Rattle.adapter_policies.specs.BandRelations.{rows_share_one, share_one};
 ghost use Rattle.adapter_policies.specs.Found.{first_clash};
 ghost use Rattle.adapter_policies.specs.NameRelations.{same_name, same_key};
 
 use crate::adapter::AdapterTable;
 use crate::band::BandTable;
+use crate::inbound::InboundTable;
 use crate::object::ObjectTable;
 
 /// What may clash with another of its kind.
@@ -41,6 +42,15 @@ impl Clashing for BandTable {
     ghost clash = { share_one };
 
     fn clashes(&self, other: &BandTable) -> bool {
+        self.low <= other.high && other.low <= self.high
+    }
+}
+
+/// Rows of a transform clash where their bands share a priority.
+impl Clashing for InboundTable {
+    ghost clash = { rows_share_one };
+
+    fn clashes(&self, other: &InboundTable) -> bool {
         self.low <= other.high && other.low <= self.high
     }
 }

@@ -11,6 +11,7 @@ mod band_relations;
 mod built_in;
 mod clashes;
 mod document;
+mod inbound;
 mod index;
 mod lane;
 mod laws;
@@ -31,6 +32,7 @@ mod relations;
 mod row;
 mod server;
 mod setup;
+mod transform_relations;
 
 pub use adapter_spec::AdapterSpec;
 pub use config_tables::{ConfigCause, ConfigFault, SetupError};

@@ -1,11 +1,12 @@
 //! The parts of a setup, made of what the tables of a document say.
 ghost use Rattle.std.specs.Prelude.{◌≡◌, ◌≤◌, ◌<◌, IfOk, IfSome, length, map, position};
 ghost use Rattle.adapter_policies.specs.NameRelations.{is_named};
-ghost use Rattle.adapter_policies.specs.SetupData.{lane_of, lanes_of, run_calls_of, run_bytes_of, pool_made, span_of, adapter_made, adapter_number, priority_at, object_made};
+ghost use Rattle.adapter_policies.specs.SetupData.{lane_of, lanes_of, run_calls_of, run_bytes_of, pool_made, span_of, transform_row_of, adapter_made, adapter_number, priority_at, object_made};
 
 use crate::adapter::AdapterTable;
 use crate::adapter_spec::AdapterSpec;
 use crate::band::BandTable;
+use crate::inbound::InboundTable;
 use crate::lane::LaneTable;
 use crate::name_relations::is_named;
 use crate::object::ObjectTable;
@@ -14,6 +15,7 @@ use crate::pool::PoolTable;
 use crate::server::ServerTable;
 use orb_base::limits::{MAX_RUN_BYTES, MAX_RUN_CALLS};
 use orb_base::{Band, LaneSpec, List, NoMemory, PoolSpec, Priority, Text};
+use priority_models::{Transform, TransformRow};
 use std::alloc::{AllocError, Global};
 
 /// The pool, with the limits of the run.
@@ -107,17 +109,44 @@ fn bands_made(alloc: Global, bands: &[BandTable]) -> Result<Vec<Band>, NoMemory>
     Ok(made)
 }
 
+/// Rows of a transform as the setup has them.
+fn rows_made(alloc: Global, rows: &[InboundTable]) -> Result<Vec<TransformRow>, NoMemory>
+    ensures { IfOk result (λ made. made.items ≡ map transform_row_of rows.now) }
+{
+    let mut made = Vec::new(alloc);
+    for row in rows {
+        let Some(band) = Band::new(row.low, row.high) else {
+            return Err(NoMemory);
+        };
+        made.push(TransformRow { band, to: row.to })?;
+    }
+    Ok(made)
+}
+
+/// The transform of rows, which are few, and no two of which share a priority: that is tested once more.
+fn transform_made(alloc: Global, rows: &[InboundTable]) -> Result<Transform, NoMemory>
+    ensures { IfOk result (λ t. t ≡ map transform_row_of rows.now) }
+{
+    let made = rows_made(alloc, rows)?;
+    match Transform::new(List::from_vec(made)) {
+        Some(transform) => Ok(transform),
+        None => Err(NoMemory),
+    }
+}
+
 /// An adapter as the setup has it.
 fn adapter_made(alloc: Global, adapter: &AdapterTable) -> Result<AdapterSpec, NoMemory>
     ensures { IfOk result (λ a. a ≡ adapter_made adapter.now) }
 {
     let name = adapter.name.copy(alloc)?;
     let bands = bands_made(alloc, adapter.bands.as_slice())?;
+    let inbound = transform_made(alloc, adapter.inbound.as_slice())?;
     Ok(AdapterSpec {
         name,
         model: adapter.model,
         priority: adapter.priority,
         bands: List::from_vec(bands),
+        inbound,
     })
 }
 

@@ -105,7 +105,7 @@ fn is_propagated(adapters: &[AdapterTable], name: &Text) -> bool
 }
 
 /// Whether this adapter lets the client's priority stand.
-fn lets_stand(adapter: &AdapterTable) -> bool
+pub fn lets_stand(adapter: &AdapterTable) -> bool
     ensures { result ≡ propagates adapter.now.model }
 {
     propagates(adapter.model)

@@ -12,6 +12,7 @@ use crate::pool_relations::{
     judge_borrowing, judge_lane_order, judge_slots, judge_thread_count, judge_threads,
 };
 use crate::priority_relations::{judge_in_lanes, judge_natives};
+use crate::transform_relations::judge_transforms;
 use config_tables::SetupError;
 use priority_maps::Map;
 use std::alloc::Global;
@@ -57,7 +58,7 @@ fn judge_links(alloc: Global, map: &Map, document: &Document) -> Result<(), Setu
     judge_levels(alloc, map, document)
 }
 
-/// Judges what holds between priorities, lanes and the map.
+/// Judges what holds between priorities, lanes, the map and transforms.
 #[tactic(auto, unfolding(crate::specs::Configuration::levels_fault), using(config_tables::proofs::Judging::refuses_first, config_tables::proofs::Judging::refuses_later))]
 fn judge_levels(alloc: Global, map: &Map, document: &Document) -> Result<(), SetupError>
     requires { map.now ≡ priority_map document.now.mapping }
@@ -68,5 +69,6 @@ fn judge_levels(alloc: Global, map: &Map, document: &Document) -> Result<(), Set
     let objects = document.objects.as_slice();
     judge_in_lanes(alloc, pool, adapters, objects)?;
     judge_natives(alloc, map, pool, adapters, objects)?;
-    judge_lanes(alloc, pool, adapters)
+    judge_lanes(alloc, pool, adapters)?;
+    judge_transforms(alloc, adapters)
 }
