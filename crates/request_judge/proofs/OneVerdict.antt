@@ -2,19 +2,18 @@
 use Rattle.std.proofs.Common.{◌≡◌, ◌⊎◌, inl, inr, ℕ, List, [], Option, Some, None, Result, Ok, Err, IsSome, refl, sym, ap, ◌∙◌, subst}
 use Rattle.std.proofs.lemmas.Option.{same_Some}
 use Rattle.orb_base.specs.Pool.{Pool}
-use Rattle.priority_models.specs.Transforms.{mandated}
 use Rattle.orb_base.specs.Span.{Span}
 use Rattle.service_contexts.specs.declared.contexts.Contexts.{Contexts}
 use Rattle.service_contexts.proofs.Faults.{one_told, not_both}
 use Rattle.giop_messages.specs.Message.{Request, Target, key, profile, addressing}
 use Rattle.priority_maps.specs.Maps.{to_native}
+use Rattle.priority_models.specs.Transforms.{mandated}
 use Rattle.adapter_policies.specs.SetupData.{SetupData}
-use Rattle.request_judge.specs.Judging.{Asks, Binding, BindsTo, IsBind, Judges, RunsAs, RunsIn, Running}
+use Rattle.request_judge.specs.Judging.{Asks, Binding, BindsTo, IsBind, Judges, RunsAs, RunsAt, RunsIn, Running}
 use Rattle.request_judge.specs.Laws.{JudgesOneWay}
-use Rattle.request_judge.specs.Served.{served_at}
+use Rattle.request_judge.specs.Served.{Served, served_at}
 use Rattle.request_judge.specs.declared.refusal.Refusal.{Refusal}
-use Rattle.request_judge.specs.declared.refusal.Refusal.TheVariants.{NoKey, BadContext, UnknownObject, NoBand, BandWithoutLane, OutsideBand, NoNative, NoLane}
-use Rattle.request_judge.specs.declared.served.Served.{Served}
+use Rattle.request_judge.specs.declared.refusal.Refusal.TheVariants.{NoKey, BadContext, UnknownObject, NoBand, BandWithoutLane, NoTransform, OutsideBand, NoNative, NoLane}
 use Rattle.request_judge.specs.declared.verdict.Place.{Place}
 use Rattle.request_judge.specs.declared.verdict.Verdict.{Verdict}
 use Rattle.request_judge.specs.declared.verdict.Verdict.TheVariants.{Runs, Binds}
@@ -113,26 +112,31 @@ abbrev place_with : ℕ → ℕ → ℕ → Place
 place_with target priority lane = record { target = target; priority = priority; lane = lane }
 
 -- the answer for a lane, as one for a place
-abbrev placed_in : Served → Option ℕ → Result ℕ Refusal → Result Place Refusal
-placed_in served sent (Ok lane) = Ok (place_with served.number (mandated served.model served.priority sent) lane)
-placed_in served sent (Err refusal) = Err refusal
+abbrev placed_in : Served → ℕ → Result ℕ Refusal → Result Place Refusal
+placed_in served p (Ok lane) = Ok (place_with served.number p lane)
+placed_in served p (Err refusal) = Err refusal
 
 -- the lane of an answer
 abbrev lane_in : Result Place Refusal → Result ℕ Refusal
 lane_in (Ok place) = Ok place.lane
 lane_in (Err refusal) = Err refusal
 
-runs_in : (setup : SetupData) (band : Option Span) (served : Served) (sent : Option ℕ) (a : Result Place Refusal) → RunsAs setup band served sent a
-    → RunsIn setup band (mandated served.model served.priority sent) (lane_in a) × (a ≡ placed_in served sent (lane_in a))
-runs_in setup band served sent (Ok place) h = (h.2, λ i. Ok (place_with (h.0 i) (h.1 i) place.lane))
-runs_in setup band served sent (Err refusal) h = (h, refl)
+runs_in : (setup : SetupData) (band : Option Span) (served : Served) (p : ℕ) (a : Result Place Refusal) → RunsAt setup band served (Some p) a
+    → RunsIn setup band p (lane_in a) × (a ≡ placed_in served p (lane_in a))
+runs_in setup band served p (Ok place) h = (h.2, λ i. Ok (place_with (h.0 i) (h.1 i) place.lane))
+runs_in setup band served p (Err refusal) h = (h, refl)
+
+at_one : (setup : SetupData) (band : Option Span) (served : Served) (m : Option ℕ) (a b : Result Place Refusal)
+    → RunsAt setup band served m a → RunsAt setup band served m b → a ≡ b
+at_one setup band served None a b h k = h ∙ sym k
+at_one setup band served (Some p) a b h k =
+    let x = runs_in setup band served p a h in
+    let y = runs_in setup band served p b k in
+    x.1 ∙ ap (placed_in served p) (in_one setup band p (lane_in a) (lane_in b) x.0 y.0) ∙ sym y.1
 
 as_one : (setup : SetupData) (band : Option Span) (served : Served) (sent : Option ℕ) (a b : Result Place Refusal)
     → RunsAs setup band served sent a → RunsAs setup band served sent b → a ≡ b
-as_one setup band served sent a b h k =
-    let x = runs_in setup band served sent a h in
-    let y = runs_in setup band served sent b k in
-    x.1 ∙ ap (placed_in served sent) (in_one setup band (mandated served.model served.priority sent) (lane_in a) (lane_in b) x.0 y.0) ∙ sym y.1
+as_one setup band served sent a b h k = at_one setup band served (mandated served.model served.priority served.inbound sent) a b h k
 
 -- ---- the whole
 
@@ -170,6 +174,7 @@ stages setup band r (Err BadContext) h = record { asked = Err BadContext; asks =
 stages setup band r (Err UnknownObject) h = record { asked = Err UnknownObject; asks = h; decides = refl }
 stages setup band r (Err NoBand) h = by_bind setup band r (Err NoBand) h
 stages setup band r (Err BandWithoutLane) h = by_bind setup band r (Err BandWithoutLane) h
+stages setup band r (Err NoTransform) h = by_run setup band r (Err NoTransform) h
 stages setup band r (Err OutsideBand) h = by_run setup band r (Err OutsideBand) h
 stages setup band r (Err NoNative) h = by_run setup band r (Err NoNative) h
 stages setup band r (Err NoLane) h = by_run setup band r (Err NoLane) h

@@ -6,7 +6,7 @@ use Rattle.orb_base.specs.declared.system.SysName.{SysName}
 use Rattle.orb_base.specs.declared.system.SysName.TheVariants.{Marshal, ObjectNotExist, InvPolicy, DataConversion}
 use Rattle.orb_base.specs.declared.system.Completed.TheVariants.{No}
 use Rattle.request_judge.specs.declared.refusal.Refusal.{Refusal}
-use Rattle.request_judge.specs.declared.refusal.Refusal.TheVariants.{NoKey, BadContext, UnknownObject, NoBand, BandWithoutLane, OutsideBand, NoNative, NoLane}
+use Rattle.request_judge.specs.declared.refusal.Refusal.TheVariants.{NoKey, BadContext, UnknownObject, NoBand, BandWithoutLane, NoTransform, OutsideBand, NoNative, NoLane}
 
 -- a system exception before the operation was begun
 abbrev pub refused : SysName → ℕ → What
@@ -19,6 +19,7 @@ answer_of BadContext = refused Marshal 2
 answer_of UnknownObject = refused ObjectNotExist 1
 answer_of NoBand = refused Marshal 2
 answer_of BandWithoutLane = refused InvPolicy 5
+answer_of NoTransform = refused DataConversion 2
 answer_of OutsideBand = refused InvPolicy 4
 answer_of NoNative = refused DataConversion 1
 answer_of NoLane = refused InvPolicy 3

@@ -1,22 +1,21 @@
--- What a server makes of a request: Real-time CORBA 1.2, Priority models, Priority banded connections and Threadpools. The order
--- of the causes is own profile: each is told only where none before it is there.
+-- What a server makes of a request: Real-time CORBA 1.2, Priority models, Priority transforms, Priority banded connections and
+-- Threadpools. The order of the causes is own profile: each is told only where none before it is there.
 use Rattle.std.specs.Prelude.{◌≡◌, ℕ, true, false, List, Option, Some, None, Result, Ok, Err, IsSome, codes}
 use Rattle.orb_base.specs.Pool.{Pool}
 use Rattle.orb_base.specs.Priorities.{lane_of}
-use Rattle.priority_models.specs.Transforms.{mandated}
 use Rattle.orb_base.specs.Span.{Span}
 use Rattle.banded_links.specs.Binding.{serves}
 use Rattle.priority_maps.specs.Maps.{to_native}
 use Rattle.priority_models.specs.Placing.{IsAllowed}
+use Rattle.priority_models.specs.Transforms.{mandated}
 use Rattle.service_contexts.specs.Telling.{Tells, IsFirstFault}
 use Rattle.service_contexts.specs.declared.contexts.Contexts.{Contexts}
 use Rattle.service_contexts.specs.declared.contexts.ContextFault.{ContextFault}
 use Rattle.giop_messages.specs.Message.{Request, key}
 use Rattle.adapter_policies.specs.SetupData.{SetupData}
-use Rattle.request_judge.specs.Served.{served_at}
+use Rattle.request_judge.specs.Served.{Served, served_at}
 use Rattle.request_judge.specs.declared.refusal.Refusal.{Refusal}
-use Rattle.request_judge.specs.declared.refusal.Refusal.TheVariants.{NoKey, BadContext, UnknownObject, NoBand, BandWithoutLane, OutsideBand, NoNative, NoLane}
-use Rattle.request_judge.specs.declared.served.Served.{Served}
+use Rattle.request_judge.specs.declared.refusal.Refusal.TheVariants.{NoKey, BadContext, UnknownObject, NoBand, BandWithoutLane, NoTransform, OutsideBand, NoNative, NoLane}
 use Rattle.request_judge.specs.declared.verdict.Place.{Place}
 use Rattle.request_judge.specs.declared.verdict.Verdict.{Verdict}
 use Rattle.request_judge.specs.declared.verdict.Verdict.TheVariants.{Runs, Binds}
@@ -75,12 +74,16 @@ RunsIn setup band p (Err NoNative) = IsAllowed band p × (to_native setup.mappin
 RunsIn setup band p (Err NoLane) = IsAllowed band p × IsSome (to_native setup.mapping p) × (lane_of setup.pool p ≡ None)
 RunsIn setup band p (Err _) = ⊥
 
--- where a request runs to this object with this priority sent: at the mandated priority, in a lane for it; or why it doesn't
+-- where a request runs to this object of this mandated priority: at that priority, in a lane for it; or why it doesn't. Without a
+-- mandated priority it doesn't, whatever band is bound
+abbrev pub RunsAt : SetupData → Option Span → Served → Option ℕ → Result Place Refusal → Type 0
+RunsAt setup band served (Some p) (Ok place) = (place.target ≡ served.number) × (place.priority ≡ p) × RunsIn setup band p (Ok place.lane)
+RunsAt setup band served (Some p) (Err refusal) = RunsIn setup band p (Err refusal)
+RunsAt setup band served None result = result ≡ Err NoTransform
+
+-- where a request runs to this object with this priority sent, or why it doesn't
 abbrev pub RunsAs : SetupData → Option Span → Served → Option ℕ → Result Place Refusal → Type 0
-RunsAs setup band served sent (Ok place) =
-    let p = mandated served.model served.priority sent in
-    (place.target ≡ served.number) × (place.priority ≡ p) × RunsIn setup band p (Ok place.lane)
-RunsAs setup band served sent (Err refusal) = RunsIn setup band (mandated served.model served.priority sent) (Err refusal)
+RunsAs setup band served sent result = RunsAt setup band served (mandated served.model served.priority served.inbound sent) result
 
 -- the request is for this object and binds a band, which comes to this
 pub record Binding (setup : SetupData) (r : Request) (answer : Result Span Refusal) : Type 0 where
@@ -105,6 +108,7 @@ Refuses setup band r BadContext = Asks setup r (Err BadContext)
 Refuses setup band r UnknownObject = Asks setup r (Err UnknownObject)
 Refuses setup band r NoBand = Binding setup r (Err NoBand)
 Refuses setup band r BandWithoutLane = Binding setup r (Err BandWithoutLane)
+Refuses setup band r NoTransform = Running setup band r (Err NoTransform)
 Refuses setup band r OutsideBand = Running setup band r (Err OutsideBand)
 Refuses setup band r NoNative = Running setup band r (Err NoNative)
 Refuses setup band r NoLane = Running setup band r (Err NoLane)

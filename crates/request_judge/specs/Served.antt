@@ -1,14 +1,23 @@
 -- The objects of a setup, as requests see them.
 use Rattle.std.specs.Prelude.{ℕ, List, Option, slice_get}
 use Rattle.std.specs.Option.{option_map, option_and_then}
+use Rattle.orb_base.specs.declared.priority_model.PriorityModel.{PriorityModel}
+use Rattle.priority_models.specs.declared.transform.TransformRow.{TransformRow}
 use Rattle.adapter_policies.specs.Index.{number_from}
 use Rattle.adapter_policies.specs.SetupData.{AdapterData, SetupData}
 use Rattle.adapter_policies.specs.declared.object_spec.ObjectSpec.{ObjectSpec}
-use Rattle.request_judge.specs.declared.served.Served.{Served}
+
+-- an object that an adapter serves, as requests see it: its number, its adapter's model, the server's priority for it, and the rows
+-- of its adapter's transform
+pub record Served : Type 0 where
+  pub number : ℕ
+  pub model : PriorityModel
+  pub priority : ℕ
+  pub inbound : List TransformRow
 
 -- the object of this number under its adapter
 abbrev pub served_by : ℕ → ObjectSpec → AdapterData → Served
-served_by number object adapter = record { number = number; model = adapter.model; priority = object.priority }
+served_by number object adapter = record { number = number; model = adapter.model; priority = object.priority; inbound = adapter.inbound }
 
 -- the same, where its adapter is there
 abbrev pub served_as : SetupData → ℕ → ObjectSpec → Option Served

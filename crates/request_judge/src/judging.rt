@@ -16,7 +16,7 @@ use service_contexts::{Contexts, contexts_of};
 pub const BIND_OPERATION: &[u8] = b"_bind_priority_band";
 
 /// The object of a request, and what its contexts tell.
-fn asked(setup: &Setup, request: &Request) -> Result<(Served, Contexts), Refusal>
+fn asked<'a>(setup: &'a Setup, request: &Request) -> Result<(Served<'a>, Contexts), Refusal>
     ensures { Spec.Asks setup.now request.now result }
 {
     let Target::Key(key) = &request.target else {
@@ -69,15 +69,18 @@ fn is_bind(request: &Request) -> bool
 }
 
 /// Where a request runs that binds no band.
+#[tactic(auto, using(crate::proofs::Runs::runs_there, crate::proofs::Runs::refused_there, crate::proofs::Runs::without_priority))]
 fn run(
     setup: &Setup,
     band: Option<Band>,
-    served: Served,
+    served: &Served<'_>,
     sent: Option<Priority>,
 ) -> Result<Place, Refusal>
-    ensures { Spec.RunsAs setup.now band served sent result }
+    ensures { Spec.RunsAs setup.now band served.now sent result }
 {
-    let priority = mandated(served.model, served.priority, sent);
+    let Some(priority) = mandated(served.model, served.priority, served.inbound, sent) else {
+        return Err(Refusal::NoTransform);
+    };
     let lane = lane_for(setup, band, priority)?;
     Ok(Place {
         target: served.number,
@@ -87,8 +90,9 @@ fn run(
 }
 
 /// What a server makes of a request, by its setup and by the band that the connection has bound, if it has bound one: where it
-/// runs, the band that it binds, or why it is refused. Takes no memory. The work is one pass over the contexts and the lanes, of
-/// which there are at most 16, one look-up by the key's hash, and that of the map.
+/// runs, the band that it binds, or why it is refused. Takes no memory. The work is one pass over the contexts, over the rows of
+/// the adapter's transform, of which there are at most 32, and over the lanes, of which there are at most 16, one look-up by the
+/// key's hash, and that of the map.
 pub fn judge(setup: &Setup, band: Option<Band>, request: &Request) -> Result<Verdict, Refusal>
     ensures { Spec.Judges setup.now band request.now result }
 {
@@ -97,6 +101,6 @@ pub fn judge(setup: &Setup, band: Option<Band>, request: &Request) -> Result<Ver
         let bound = bind(setup.pool(), told.range)?;
         return Ok(Verdict::Binds(bound));
     }
-    let place = run(setup, band, served, told.priority)?;
+    let place = run(setup, band, &served, told.priority)?;
     Ok(Verdict::Runs(place))
 }

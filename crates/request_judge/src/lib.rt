@@ -1,6 +1,6 @@
 //! What a server makes of a request before it runs: whether it may run, where, and at which priority (Real-time CORBA 1.2,
-//! Priority models, Priority banded connections and Threadpools; the order of the causes and their minor codes are own
-//! profile).
+//! Priority models, Priority transforms, Priority banded connections and Threadpools; the order of the causes and their minor
+//! codes are own profile).
 //!
 //! A request is judged by the setup and by the band that its connection has bound. `specs/Judging.antt` says what each
 //! verdict means. Judging takes no memory.

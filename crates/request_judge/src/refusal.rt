@@ -24,6 +24,9 @@ pub enum Refusal {
     /// No lane has a priority of the band that was to be bound: INV_POLICY, minor 5.
     #[error("no lane has a priority of the band")]
     BandWithoutLane,
+    /// No row of the adapter's transform holds the priority that was sent: DATA_CONVERSION, minor 2.
+    #[error("no row of the transform holds the priority")]
+    NoTransform,
     /// The mandated priority isn't in the bound band: INV_POLICY, minor 4.
     #[error("the priority is outside the bound band")]
     OutsideBand,
@@ -46,6 +49,7 @@ impl Refusal {
             Refusal::UnknownObject => refused(SysName::ObjectNotExist, 1),
             Refusal::NoBand => refused(SysName::Marshal, 2),
             Refusal::BandWithoutLane => refused(SysName::InvPolicy, 5),
+            Refusal::NoTransform => refused(SysName::DataConversion, 2),
             Refusal::OutsideBand => refused(SysName::InvPolicy, 4),
             Refusal::NoNative => refused(SysName::DataConversion, 1),
             Refusal::NoLane => refused(SysName::InvPolicy, 3),
