@@ -9,7 +9,7 @@ use Rattle.giop_frames.specs.Messages.{Partial, is_fragment, opens, continues, e
 use Rattle.giop_frames.specs.Stream.{piece_cause, header_cause, fragment_cause, tail_cause}
 use Rattle.giop_frames.specs.Running.{State, grown, stepped}
 use Rattle.giop_frames.specs.Steps.{IsDistinct}
-use Rattle.giop_frames.specs.Bounds.{AreWithin, IsBounded, kept_bytes}
+use Rattle.giop_frames.specs.Bounds.{AreWithin, AreLong, IsBounded, kept_bytes}
 use Rattle.giop_frames.proofs.Heads.{header_within}
 use Rattle.giop_frames.proofs.Places.{same}
 use Rattle.giop_frames.proofs.Effects.{quiet}
@@ -54,6 +54,23 @@ within_more : (limit : ℕ) (us : List Partial) (v : Partial) → AreWithin limi
 within_more limit [] v w h = (h, tt)
 within_more limit (u ∷ us) v w h = (w.0, within_more limit us v w.1 h)
 
+grown_long : (p : Piece) (u : Partial) (b : Bool) → 12 ≤ length u.bytes → 12 ≤ length (cond b (let r : Partial = record u { bytes = u.bytes ++ added p } in r) u).bytes
+grown_long p u true w = omega (arith, length-append u.bytes (added p))
+grown_long p u false w = w
+
+long_one : (u : Partial) (us : List Partial) (p : Piece) (b : Bool) → 12 ≤ length (grown p u).bytes → AreLong (map (grown p) us) → AreLong (map (grown p) (cond b (u ∷ us) us))
+long_one u us p true w ws = (w, ws)
+long_one u us p false w ws = ws
+
+long_step : (p : Piece) (us : List Partial) → AreLong us → AreLong (map (grown p) (filter (λ u. not (ends u.id p.bytes)) us))
+long_step p [] w = tt
+long_step p (u ∷ us) w =
+    long_one u (filter (λ u. not (ends u.id p.bytes)) us) p (not (ends u.id p.bytes)) (grown_long p u (continues u.id p.bytes) w.0) (long_step p us w.1)
+
+long_more : (us : List Partial) (v : Partial) → AreLong us → 12 ≤ length v.bytes → AreLong (us ++ v ∷ [])
+long_more [] v w h = (h, tt)
+long_more (u ∷ us) v w h = (w.0, long_more us v w.1 h)
+
 filter_one : (u : Partial) (us vs : List Partial) (b : Bool) → length vs ≤ length us → length (cond b (u ∷ vs) vs) ≤ length (u ∷ us)
 filter_one u us vs true h = omega arith
 filter_one u us vs false h = omega arith
@@ -66,16 +83,17 @@ map_few : (p : Piece) (us : List Partial) → length (map (grown p) us) ≡ leng
 map_few p [] = refl
 map_few p (u ∷ us) = omega (arith, map_few p us)
 
-bounded_by : (limit : ℕ) (p : Piece) (vs us : List Partial) (b : Bool) → opens p.bytes ≡ b → AreWithin limit vs → length vs ≤ length us → length us ≤ 16 → (b ≡ true → length us < 16) → 16 ≤ limit → length p.bytes ≤ limit
-    → IsBounded limit (vs ++ cond b (begun p [] ∷ []) [])
-bounded_by limit p vs us true e w l few new least fits = record {
+bounded_by : (limit : ℕ) (p : Piece) (vs us : List Partial) (b : Bool) → opens p.bytes ≡ b → AreWithin limit vs → AreLong vs → length vs ≤ length us → length us ≤ 16 → (b ≡ true → length us < 16) → 16 ≤ limit → length p.bytes ≤ limit
+    → 12 ≤ length p.bytes → IsBounded limit (vs ++ cond b (begun p [] ∷ []) [])
+bounded_by limit p vs us true e w g l few new least fits header = record {
   few = omega (arith, length-append vs (begun p [] ∷ []), new refl);
   within = within_more limit vs (begun p []) w (omega (arith, length-append p.bytes []));
+  long = long_more vs (begun p []) g (omega (arith, length-append p.bytes []));
   least = least;
 }
-bounded_by limit p vs us false e w l few new least fits =
+bounded_by limit p vs us false e w g l few new least fits header =
     let P : List Partial → Type 0 = λ ws. IsBounded limit ws in
-    subst P (sym (append-nil vs)) (record { few = omega arith; within = w; least = least })
+    subst P (sym (append-nil vs)) (record { few = omega arith; within = w; long = g; least = least })
 
 of_fragment : (v : ℕ) (b : List ℕ) (f : Bool) → is_fragment b ≡ f → continues v b ≡ true → f ≡ true
 unfolding continues
@@ -89,12 +107,12 @@ joins_all limit p us h =
     let e = ap (fragment_cause limit (order_of p.bytes) p.bytes) (sym o) ∙ joins_within limit us p.bytes h f in
     omega (arith, length-append u.bytes (added p), length-drop 16 p.bytes, fragment_fits limit (order_of p.bytes) p.bytes u e)
 
-pub step_bounded : (limit : ℕ) (p : Piece) (us : List Partial) → IsBounded limit us → IsDistinct us → length p.bytes ≤ limit → piece_cause limit us p.bytes ≡ None → IsBounded limit (stepped p us)
+pub step_bounded : (limit : ℕ) (p : Piece) (us : List Partial) → IsBounded limit us → IsDistinct us → length p.bytes ≤ limit → 12 ≤ length p.bytes → piece_cause limit us p.bytes ≡ None → IsBounded limit (stepped p us)
 unfolding stepped
-step_bounded limit p us b d fits h =
+step_bounded limit p us b d fits header h =
     let vs : List Partial = filter (λ u. not (ends u.id p.bytes)) us in
-    bounded_by limit p (map (grown p) vs) us (opens p.bytes) refl (within_step limit p us d b.within (joins_all limit p us h))
-    (omega (arith, map_few p vs, filter_few (λ u. not (ends u.id p.bytes)) us)) b.few (λ o. (opens_new limit us p.bytes h o).1) b.least fits
+    bounded_by limit p (map (grown p) vs) us (opens p.bytes) refl (within_step limit p us d b.within (joins_all limit p us h)) (long_step p us b.long)
+    (omega (arith, map_few p vs, filter_few (λ u. not (ends u.id p.bytes)) us)) b.few (λ o. (opens_new limit us p.bytes h o).1) b.least fits header
 
 pub not_whole : (bytes : List ℕ) → is_whole bytes ≡ false → 12 ≤ length bytes → length bytes < piece_len bytes
 unfolding is_whole

@@ -46,7 +46,7 @@ found_below id i us f = omega (arith, f.place, ap length f.parts, length-append 
 pub found_open : (id i : ℕ) (us : List Partial) (f : Found id us i) → open_at id us ≡ Some f.there
 found_open id i us f = ap (open_at id) f.parts ∙ open_behind id f.front f.there f.back f.before f.same
 
-found_back : (id i : ℕ) (us : List Partial) (f : Found id us i) → IsDistinct us → open_at id f.back ≡ None
+pub found_back : (id i : ℕ) (us : List Partial) (f : Found id us i) → IsDistinct us → open_at id f.back ≡ None
 found_back id i us f d =
     ap (λ (n : ℕ). open_at n f.back) (sym (id_is f.there.id id f.same))
     ∙ after_none f.front f.there f.back (let P : List Partial → Type 0 = λ vs. IsDistinct vs in subst P f.parts d)

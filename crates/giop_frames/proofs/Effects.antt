@@ -117,6 +117,12 @@ step_idle p us o f e =
     step_is p us us us [] (keeps_all (λ u. ends u.id p.bytes) (λ u. e u.id) us)
     (maps_same (grown p) (λ u. grown_quiet p u (other_continues u.id p.bytes f)) us) (opened_none p o) ∙ append-nil us
 
+-- a piece that continues and opens nothing leaves out what it ends
+pub step_drops : (p : Piece) (us : List Partial) → opens p.bytes ≡ false → is_fragment p.bytes ≡ false → stepped p us ≡ filter (λ u. not (ends u.id p.bytes)) us
+step_drops p us o f =
+    let vs : List Partial = filter (λ u. not (ends u.id p.bytes)) us in
+    step_is p us vs vs [] refl (maps_same (grown p) (λ u. grown_quiet p u (other_continues u.id p.bytes f)) vs) (opened_none p o) ∙ append-nil vs
+
 -- a first piece opens a message
 pub step_opens : (p : Piece) (us : List Partial) → opens p.bytes ≡ true → (kind_of p.bytes == 2) ≡ false
     → stepped p us ≡ us ++ record { at = p.at; id = id_of p.bytes; order = order_of p.bytes; bytes = p.bytes } ∷ []

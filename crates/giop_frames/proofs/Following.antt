@@ -1,14 +1,17 @@
 -- What a feed does to a stream, by what a read does to its machine.
-use Rattle.std.proofs.Common.{◌≡◌, ℕ, ◌^◌, ◌<◌, ◌≤◌, List, [], ◌++◌, None, refl, ap, sym, ◌∙◌, arith, append_assoc, length-append}
+use Rattle.std.proofs.Common.{◌≡◌, ℕ, ◌^◌, ◌<◌, ◌≤◌, List, [], ◌++◌, length, None, refl, ap, sym, ◌∙◌, arith, append_assoc, length-append}
+use Rattle.std.specs.Prelude.{sum_by}
 use Rattle.std.proofs.lemmas.List.{append-nil}
 use Rattle.giop_frames.specs.declared.fault.FrameFault.{FrameFault}
-use Rattle.giop_frames.specs.Messages.{Message, Partial}
+use Rattle.giop_frames.specs.Pieces.{Piece, Cut, cut}
+use Rattle.giop_frames.specs.Messages.{Message, Partial, unfinished}
 use Rattle.giop_frames.specs.Stream.{Said, stream, with_front, stopped, rest_of, rest_with, at_end}
-use Rattle.giop_frames.specs.Running.{State, says, ahead}
+use Rattle.giop_frames.specs.Running.{State, says, ahead, stepped_by, with_pieces, cut_from}
+use Rattle.giop_frames.specs.Bounds.{kept_bytes, unfinished_bytes}
 use Rattle.giop_frames.specs.Joining.{IsResting, Same, Stops}
 use Rattle.giop_frames.specs.Feeding.{Follows, Ended}
-use Rattle.giop_frames.proofs.Ahead.{ahead_part, part_short}
-use Rattle.giop_frames.proofs.Growing.{stream_is}
+use Rattle.giop_frames.proofs.Ahead.{ahead_part, part_short, cut_part}
+use Rattle.giop_frames.proofs.Growing.{stream_is, unfinished_by}
 
 -- a machine at rest says of no further bytes: what is unfinished
 pub resting_says : (s : State) → IsResting s → says s [] ≡ record { messages = []; rest = rest_with s.partials (record { at = s.at; bytes = s.tail }); bad = None }
@@ -27,15 +30,19 @@ no_bad limit fed s f = ap (λ (x : Said). x.bad) (now_said limit fed s f ∙ ap 
 
 -- the beginning
 pub follows_start : (limit : ℕ) → 16 ≤ limit → limit < 2 ^ 31 → Follows limit [] (record { limit = limit; at = 0; tail = []; partials = [] })
+unfolding unfinished
 follows_start limit le lt =
     let s : State = record { limit = limit; at = 0; tail = []; partials = [] } in
-    let r : IsResting s = record { part = part_short [] (omega arith); sound = refl; distinct = tt; bounded = record { few = omega arith; within = tt; least = le }; small = lt } in
+    let r : IsResting s = record { part = part_short [] (omega arith); sound = refl; distinct = tt; bounded = record { few = omega arith; within = tt; long = tt; least = le }; small = lt } in
     record {
       on = λ more. stream_is limit more
           ∙ ap (λ (x : List Message). with_front x (says s more)) (sym (ap (λ (x : Said). x.messages) (stream_is limit [] ∙ resting_says s r)));
       resting = r;
       limit_is = refl;
       place = refl;
+      came = [];
+      cuts = λ more. refl;
+      steps = refl;
     }
 
 -- what a read says of the bytes, the stream says behind the messages so far
@@ -66,7 +73,24 @@ same_follows limit fed bytes whole whole' s s' f m =
       resting = m.resting;
       limit_is = m.limit_is ∙ f.limit_is;
       place = omega (arith, m.place, f.place, length-append fed bytes);
+      came = f.came ++ m.took;
+      cuts = λ more.
+          ap (λ (x : List ℕ). cut (length x) 0 x) (append_assoc fed bytes more) ∙ f.cuts (bytes ++ more) ∙ ap (with_pieces f.came) (m.cuts more)
+          ∙ ap (λ (x : List Piece). let c : Cut = record { whole = x; tail = (cut_from s' more).tail } in c) (sym (append_assoc f.came m.took (cut_from s' more).whole));
+      steps = m.steps ∙ ap (stepped_by m.took) f.steps ∙ sym (unfinished_by f.came m.took);
     }
+
+-- what is kept is what has come of the unfinished messages and of the unfinished piece
+pub kept_came : (limit : ℕ) (fed : List ℕ) (s : State) → Follows limit fed s → unfinished_bytes fed ≡ kept_bytes s
+kept_came limit fed s f =
+    let tail : Piece = record { at = s.at; bytes = s.tail } in
+    let last : cut_from s [] ≡ record { whole = []; tail = tail } =
+    ap (λ (x : List ℕ). cut (length x) s.at x) (append-nil s.tail) ∙ cut_part (length s.tail) s.at s.tail f.resting.part in
+    let all : cut (length fed) 0 fed ≡ record { whole = f.came ++ []; tail = tail } =
+    ap (λ (x : List ℕ). cut (length x) 0 x) (sym (append-nil fed)) ∙ f.cuts [] ∙ ap (with_pieces f.came) last in
+    let us : unfinished (cut (length fed) 0 fed).whole ≡ s.partials =
+    ap (λ (c : Cut). unfinished c.whole) all ∙ ap unfinished (append-nil f.came) ∙ sym f.steps in
+    omega (arith, ap (λ (x : List Partial). sum_by (λ u. length u.bytes) x) us, ap (λ (c : Cut). length c.tail.bytes) all)
 
 -- a fault
 stop_said : (limit : ℕ) (fed bytes more : List ℕ) (whole whole' : List Message) (s : State) (us : List Partial) (e : FrameFault) → Follows limit fed s → (m : Stops whole s bytes whole' us e)

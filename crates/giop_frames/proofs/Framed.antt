@@ -1,18 +1,19 @@
 -- A framer behind a feed, and what the feed tells.
-use Rattle.std.proofs.Common.{◌≡◌, ℕ, ◌+◌, ◌*◌, ◌^◌, ◌<◌, ◌≤◌, Bool, false, List, [], ◌++◌, length, Option, Some, None, true, Result, Ok, Err, refl, ap, sym, ◌∙◌, subst, arith, append_assoc}
+use Rattle.std.proofs.Common.{◌≡◌, ℕ, ◌+◌, ◌*◌, ◌^◌, ◌<◌, ◌≤◌, Bool, false, List, [], ◌++◌, length, drop, Option, Some, None, true, Result, Ok, Err, refl, ap, sym, ◌∙◌, subst, arith, append_assoc}
 use Rattle.std.specs.Prelude.{sum_by}
 use Rattle.std.proofs.lemmas.List.{append-nil}
+use Rattle.std.proofs.Math.Seq.{drop-append_seam}
 use Rattle.giop_frames.specs.declared.fault.FeedFault.{FeedFault}
 use Rattle.giop_frames.specs.declared.fault.FeedFault.TheVariants.{Frame, NoMemory}
 use Rattle.giop_frames.specs.Messages.{Message, Partial}
 use Rattle.giop_frames.specs.Stream.{Said, stream, with_front, stopped, rest_of, rest_with}
 use Rattle.giop_frames.specs.Running.{State}
-use Rattle.giop_frames.specs.Bounds.{kept_bytes}
+use Rattle.giop_frames.specs.Bounds.{kept_bytes, message_bytes, appended_bytes, unfinished_bytes}
 use Rattle.giop_frames.specs.Joining.{Same, Fails}
 use Rattle.giop_frames.specs.Feeds.{Feed, said, Tells, Lasts}
 use Rattle.giop_frames.specs.Feeding.{Follows, Ended, IsFramed, IsEmptied, lacks, left_by}
 use Rattle.giop_frames.proofs.Bounds.{kept_within}
-use Rattle.giop_frames.proofs.Following.{rest_is, no_bad, follows_start, fed_more, new_said, same_follows, stop_now, stops_ended}
+use Rattle.giop_frames.proofs.Following.{kept_came, rest_is, no_bad, follows_start, fed_more, new_said, same_follows, stop_now, stops_ended}
 
 pub framed_err : (fault : FeedFault) (limit : ℕ) (fed bytes : List ℕ) (whole whole' : List Message) (s s' : State) → Follows limit fed s → Fails fault bytes s s' whole whole'
     → IsFramed limit (fed ++ bytes) s' (left_by fault s'.partials) (Some fault)
@@ -209,3 +210,20 @@ pub kept_fits : (fault : Option FeedFault) (limit : ℕ) (fed : List ℕ) (s : S
 kept_fits None limit fed s left f =
     let w : kept_bytes s ≤ 17 * s.limit = kept_within s f.0.resting.part f.0.resting.sound f.0.resting.bounded in omega (arith, f.0.resting.small)
 kept_fits (Some x) limit fed s left f = let e : kept_bytes s ≡ 0 = f.1 in omega arith
+
+-- what is appended and kept came with the feed, or was kept before
+pub feed_flows : (v : Feed) (fault : Option FeedFault) (limit : ℕ) (fed bytes : List ℕ) (whole whole' : List Message) (s s' : State) → feed_of limit fed (lacks fault) (kept_bytes s) ≡ v
+    → Same whole s bytes whole' s' → appended_bytes whole whole' + kept_bytes s' ≤ v.kept + length bytes
+feed_flows v fault limit fed bytes whole whole' s s' hv m =
+    let new : drop (length whole) whole' ≡ m.told = ap (drop (length whole)) m.gives ∙ drop-append_seam whole m.told in
+    omega (arith, m.flows, ap (λ (x : List Message). message_bytes x) new, ap (λ (y : Feed). y.kept) hv)
+
+-- no more is kept than has come of what is unfinished
+kept_held_by : (fault : Option FeedFault) (limit : ℕ) (fed : List ℕ) (s : State) (left : Option ℕ) → Holds limit fed s left fault → kept_bytes s ≤ unfinished_bytes fed
+kept_held_by None limit fed s left f = omega (arith, kept_came limit fed s f.0)
+kept_held_by (Some x) limit fed s left f = let e : kept_bytes s ≡ 0 = f.1 in omega arith
+
+pub kept_held : (v : Feed) (fault : Option FeedFault) (limit : ℕ) (fed : List ℕ) (s : State) (left : Option ℕ) (k n : ℕ) → feed_of limit fed (lacks fault) k ≡ v
+    → Holds limit fed s left fault → n ≡ kept_bytes s → n ≤ unfinished_bytes v.fed
+kept_held v fault limit fed s left k n hv f e =
+    omega (arith, e, kept_held_by fault limit fed s left f, ap (λ (y : Feed). unfinished_bytes y.fed) hv)

@@ -8,7 +8,7 @@ use Rattle.std.proofs.lemmas.Grind.{flat_map-append}
 use Rattle.giop_frames.specs.Pieces.{Piece, id_of, cut}
 use Rattle.giop_frames.specs.Messages.{Partial, opens, continues, ends, added, begun, unfinished}
 use Rattle.giop_frames.specs.Stream.{Said, said_behind, stream, or_stopped, cause_of}
-use Rattle.giop_frames.specs.Running.{grown, opened, stepped, run, ahead}
+use Rattle.giop_frames.specs.Running.{grown, opened, stepped, stepped_by, run, ahead}
 
 any_or : (b c d e : Bool) → c ≡ (d || e) → (b || c) ≡ ((b || d) || e)
 any_or true c d e h = refl
@@ -73,3 +73,13 @@ run_is limit (p ∷ ps) earlier tail =
 pub stream_is : (limit : ℕ) (bytes : List ℕ) → stream limit bytes ≡ ahead limit [] 0 bytes
 unfolding stream ahead unfinished
 stream_is limit bytes = let c = cut (Rattle.std.specs.Prelude.length bytes) 0 bytes in run_is limit c.whole [] c.tail
+
+-- several pieces more
+pub stepped-append : (ps qs : List Piece) (us : List Partial) → stepped_by (ps ++ qs) us ≡ stepped_by qs (stepped_by ps us)
+stepped-append [] qs us = refl
+stepped-append (p ∷ ps) qs us = stepped-append ps qs (stepped p us)
+
+pub unfinished_by : (ps qs : List Piece) → unfinished (ps ++ qs) ≡ stepped_by qs (unfinished ps)
+unfinished_by ps [] = ap unfinished (append-nil ps)
+unfinished_by ps (q ∷ qs) =
+    ap unfinished (sym (append_assoc ps (q ∷ []) qs)) ∙ unfinished_by (ps ++ q ∷ []) qs ∙ ap (stepped_by qs) (unfinished_more ps q)

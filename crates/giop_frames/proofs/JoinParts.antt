@@ -1,6 +1,6 @@
 -- The same steps, as the code has the parts of a state, and a read in parts.
-use Rattle.std.proofs.Common.{◌≡◌, ℕ, ◌+◌, ◌-◌, ◌≤◌, ◌<◌, Bool, true, false, List, [], ◌++◌, length, take, drop, Option, Some, None, Result, Ok, OnOk, OnErr, refl, ap, sym, ◌∙◌, subst, arith, nat_le, length-append, length-drop}
-use Rattle.std.proofs.lemmas.List.{take-append-drop, length-take-le}
+use Rattle.std.proofs.Common.{◌≡◌, ℕ, ◌+◌, ◌-◌, ◌≤◌, ◌<◌, Bool, true, false, List, [], ◌∷◌, ◌++◌, length, min, take, drop, Option, Some, None, Result, Ok, OnOk, OnErr, refl, ap, sym, ◌∙◌, subst, arith, nat_le, length-append, length-drop}
+use Rattle.std.proofs.lemmas.List.{take-append-drop, length-take, length-take-le}
 use Rattle.std.proofs.Math.Seq.{take-length, take-append-add}
 use Rattle.orb_base.specs.declared.no_memory.NoMemory.{NoMemory as Lack}
 use Rattle.giop_frames.specs.declared.fault.FrameCause.{FrameCause}
@@ -12,7 +12,7 @@ use Rattle.giop_frames.specs.Messages.{Partial, Message}
 use Rattle.giop_frames.specs.Stream.{header_cause, piece_rule, piece_cause}
 use Rattle.giop_frames.specs.Running.{State}
 use Rattle.giop_frames.specs.Steps.{IsSound, Does}
-use Rattle.giop_frames.specs.Joining.{IsResting, IsFilled, IsReady, Same, Stops, Fails, Reads, Took, lifted, with_tail, Needs, SoFar}
+use Rattle.giop_frames.specs.Joining.{IsResting, IsFilled, IsReady, Same, Stops, Fails, Reads, Took, lifted, with_tail, Needs, SoFar, StandsWhole, Fills}
 use Rattle.giop_frames.proofs.Ahead.{piece_len_front, long_piece}
 use Rattle.giop_frames.proofs.Bounds.{not_whole}
 use Rattle.giop_frames.proofs.Deeds.{all_behind}
@@ -119,6 +119,39 @@ fills s bytes n r d l = record {
   bounded = r.bounded;
   small = r.small;
 }
+
+-- what the header, or else the piece, lacks, and no more than the input
+pub fills_next : (s : State) (input : List ℕ) (need n : ℕ) → IsResting s → 0 < length input → Needs s need → n ≡ min need (length input) → Fills s input n
+fills_next s input need n r lt d e = record {
+  some = omega (arith, e, d.some);
+  within = omega (arith, e);
+  filled = fills s (take n input) need r d (omega (arith, e, length-take n input));
+}
+
+none_came : (tail : List ℕ) → length tail ≡ 0 → tail ≡ []
+none_came [] h = refl
+none_came (x ∷ tail) h = absurd (omega arith)
+
+-- a whole piece that the input begins with
+whole_fits : (input : List ℕ) (has n : ℕ) → StandsWhole has input n → length (take n input) ≤ piece_len (take n input)
+whole_fits input has n w =
+    let len : length (take n input) ≡ n = length-take-le n input w.within in
+    let same : piece_len input ≡ piece_len (take n input) =
+    ap piece_len (sym (take-append-drop n input)) ∙ piece_len_front (take n input) (drop n input) (omega (arith, len, w.len, long_piece input)) in
+    omega (arith, len, same, w.len)
+
+pub stands_whole : (has : ℕ) (input : List ℕ) (n : ℕ) → has ≤ 0 → 12 ≤ length input → n ≡ piece_len input → n ≤ length input → StandsWhole has input n
+stands_whole has input n h l e k = record { none = omega arith; header = l; len = e; within = k }
+
+pub fills_whole : (x s : State) (input : List ℕ) (has n : ℕ) → x ≡ s → IsResting s → StandsWhole has input n → has ≡ length x.tail → Fills s input n
+fills_whole x s input has n e r w h =
+    let none : s.tail ≡ [] = none_came s.tail (omega (arith, h, w.none, ap (λ (y : State). length y.tail) e)) in
+    let P : List ℕ → Type 0 = λ t. length (t ++ take n input) ≤ piece_len (t ++ take n input) in
+    record {
+      some = omega (arith, w.len, long_piece input);
+      within = w.within;
+      filled = record { fits = λ _. subst P (sym none) (whole_fits input has n w); distinct = r.distinct; bounded = r.bounded; small = r.small };
+    }
 
 pub ready_of : (s : State) → IsFilled s → 12 ≤ length s.tail → piece_len s.tail ≤ length s.tail → header_cause s.limit s.tail ≡ None → IsReady s
 ready_of s f h l e = record {

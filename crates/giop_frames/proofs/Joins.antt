@@ -1,22 +1,25 @@
 -- What the steps of a read do to what the machine says of further bytes.
-use Rattle.std.proofs.Common.{◌≡◌, ℕ, ◌+◌, ◌≤◌, ◌<◌, Bool, true, false, cond, List, [], ◌++◌, length, take, drop, Option, Some, None, Result, Ok, Err, OnOk, OnErr, refl, ap, sym, ◌∙◌, subst, arith, nat_le, append_assoc, length-append}
+use Rattle.std.proofs.Common.{◌≡◌, ℕ, ◌+◌, ◌≤◌, ◌<◌, Bool, true, false, cond, List, [], ◌∷◌, ◌++◌, length, take, drop, Option, Some, None, Result, Ok, Err, OnOk, OnErr, refl, ap, sym, ◌∙◌, subst, arith, nat_le, append_assoc, length-append}
 use Rattle.std.specs.Prelude.{option_to_list}
 use Rattle.std.proofs.lemmas.List.{append-nil, take-append-drop}
+use Rattle.std.proofs.lemmas.List.Sums.{sum_by-append}
 use Rattle.orb_base.specs.declared.no_memory.NoMemory.{NoMemory as Lack}
 use Rattle.giop_frames.specs.declared.fault.FrameCause.{FrameCause}
 use Rattle.giop_frames.specs.declared.fault.FrameFault.{FrameFault}
 use Rattle.giop_frames.specs.declared.fault.FeedFault.{FeedFault}
 use Rattle.giop_frames.specs.declared.fault.FeedFault.TheVariants.{Frame, NoMemory}
-use Rattle.giop_frames.specs.Pieces.{Piece, piece_len}
+use Rattle.giop_frames.specs.Pieces.{Piece, Cut, piece_len, cut}
 use Rattle.giop_frames.specs.Messages.{Partial, Message, completed}
 use Rattle.giop_frames.specs.Stream.{Said, header_cause, piece_cause, or_else, or_stopped, stopped, with_front}
-use Rattle.giop_frames.specs.Running.{State, says, stepped, ahead}
+use Rattle.giop_frames.specs.Running.{State, says, stepped, stepped_by, ahead, with_pieces, cut_from}
 use Rattle.giop_frames.specs.Steps.{IsDistinct, IsSound, Does}
 use Rattle.giop_frames.specs.Bounds.{IsBounded}
 use Rattle.giop_frames.specs.Joining.{IsResting, IsFilled, IsReady, Same, Stops, Lacks, Fails, Reads, lifted, with_tail}
-use Rattle.giop_frames.proofs.Ahead.{ahead_piece, ahead_bad, part_short, part_of}
+use Rattle.giop_frames.proofs.Ahead.{cut_piece, ahead_piece, ahead_bad, part_short, part_of}
 use Rattle.giop_frames.proofs.Heads.{header_within}
 use Rattle.giop_frames.proofs.Bounds.{step_bounded}
+use Rattle.giop_frames.proofs.Flows.{held, step_flows}
+use Rattle.giop_frames.proofs.Growing.{stepped-append}
 use Rattle.giop_frames.proofs.Soundness.{sound, opens_new, step_distinct}
 
 -- nothing was read, and nothing given
@@ -28,6 +31,10 @@ same_none whole s r = record {
   resting = r;
   limit_is = refl;
   place = omega arith;
+  took = [];
+  cuts = λ more. refl;
+  steps = refl;
+  flows = omega arith;
 }
 
 pub lacks_any : (whole : List Message) (s : State) (bytes : List ℕ) (whole' : List Message) → whole' ≡ whole → Lacks whole s bytes whole'
@@ -109,11 +116,19 @@ finish_same whole whole' s us' r h d =
         distinct = let P : List Partial → Type 0 = λ us. IsDistinct us in
             subst P (sym d.steps) (step_distinct p s.partials r.distinct (λ o. (opens_new s.limit s.partials s.tail h o).0));
         bounded = let P : List Partial → Type 0 = λ us. IsBounded s.limit us in
-            subst P (sym d.steps) (step_bounded s.limit p s.partials r.bounded r.distinct (omega (arith, r.full, header_within s.limit s.tail r.sound)) h);
+            subst P (sym d.steps) (step_bounded s.limit p s.partials r.bounded r.distinct (omega (arith, r.full, header_within s.limit s.tail r.sound)) r.header h);
         small = r.small;
       };
       limit_is = refl;
       place = omega arith;
+      took = p ∷ [];
+      cuts = λ more. cut_piece (length (s.tail ++ more)) s.at s.tail more r.header r.full (omega arith);
+      steps = d.steps;
+      flows = omega (
+        arith,
+        step_flows p s.partials (sound s.limit s.partials s.tail h r.header r.small r.distinct) r.bounded.long,
+        ap (λ (us : List Partial). held us) d.steps,
+      );
     }
 
 pub sound_ready : (s : State) → IsReady s → piece_cause s.limit s.partials s.tail ≡ None → IsSound s.partials s.tail
@@ -135,6 +150,10 @@ put_same whole whole' s s' bytes m = record {
   resting = m.resting;
   limit_is = m.limit_is;
   place = omega (arith, m.place, length-append s.tail bytes);
+  took = m.took;
+  cuts = λ more. ap (λ (x : List ℕ). cut (length x) s.at x) (sym (append_assoc s.tail bytes more)) ∙ m.cuts more;
+  steps = m.steps;
+  flows = omega (arith, m.flows, length-append s.tail bytes);
 }
 
 pub put_stops : (whole whole' : List Message) (s : State) (bytes : List ℕ) (us : List Partial) (f : FrameFault) → Stops whole (with_tail s bytes) [] whole' us f → Stops whole s bytes whole' us f
@@ -189,6 +208,12 @@ same_same whole mid whole' s t s' a b m n = record {
   resting = n.resting;
   limit_is = n.limit_is ∙ m.limit_is;
   place = omega (arith, m.place, n.place, length-append a b);
+  took = m.took ++ n.took;
+  cuts = λ more.
+      ap (cut_from s) (append_assoc a b more) ∙ m.cuts (b ++ more) ∙ ap (with_pieces m.took) (n.cuts more)
+      ∙ ap (λ (x : List Piece). let c : Cut = record { whole = x; tail = (cut_from s' more).tail } in c) (sym (append_assoc m.took n.took (cut_from s' more).whole));
+  steps = n.steps ∙ ap (stepped_by n.took) m.steps ∙ sym (stepped-append m.took n.took s.partials);
+  flows = omega (arith, m.flows, n.flows, sum_by-append (λ x. length x.bytes) m.told n.told, length-append a b);
 }
 
 pub same_stops : (whole mid whole' : List Message) (s t : State) (a b : List ℕ) (us : List Partial) (f : FrameFault) → Same whole s a mid t → Stops mid t b whole' us f → Stops whole s (a ++ b) whole' us f

@@ -8,6 +8,7 @@ pub mod Deeds
 pub mod Sealing
 pub mod Soundness
 pub mod Bounds
+pub mod Flows
 pub mod Joins
 pub mod JoinParts
 pub mod Following

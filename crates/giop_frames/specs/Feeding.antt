@@ -3,9 +3,10 @@ use Rattle.std.specs.Prelude.{ℕ, ◌≡◌, ◌+◌, Bool, true, false, List, 
 use Rattle.giop_frames.specs.declared.fault.FrameFault.{FrameFault}
 use Rattle.giop_frames.specs.declared.fault.FeedFault.{FeedFault}
 use Rattle.giop_frames.specs.declared.fault.FeedFault.TheVariants.{Frame, NoMemory}
-use Rattle.giop_frames.specs.Messages.{Partial}
+use Rattle.giop_frames.specs.Pieces.{Piece, cut}
+use Rattle.giop_frames.specs.Messages.{Partial, unfinished}
 use Rattle.giop_frames.specs.Stream.{stream, with_front, rest_of}
-use Rattle.giop_frames.specs.Running.{State, says}
+use Rattle.giop_frames.specs.Running.{State, says, with_pieces, cut_from}
 use Rattle.giop_frames.specs.Bounds.{kept_bytes}
 use Rattle.giop_frames.specs.Joining.{IsResting}
 
@@ -15,6 +16,9 @@ pub record Follows (limit : ℕ) (fed : List ℕ) (s : State) : Type 0 where
   pub resting : IsResting s
   pub limit_is : s.limit ≡ limit
   pub place : s.at + length s.tail ≡ length fed
+  pub came : List Piece
+  pub cuts : (more : List ℕ) → cut (length (fed ++ more)) 0 (fed ++ more) ≡ with_pieces came (cut_from s more)
+  pub steps : s.partials ≡ unfinished came
 
 -- the stream has its fault, and says nothing of further bytes
 pub record Ended (limit : ℕ) (fed : List ℕ) (left : Option ℕ) (f : FrameFault) : Type 0 where

@@ -4,12 +4,12 @@ use Rattle.orb_base.specs.declared.no_memory.NoMemory.{NoMemory as Lack}
 use Rattle.giop_frames.specs.declared.fault.FrameFault.{FrameFault}
 use Rattle.giop_frames.specs.declared.fault.FeedFault.{FeedFault}
 use Rattle.giop_frames.specs.declared.fault.FeedFault.TheVariants.{Frame, NoMemory}
-use Rattle.giop_frames.specs.Pieces.{is_whole, piece_len}
+use Rattle.giop_frames.specs.Pieces.{Piece, is_whole, piece_len}
 use Rattle.giop_frames.specs.Messages.{Message, Partial}
 use Rattle.giop_frames.specs.Stream.{tail_cause, header_cause, with_front, stopped}
-use Rattle.giop_frames.specs.Running.{State, says}
+use Rattle.giop_frames.specs.Running.{State, says, stepped_by, with_pieces, cut_from}
 use Rattle.giop_frames.specs.Steps.{IsDistinct}
-use Rattle.giop_frames.specs.Bounds.{IsBounded}
+use Rattle.giop_frames.specs.Bounds.{IsBounded, kept_bytes, message_bytes}
 
 -- between two reads: less than a piece has come, and its header, if it is there, breaks no rule
 pub record IsResting (s : State) : Type 0 where
@@ -43,6 +43,10 @@ pub record Same (whole : List Message) (s : State) (bytes : List ℕ) (whole' : 
   pub resting : IsResting s'
   pub limit_is : s'.limit ≡ s.limit
   pub place : s'.at + length s'.tail ≡ s.at + (length s.tail + length bytes)
+  pub took : List Piece
+  pub cuts : (more : List ℕ) → cut_from s (bytes ++ more) ≡ with_pieces took (cut_from s' more)
+  pub steps : s'.partials ≡ stepped_by took s.partials
+  pub flows : message_bytes told + kept_bytes s' ≤ kept_bytes s + length bytes
 
 -- the bytes hold a fault, whatever follows
 pub record Stops (whole : List Message) (s : State) (bytes : List ℕ) (whole' : List Message) (us : List Partial) (f : FrameFault) : Type 0 where
@@ -97,3 +101,16 @@ pub record Needs (s : State) (n : ℕ) : Type 0 where
 pub record SoFar (n : ℕ) (input : List ℕ) (whole : List Message) (s : State) (whole' : List Message) (s' : State) : Type 0 where
   pub within : n ≤ length input
   pub same : Same whole s (take n input) whole' s'
+
+-- the input begins with a whole piece of this length, and nothing of it has come before
+pub record StandsWhole (has : ℕ) (input : List ℕ) (n : ℕ) : Type 0 where
+  pub none : has ≡ 0
+  pub header : 12 ≤ length input
+  pub len : n ≡ piece_len input
+  pub within : n ≤ length input
+
+-- so many bytes of the input are as much as the header, or else the piece, has room for
+pub record Fills (s : State) (input : List ℕ) (n : ℕ) : Type 0 where
+  pub some : 0 < n
+  pub within : n ≤ length input
+  pub filled : IsFilled (with_tail s (take n input))

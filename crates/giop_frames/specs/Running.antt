@@ -16,6 +16,11 @@ opened p = if opens p.bytes then begun p [] ∷ [] else []
 unfoldable pub stepped : Piece → List Partial → List Partial
 stepped p us = map (grown p) (filter (λ u. not (ends u.id p.bytes)) us) ++ opened p
 
+-- the unfinished messages after some more pieces
+abbrev pub stepped_by : List Piece → List Partial → List Partial
+stepped_by [] us = us
+stepped_by (p ∷ later) us = stepped_by later (stepped p us)
+
 -- what pieces and a tail say behind the unfinished messages of the earlier ones
 unfoldable pub run : ℕ → List Partial → List Piece → Piece → Said
 run limit us [] tail = at_end us tail (tail_cause limit tail.bytes)
@@ -39,3 +44,11 @@ pub record State : Type 0 where
 -- what it says of further bytes
 abbrev pub says : State → List ℕ → Said
 says s more = ahead s.limit s.partials s.at (s.tail ++ more)
+
+-- a cut with more whole pieces before it
+abbrev pub with_pieces : List Piece → Cut → Cut
+with_pieces pieces c = record { whole = pieces ++ c.whole; tail = c.tail }
+
+-- how further bytes are cut
+abbrev pub cut_from : State → List ℕ → Cut
+cut_from s more = cut (length (s.tail ++ more)) s.at (s.tail ++ more)

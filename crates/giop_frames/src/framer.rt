@@ -1,5 +1,6 @@
 //! The stream of a connection's bytes, fed in any pieces.
-ghost use Rattle.std.specs.Prelude.{◌≡◌, ◌≤◌, ◌<◌, ◌+◌, ◌*◌, ◌^◌, [], ◌++◌, length, true, false, IfOk, OnErr, None};
+ghost use Rattle.std.specs.Prelude.{◌≡◌, ◌≤◌, ◌<◌, ◌+◌, ◌*◌, ◌^◌, [], ◌++◌, length, true, false, IfOk, OnOk, OnErr, None};
+ghost use Rattle.giop_frames.specs.Bounds.{appended_bytes, unfinished_bytes};
 ghost use Rattle.giop_frames.specs.Feeds.{said, Tells, Lasts};
 
 use crate::fault::FeedFault;
@@ -72,6 +73,8 @@ impl Framer {
         // What was told stays told.
         ensures lasts { Lasts result self.old }
         ensures kept { self.new.kept ≤ 17 * self.new.limit }
+        // What is appended and what is kept came with this piece, or was kept before it.
+        ensures flows { OnOk result (appended_bytes whole.old.items whole.new.items + self.new.kept ≤ self.old.kept + length piece.now) }
         ensures emptied { OnErr result (self.new.kept ≡ 0) }
     {
         self.fed = self.fed.and(piece);
@@ -106,6 +109,8 @@ impl Framer {
     pub fn kept(&self) -> u64
         ensures value { result ≡ self.now.kept }
         ensures bound { result ≤ 17 * self.now.limit }
+        // At most what has come of the unfinished messages, joined, and of the unfinished piece.
+        ensures held { result ≤ unfinished_bytes self.now.fed }
     {
         self.joiner.kept() as u64
     }

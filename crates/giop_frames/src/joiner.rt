@@ -1,10 +1,10 @@
 //! The machine behind a framer: it fills a piece, judges its header, then the whole piece, and takes it.
-ghost use Rattle.std.specs.Prelude.{◌≡◌, ◌≤◌, ◌<◌, ◌+◌, ◌^◌, [], ◌++◌, length, Ok, OnOk, IfOk, None};
+ghost use Rattle.std.specs.Prelude.{◌≡◌, ◌≤◌, ◌<◌, ◌+◌, ◌^◌, [], ◌++◌, length, Ok, OnOk, IfOk, IfSome, None};
 ghost use Rattle.giop_frames.specs.Headers.{BeginsWith, header_at};
 ghost use Rattle.giop_frames.specs.Stream.{rest_of, rest_with};
 ghost use Rattle.giop_frames.specs.Bounds.{kept_bytes};
 ghost use Rattle.giop_frames.specs.Feeding.{left_by as left_behind};
-ghost use Rattle.giop_frames.specs.Joining.{IsResting, IsFilled, IsReady, Reads, Takes, Needs, lifted, with_tail};
+ghost use Rattle.giop_frames.specs.Joining.{IsResting, IsFilled, IsReady, Reads, Takes, Needs, StandsWhole, Fills, lifted, with_tail};
 
 use crate::fault::{FeedFault, FrameFault};
 use crate::header::{HEADER, Header, judged, piece_len};
@@ -43,6 +43,28 @@ fn lift(answer: Result<(), NoMemory>) -> Result<(), FeedFault>
         Ok(()) => Ok(()),
         Err(_) => Err(FeedFault::NoMemory),
     }
+}
+
+/// The length of the piece that the input begins with, if it is whole there and within the limit, and none of its bytes
+/// has come before.
+#[tactic(auto, using(crate::proofs::JoinParts::stands_whole))]
+fn whole_len(limit: usize, has: usize, input: &[u8]) -> Option<usize>
+    ensures { IfSome result (λ n. StandsWhole has input.now n) }
+{
+    if has > 0 {
+        return None;
+    }
+    if input.len() < HEADER {
+        return None;
+    }
+    let n = piece_len(input);
+    if n > limit {
+        return None;
+    }
+    if n > input.len() {
+        return None;
+    }
+    Some(n)
 }
 
 impl Joiner {
@@ -136,6 +158,20 @@ impl Joiner {
         }
     }
 
+    /// How many bytes are read next: those of the piece that the input begins with, where it is whole there and nothing of
+    /// it has come before, so that its message takes memory once; or else up to what the header or the piece lacks.
+    fn next_len(&self, input: &[u8]) -> usize
+        requires resting { IsResting self.now }
+        requires some { 0 < length input.now }
+        ensures { Fills self.now input.now result }
+    {
+        let has = self.tail.len();
+        match whole_len(self.limit, has, input) {
+            Some(n) => n,
+            None => self.need().min(input.len()),
+        }
+    }
+
     /// Reads some bytes from the front of the input.
     fn take_some(&mut self, input: &[u8], whole: &mut List<Whole>) -> Result<usize, FeedFault>
         requires resting { IsResting self.old }
@@ -143,7 +179,7 @@ impl Joiner {
         requires room { self.old.at + (length self.old.tail + length input.now) < 2 ^ 64 }
         ensures { Takes result input.now self.old self.new whole.old.items whole.new.items }
     {
-        let n = self.need().min(input.len());
+        let n = self.next_len(input);
         match self.put(&input[..n], whole) {
             Ok(()) => Ok(n),
             Err(fault) => Err(fault),

@@ -1,5 +1,5 @@
 use Rattle.std.proofs.Common.{Ok, Err}
-use Rattle.giop_frames.proofs.Framed.{feed_ok_framed, feed_err_framed, feed_ok_tells, feed_err_tells, kept_bound, lasts_none}
+use Rattle.giop_frames.proofs.Framed.{feed_ok_framed, feed_err_framed, feed_ok_tells, feed_err_tells, feed_flows, kept_bound, lasts_none}
 use Rattle.giop_frames.proofs.framer.Framer.feed.Goals as goal
 
 pub invariant_of-self-in-Ok : goal.invariant_of-self-in-Ok
@@ -33,3 +33,8 @@ returns-in-Ok-clause-lasts c =
 pub returns-in-Err-clause-lasts : goal.returns-in-Err-clause-lasts
 returns-in-Err-clause-lasts c =
     lasts_none (Err c.in-Err.fault) c.args.self.now c.self.inside.fault c.self.inside.limit c.self.inside.fed.items c.self.inside.joiner c.self.inside.left _ c.self.view_is c.in-None.is c.self.invariant
+
+pub returns-in-Ok-clause-flows : goal.returns-in-Ok-clause-flows
+returns-in-Ok-clause-flows c =
+    feed_flows c.args.self.now c.self.inside.fault c.self.inside.limit c.self.inside.fed.items c.args.piece.now c.args.whole.now.items c.read.new.whole.items
+    c.self.inside.joiner c.read.new.self c.self.view_is c.in-Ok.ensures

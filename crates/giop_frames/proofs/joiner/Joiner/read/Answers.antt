@@ -1,5 +1,8 @@
-use Rattle.giop_frames.proofs.JoinParts.{so_far_more, so_far_err}
+use Rattle.giop_frames.proofs.JoinParts.{so_far_none, so_far_more, so_far_err}
 use Rattle.giop_frames.proofs.joiner.Joiner.read.Goals as goal
+
+pub loop-taken-init : goal.loop-taken-init
+loop-taken-init c = so_far_none c.args.input.now c.args.whole.now.items c.args.self.now c.requires.resting
 
 pub loop-taken-preserved : goal.loop-taken-preserved
 loop-taken-preserved c =
