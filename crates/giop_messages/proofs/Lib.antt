@@ -17,5 +17,7 @@ pub mod FaultAgain
 pub mod RefusalAgain
 mod PartsAgain
 pub mod WholeAgain
+pub mod PartsPassed
+pub mod PartsWhole
 pub mod Written
 pub mod CallerLemmas

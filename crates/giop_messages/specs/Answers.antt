@@ -31,3 +31,11 @@ Gives = Cdr.Gives fault_of
 -- the same without a cursor
 abbrev pub Answers : {X Y : Type 0} → (X → Y) → Result X MessageFault → Result Y MessageFault → Type 0
 Answers = Cdr.Answers fault_of
+
+-- the same of a call that takes no memory: whatever it tells is the fault of the reading
+abbrev pub Finds : {X Y : Type 0} → (X → Y) → Result X MessageFault → Cursor → Parsed MessageFault Y → Type 0
+Finds = Cdr.Gives Some
+
+-- the same without a cursor
+abbrev pub Means : {X Y : Type 0} → (X → Y) → Result X MessageFault → Result Y MessageFault → Type 0
+Means = Cdr.Answers Some

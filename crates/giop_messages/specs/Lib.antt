@@ -2,6 +2,7 @@ pub mod Message
 pub mod Flags
 pub mod TargetView
 pub mod Views
+pub mod PartsView
 pub mod Layout
 pub mod Spelling
 pub mod Lengths

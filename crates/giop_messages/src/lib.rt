@@ -1,6 +1,7 @@
 //! Messages of GIOP 1.2, read and written (CORBA 3.0.3, section 15.4).
 #![tactic(auto)]
 
+mod copying;
 mod exceptions;
 mod flags;
 mod laws;
@@ -10,16 +11,18 @@ mod located;
 mod message;
 mod message_fault;
 mod part;
+mod parts;
 mod ranges;
 mod read;
 mod read_basic;
-mod read_parts;
+mod read_shared;
 mod refused;
 mod reply;
 mod request;
 mod target;
 mod write;
 
+pub use copying::read_message;
 pub use exceptions::{completion_status, system_exception_body};
 pub use flags::due_of;
 pub use laws::{framed_is_message, reads_one_way, spelled_is_read, written_is_read};
@@ -29,7 +32,8 @@ pub use located::Located;
 pub use message::Message;
 pub use message_fault::MessageFault;
 pub use orb_base::{Context, Tagged};
-pub use read::read_message;
+pub use parts::{PartTarget, Parts};
+pub use read::read_parts;
 pub use refused::Fault;
 pub use reply::Reply;
 pub use request::Request;

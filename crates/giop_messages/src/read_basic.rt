@@ -1,69 +1,52 @@
-//! Parts of a message that basic types are: numbers, counts, octets and texts.
-ghost use Rattle.std.specs.Prelude.{◌≡◌, drop};
+//! Parts of a message that basic types are: numbers, octets and texts, whose bytes are borrowed.
+ghost use Rattle.std.specs.Prelude.{◌≡◌, drop, IfOk};
 ghost use Rattle.std.specs.Int.{w8, w16, w32};
+ghost use Rattle.orb_base.specs.NulFree.{HasNoNul};
 ghost use Rattle.cdr_core.specs.Reading.{number_at, octets_at, string_at};
-ghost use Rattle.giop_messages.specs.Answers.{Gives, Answers};
+ghost use Rattle.giop_messages.specs.Answers.{Finds};
 ghost use Rattle.giop_messages.specs.MessageReading.{basic, body_from};
 
 use crate::message_fault::MessageFault;
 use cdr_core::Reader;
-use orb_base::{List, Octets, Text};
-use std::alloc::Global;
 
 /// Takes an octet.
 pub fn u8_at(reader: &mut Reader<'_>) -> Result<u8, MessageFault>
-    ensures { Gives (λ n. n) result reader.new (basic (number_at w8 reader.old)) }
+    ensures { Finds (λ n. n) result reader.new (basic (number_at w8 reader.old)) }
 {
     Ok(reader.take_u8()?)
 }
 
 /// Takes an unsigned short.
 pub fn u16_at(reader: &mut Reader<'_>) -> Result<u16, MessageFault>
-    ensures { Gives (λ n. n) result reader.new (basic (number_at w16 reader.old)) }
+    ensures { Finds (λ n. n) result reader.new (basic (number_at w16 reader.old)) }
 {
     Ok(reader.take_u16()?)
 }
 
 /// Takes an unsigned long.
 pub fn u32_at(reader: &mut Reader<'_>) -> Result<u32, MessageFault>
-    ensures { Gives (λ n. n) result reader.new (basic (number_at w32 reader.old)) }
+    ensures { Finds (λ n. n) result reader.new (basic (number_at w32 reader.old)) }
 {
     Ok(reader.take_u32()?)
 }
 
-/// A copy of the bytes.
-pub fn copied(alloc: Global, bytes: &[u8]) -> Result<Octets, MessageFault>
-    ensures { Answers (λ o. o.items) result (Ok bytes.now) }
+/// Takes an octet sequence, and gives its bytes.
+pub fn octets_at<'a>(reader: &mut Reader<'a>) -> Result<&'a [u8], MessageFault>
+    ensures { Finds (λ o. o.now) result reader.new (basic (octets_at reader.old)) }
 {
-    Ok(List::from_vec(Vec::from_slice(alloc, bytes)?))
+    Ok(reader.take_octets()?)
 }
 
-/// Takes an octet sequence. Copies its bytes once.
-pub fn octets_at(alloc: Global, reader: &mut Reader<'_>) -> Result<Octets, MessageFault>
-    ensures { Gives (λ o. o.items) result reader.new (basic (octets_at reader.old)) }
+/// Takes a string, and gives its bytes without the NUL.
+pub fn text_at<'a>(reader: &mut Reader<'a>) -> Result<&'a [u8], MessageFault>
+    ensures exact { Finds (λ t. t.now) result reader.new (basic (string_at reader.old)) }
+    ensures plain { IfOk result (λ t. HasNoNul t.now) }
 {
-    copied(alloc, reader.take_octets()?)
+    Ok(reader.take_string()?)
 }
 
-/// Takes a string. Copies its bytes once.
-pub fn text_at(alloc: Global, reader: &mut Reader<'_>) -> Result<Text, MessageFault>
-    ensures { Gives (λ t. t) result reader.new (basic (string_at reader.old)) }
-{
-    match Text::new(alloc, reader.take_string()?) {
-        Ok(text) => Ok(text),
-        Err(_) => Err(MessageFault::NoMemory),
-    }
-}
-
-/// The body of a message whose named fields end at the place. Copies its bytes once.
-pub fn body_at(alloc: Global, bytes: &[u8], place: usize) -> Result<Octets, MessageFault>
-    ensures { Answers (λ o. o.items) result (Ok (body_from place bytes.now)) }
-{
-    copied(alloc, body_in(bytes, place))
-}
-
-/// The bytes from the next multiple of 8 on.
-fn body_in(bytes: &[u8], place: usize) -> &[u8]
+/// The body of a message whose named fields end at the place: the bytes from the next multiple of 8 on.
+pub fn body_in(bytes: &[u8], place: usize) -> &[u8]
     ensures { result.now ≡ body_from place bytes.now }
 {
     let pad = (8 - place % 8) % 8;
