@@ -1,4 +1,4 @@
--- A connection that was told that nothing comes any more is owed nothing, and stays so.
+-- A connection to which a collect has answered that nothing comes any more is owed nothing, and stays so.
 use Rattle.std.proofs.Common.{◌≡◌, ℕ, ◌+◌, ◌*◌, ◌<◌, ◌≤◌, suc, zero, Bool, true, false, cond, ◌&&◌, ◌||◌, ◌==◌, List, [], ◌∷◌, ◌++◌, length, Option, Some, None, inl, inr, ◌⊎◌, sym, refl, ap, ◌∙◌, subst, arith}
 use Rattle.std.specs.Prelude.{slice_get, is_some, option_map, find, nat_le, nat_lt}
 use Rattle.std.specs.List.{sum_by}
@@ -35,26 +35,11 @@ use Rattle.lane_machine.specs.Fates.{named}
 use Rattle.lane_machine.specs.Entries.{One, of_mine, of_other, latest_push, ends_grow, along}
 use Rattle.lane_machine.specs.SeatLaws.{Known, known_step, known_first, conn_is}
 use Rattle.lane_machine.proofs.Weighs.{weigh, OfferMoves, PostMoves, CancelMoves, TakeMoves, CollectMoves, offer_moves, post_moves, cancel_moves, take_moves, finish_moves, collect_moves}
-use Rattle.lane_machine.proofs.Bounds.{owing, owed_is}
+use Rattle.lane_machine.proofs.Bounds.{owing, owed_is, early_few, refused_few, late_few}
 use Rattle.lane_laws.specs.Replies.{replies_to, handed_replies, finished_awaited}
 use Rattle.lane_laws.proofs.Replying.{replies_counted}
 
 -- ---- no call of another brings more
-
-early_few : (conn : ConnId) (d : Due) (job : Job) → sum_by (owing conn).owes (early_items d job) ≤ (owing conn).waits job
-early_few conn due.Nothing job = omega arith
-early_few conn due.Early job = omega arith
-early_few conn due.Late job = omega arith
-
-refused_few : (conn : ConnId) (d : Due) (job : Job) → sum_by (owing conn).owes (refusals d job) ≤ (owing conn).waits job
-refused_few conn due.Nothing job = omega arith
-refused_few conn due.Early job = omega arith
-refused_few conn due.Late job = omega arith
-
-late_few : (conn : ConnId) (d : Due) (answer : Answer) → sum_by (owing conn).owes (late_items d answer) ≤ (owing conn).waits answer.job
-late_few conn due.Nothing answer = omega arith
-late_few conn due.Early answer = omega arith
-late_few conn due.Late answer = omega arith
 
 offer_other : (conn : ConnId) (job : Job) (a b : ℕ) (r : LaneReply) → (owing conn).waits job ≡ 0 → OfferMoves (owing conn) job a b r → b ≤ a
 offer_other conn job a b (reply.Run t lent) z m = omega (arith, early_few conn job.due job)
@@ -91,32 +76,32 @@ collect_less conn a b r m = absurd m
 over_closing : (s : State) (size : ℕ) → s.closing ≡ true → is_over s size ≡ true
 over_closing s size e = ap (λ (b : Bool). b || nat_le s.pool.run_calls s.calls || nat_lt s.pool.run_bytes (s.bytes + size)) e
 
-begun_closing : (s : State) (t : ℕ) (thread : Thread) (d : Doing) → (begun s t thread d).0.closing ≡ s.closing
+pub begun_closing : (s : State) (t : ℕ) (thread : Thread) (d : Doing) → (begun s t thread d).0.closing ≡ s.closing
 begun_closing s t thread Free = refl
 begun_closing s t thread (Given job) = refl
 begun_closing s t thread (Busy job) = refl
 
-taken_closing : (s : State) (t : ℕ) (o : Option Thread) → (taken s t o).0.closing ≡ s.closing
+pub taken_closing : (s : State) (t : ℕ) (o : Option Thread) → (taken s t o).0.closing ≡ s.closing
 taken_closing s t (Some thread) = begun_closing s t thread thread.doing
 taken_closing s t None = refl
 
-handed_on_closing : (s : State) (t : ℕ) (thread : Thread) (at : ℕ) (o : Option Job) → (handed_on s t thread at o).closing ≡ s.closing
+pub handed_on_closing : (s : State) (t : ℕ) (thread : Thread) (at : ℕ) (o : Option Job) → (handed_on s t thread at o).closing ≡ s.closing
 handed_on_closing s t thread at (Some job) = refl
 handed_on_closing s t thread at None = refl
 
-freed_closing : (s : State) (t : ℕ) (thread : Thread) (o : Option ℕ) → (freed s t thread o).closing ≡ s.closing
+pub freed_closing : (s : State) (t : ℕ) (thread : Thread) (o : Option ℕ) → (freed s t thread o).closing ≡ s.closing
 freed_closing s t thread (Some at) = handed_on_closing s t thread at (slice_get s.waiting at)
 freed_closing s t thread None = refl
 
-finished_closing : (s : State) (t : ℕ) (answer : Answer) (o : Option Thread) → (finished s t answer o).0.closing ≡ s.closing
+pub finished_closing : (s : State) (t : ℕ) (answer : Answer) (o : Option Thread) → (finished s t answer o).0.closing ≡ s.closing
 finished_closing s t answer (Some thread) = freed_closing (answered s answer) t thread (next_job s.pool.borrowing thread.lane s.waiting)
 finished_closing s t answer None = refl
 
-handed_closing : (s : State) (at : ℕ) (o : Option Item) → (handed s at o).0.closing ≡ s.closing
+pub handed_closing : (s : State) (at : ℕ) (o : Option Item) → (handed s at o).0.closing ≡ s.closing
 handed_closing s at (Some i) = refl
 handed_closing s at None = refl
 
-shut_closing : (s : State) (conn : ConnId) (b : Bool) → (shut s conn b).0.closing ≡ s.closing
+pub shut_closing : (s : State) (conn : ConnId) (b : Bool) → (shut s conn b).0.closing ≡ s.closing
 shut_closing s conn true = refl
 shut_closing s conn false = refl
 
@@ -194,7 +179,7 @@ handed_more : (s : State) (at : ℕ) (o : Option Item) → (i : Item) → o ≡ 
 handed_more s at (Some x) i e told = absurd (cc)
 handed_more s at None i e told = none-some i e
 
--- it is told so only where nothing is owed
+-- a collect answers so only where nothing is owed
 told_at : (s : State) (c : ConnId) (o : Option ℕ) → item_place s c ≡ o → (is_some o || ((owed s c == 0) && (is_some (end_of s c) || s.closing))) ≡ true → may_collect (Some (collected s c o).1) ≡ false
     → (owed s c ≡ 0) × ((is_some (end_of s c) || s.closing) ≡ true)
 told_at s c (Some at) e r told = let x = at_place (λ (i : Item). same_conn (item_conn i) c) s.out at e in absurd (handed_more s at (slice_get s.out at) x.0 x.1 told)

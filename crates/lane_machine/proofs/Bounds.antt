@@ -49,17 +49,17 @@ owed_is s conn = refl
 mine : ConnId → Job → ℕ
 mine conn job = (owing conn).waits job
 
-early_few : (conn : ConnId) (d : Due) (job : Job) → sum_by (owing conn).owes (early_items d job) ≤ (owing conn).waits job
+pub early_few : (conn : ConnId) (d : Due) (job : Job) → sum_by (owing conn).owes (early_items d job) ≤ (owing conn).waits job
 early_few conn due.Nothing job = omega arith
 early_few conn due.Early job = omega arith
 early_few conn due.Late job = omega arith
 
-refused_few : (conn : ConnId) (d : Due) (job : Job) → sum_by (owing conn).owes (refusals d job) ≤ (owing conn).waits job
+pub refused_few : (conn : ConnId) (d : Due) (job : Job) → sum_by (owing conn).owes (refusals d job) ≤ (owing conn).waits job
 refused_few conn due.Nothing job = omega arith
 refused_few conn due.Early job = omega arith
 refused_few conn due.Late job = omega arith
 
-late_few : (conn : ConnId) (d : Due) (answer : Answer) → sum_by (owing conn).owes (late_items d answer) ≤ (owing conn).waits answer.job
+pub late_few : (conn : ConnId) (d : Due) (answer : Answer) → sum_by (owing conn).owes (late_items d answer) ≤ (owing conn).waits answer.job
 late_few conn due.Nothing answer = omega arith
 late_few conn due.Early answer = omega arith
 late_few conn due.Late answer = omega arith

@@ -41,14 +41,14 @@ abbrev IsRefusal : Job → LaneReply → Item → Type 0
 IsRefusal job r x = (x ≡ item.Transient job) × (r ≡ reply.Full) × HasReply job
 
 -- each item stood there before, or is new and of this kind
-abbrev Comes : List Item → List Item → (Item → Type 0) → Type 0
+abbrev pub Comes : List Item → List Item → (Item → Type 0) → Type 0
 Comes items items' New = (i : ℕ) (x : Item) → slice_get items' i ≡ Some x → ((k : ℕ) × (slice_get items k ≡ Some x)) ⊎ New x
 
-one_new : (New : Item → Type 0) (y : Item) → New y → (i : ℕ) (x : Item) → slice_get (y ∷ []) i ≡ Some x → New x
+pub one_new : (New : Item → Type 0) (y : Item) → New y → (i : ℕ) (x : Item) → slice_get (y ∷ []) i ≡ Some x → New x
 one_new New y new zero x g = subst New (same_Some y x g) new
 one_new New y new (suc i) x g = absurd (none-some x g)
 
-none_new : (New : Item → Type 0) (i : ℕ) (x : Item) → slice_get {X = Item} [] i ≡ Some x → New x
+pub none_new : (New : Item → Type 0) (i : ℕ) (x : Item) → slice_get {X = Item} [] i ≡ Some x → New x
 none_new New i x g = absurd (none-some x g)
 
 early_new : (d : Due) (job : Job) (i : ℕ) (x : Item) → slice_get (early_items d job) i ≡ Some x → Plain x

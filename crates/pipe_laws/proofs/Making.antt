@@ -34,6 +34,7 @@ use Rattle.pipe_laws.specs.Groups.{Group, called, folded}
 use Rattle.pipe_laws.specs.Legality.{IsHeardCall, AreHeardCalls}
 use Rattle.pipe_laws.specs.Serials.{in_front, heard_of, StopsAtClosing, PipedMakesCalls}
 use Rattle.lane_laws.proofs.Marks.{closed_push, same_self}
+use Rattle.lane_laws.proofs.Quieting.{begun_closing, taken_closing, handed_on_closing, freed_closing, finished_closing, handed_closing, shut_closing}
 use Rattle.pipe_laws.proofs.Folds.{closing_stays, groups_are_folded}
 
 -- ---- the calls of a history
@@ -67,35 +68,6 @@ silent_heard conn (Offer job) silent = absurd silent
 silent_heard conn (Post notice) silent = absurd silent
 silent_heard conn (Cancel c id) silent = absurd silent
 silent_heard conn call silent = refl
-
-begun_closing : (s : State) (t : ℕ) (thread : Thread) (d : Doing) → (begun s t thread d).0.closing ≡ s.closing
-begun_closing s t thread Free = refl
-begun_closing s t thread (Given job) = refl
-begun_closing s t thread (Busy job) = refl
-
-taken_closing : (s : State) (t : ℕ) (o : Option Thread) → (taken s t o).0.closing ≡ s.closing
-taken_closing s t (Some thread) = begun_closing s t thread thread.doing
-taken_closing s t None = refl
-
-handed_on_closing : (s : State) (t : ℕ) (thread : Thread) (at : ℕ) (o : Option JobRecord) → (handed_on s t thread at o).closing ≡ s.closing
-handed_on_closing s t thread at (Some job) = refl
-handed_on_closing s t thread at None = refl
-
-freed_closing : (s : State) (t : ℕ) (thread : Thread) (o : Option ℕ) → (freed s t thread o).closing ≡ s.closing
-freed_closing s t thread (Some at) = handed_on_closing s t thread at (slice_get s.waiting at)
-freed_closing s t thread None = refl
-
-finished_closing : (s : State) (t : ℕ) (answer : Answer) (o : Option Thread) → (finished s t answer o).0.closing ≡ s.closing
-finished_closing s t answer (Some thread) = freed_closing (answered s answer) t thread (next_job s.pool.borrowing thread.lane s.waiting)
-finished_closing s t answer None = refl
-
-handed_closing : (s : State) (at : ℕ) (o : Option Item) → (handed s at o).0.closing ≡ s.closing
-handed_closing s at (Some i) = refl
-handed_closing s at None = refl
-
-shut_closing : (s : State) (conn : ConnId) (b : Bool) → (shut s conn b).0.closing ≡ s.closing
-shut_closing s conn true = refl
-shut_closing s conn false = refl
 
 over_closing : (s : State) (conn : ConnId) (o : Option How) → (over s conn o).0.closing ≡ s.closing
 over_closing s conn (Some Quiet) = refl

@@ -54,9 +54,10 @@ abbrev pub arrived : ℕ → List Entry → List Entry
 arrived zero items = []
 arrived (suc n) items = arrived n items ++ stamped n items
 
--- the requests of all queues in order of arrival, and their stamps
+-- the requests of all queues in order of arrival
 unfoldable pub requests_of : ℕ → List (Room Entry) → List Job
 requests_of next queues = map (λ entry. entry.job) (arrived next (entries queues))
 
+-- their stamps, in the same order
 unfoldable pub stamps_of : ℕ → List (Room Entry) → List ℕ
 stamps_of next queues = map (λ entry. entry.stamp) (arrived next (entries queues))

@@ -21,6 +21,8 @@ use Rattle.lane_machine.specs.declared.call.How.TheVariants as how
 use Rattle.lane_machine.specs.declared.call.LaneCall.{LaneCall}
 use Rattle.lane_machine.specs.declared.call.LaneCall.TheVariants.{Offer, Post, Cancel, Take, Finish, Collect, End, Leave}
 use Rattle.lane_machine.specs.State.{State}
+use Rattle.lane_machine.specs.SeatLaws.{append_found}
+use Rattle.lane_machine.proofs.Refused.{Comes, one_new, none_new}
 use Rattle.orb_base.specs.declared.notice.Notice.{Notice}
 use Rattle.lane_machine.specs.Machine.{step, is_over, heard, early_items, refusals, late_items, placed, run_by, kept_or_full, may_wait, offered, posted, cancelled, withdrawn, begun, taken, answered, handed_on, freed, finished, handed, collected, over, shut, end_of, was_told, item_place}
 
@@ -37,22 +39,6 @@ NewBy call x = ⊥
 
 abbrev NoItem : Item → Type 0
 NoItem x = ⊥
-
-append_found : {X : Type 0} (xs ys : List X) (i : ℕ) (x : X) → slice_get (xs ++ ys) i ≡ Some x → ((k : ℕ) × (slice_get xs k ≡ Some x)) ⊎ ((k : ℕ) × (slice_get ys k ≡ Some x))
-append_found {X} [] ys i x g = inr (i, g)
-append_found {X} (z ∷ xs) ys zero x g = inl (0, g)
-append_found {X} (z ∷ xs) ys (suc i) x g = elim (append_found xs ys i x g) [ inl a ↦ inl (suc a.0, a.1) | inr a ↦ inr a ]
-
--- each item stood there before, or is new and of this kind
-abbrev pub Comes : List Item → List Item → (Item → Type 0) → Type 0
-Comes items items' New = (i : ℕ) (x : Item) → slice_get items' i ≡ Some x → ((k : ℕ) × (slice_get items k ≡ Some x)) ⊎ New x
-
-one_new : (New : Item → Type 0) (y : Item) → New y → (i : ℕ) (x : Item) → slice_get (y ∷ []) i ≡ Some x → New x
-one_new New y new zero x g = subst New (same_Some y x g) new
-one_new New y new (suc i) x g = absurd (none-some x g)
-
-none_new : (New : Item → Type 0) (i : ℕ) (x : Item) → slice_get {X = Item} [] i ≡ Some x → New x
-none_new New i x g = absurd (none-some x g)
 
 early_new : (d : Due) (job : Job) (i : ℕ) (x : Item) → slice_get (early_items d job) i ≡ Some x → IsOf job x
 early_new due.Early job i x g = one_new (IsOf job) (item.Early job) (inl refl) i x g

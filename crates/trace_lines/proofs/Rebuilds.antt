@@ -35,14 +35,12 @@ use Rattle.trace_lines.specs.Lines.{line_of, action_of, offer_reply_of, run_as, 
 use Rattle.trace_lines.specs.Offers as offers_of
 use Rattle.trace_lines.specs.ReadBack.{notice_of, answer_of, with_job, finish_by, given_by, handed_by, reply_of_offer, reply_of_post, reply_of_cancel, call_by, reply_by, entries_after, last_len, len_after}
 use Rattle.trace_lines.specs.Plain.{plain, plain_item, plain_call, plain_reply, plain_entry}
+use Rattle.lane_machine.specs.SeatLaws.{conn_is}
 use Rattle.lane_machine.specs.Fates.{named, finishes, finished}
 use Rattle.thread_borrowing.proofs.Places.{at_place}
 use Rattle.lane_machine.proofs.Known.{AreKnown, If, Offers, step_known, IsTaken, taken_takes}
 use Rattle.trace_lines.proofs.Items.{NewBy, step_out}
 use Rattle.trace_lines.proofs.Offered.{Among, AllAmong, plain_there, one_number, offered_parts, conn_itself}
-
-conn_is : (a b : ConnId) → same_conn a b ≡ true → a ≡ b
-conn_is a b e = let h = and_parts (a.slot == b.slot) (a.nth == b.nth) e in let x = eqb-true a.slot b.slot h.0 in let y = eqb-true a.nth b.nth h.1 in λ i. record { slot = x i; nth = y i }
 
 last_push : (k len : ℕ) (ls : List TraceLine) (l : TraceLine) → last_len k len (ls ++ l ∷ []) ≡ len_after k (last_len k len ls) l.action
 last_push k len [] l = refl
