@@ -17,6 +17,12 @@ pub pipe_joined_reads : (file number : Text)
 unfolding reading uses has_no_stray_dash
 pipe_joined_reads file number = refl
 
+pub pipe_traced_reads : (file number : Text)
+    → reading pipe_items (codes "--trace" ∷ (codes "--batch=" ++ number) ∷ (codes "--config=" ++ file) ∷ [])
+    ≡ Some ((codes "trace", None) ∷ (codes "batch", Some number) ∷ (codes "config", Some file) ∷ [])
+unfolding reading uses has_no_stray_dash
+pipe_traced_reads file number = refl
+
 pub serve_reads : (file place : Text) → form_of file ≡ plain → form_of place ≡ plain
     → reading serve_items (codes "--config" ∷ file ∷ codes "--listen" ∷ place ∷ [])
     ≡ Some ((codes "config", Some file) ∷ (codes "listen", Some place) ∷ [])

@@ -12,9 +12,11 @@ may_have kind name = record { name = name; kind = kind; is_due = false }
 abbrev pub must_have : Kind → Text → Item
 must_have kind name = record { name = name; kind = kind; is_due = true }
 
--- `pipe [--config FILE] [--batch N] [--history]`
+-- `pipe [--config FILE] [--batch N] [--history] [--trace]`
 abbrev pub pipe_items : List Item
-pipe_items = may_have Valued (codes "config") ∷ may_have Valued (codes "batch") ∷ may_have Switch (codes "history") ∷ []
+pipe_items =
+    may_have Valued (codes "config") ∷ may_have Valued (codes "batch") ∷ may_have Switch (codes "history") ∷ may_have Switch (codes "trace")
+    ∷ []
 
 -- `serve --config FILE --listen HOST:PORT`
 abbrev pub serve_items : List Item

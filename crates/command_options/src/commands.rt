@@ -11,8 +11,8 @@ use orb_base::NoMemory;
 use std::alloc::Global;
 use std::convert::AsStr;
 
-// `pipe [--config FILE] [--batch N] [--history]`
-static PIPE: [Item<'static>; 3] = [
+// `pipe [--config FILE] [--batch N] [--history] [--trace]`
+static PIPE: [Item<'static>; 4] = [
     Item {
         name: "config",
         kind: Kind::Valued,
@@ -25,6 +25,11 @@ static PIPE: [Item<'static>; 3] = [
     },
     Item {
         name: "history",
+        kind: Kind::Switch,
+        is_due: false,
+    },
+    Item {
+        name: "trace",
         kind: Kind::Switch,
         is_due: false,
     },
@@ -68,7 +73,7 @@ static IDL: [Item<'static>; 1] = [Item {
     is_due: true,
 }];
 
-/// What the words after `pipe` give, which are `[--config FILE] [--batch N] [--history]` in any order.
+/// What the words after `pipe` give, which are `[--config FILE] [--batch N] [--history] [--trace]` in any order.
 /// None where the words have no reading.
 pub fn read_pipe<'a, S: AsStr>(
     alloc: Global,

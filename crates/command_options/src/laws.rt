@@ -29,6 +29,9 @@ pub fn commands_are_read_as_written()
     ensures pipe_joined { (file number : Text)
         → reading pipe_items (codes "--history" ∷ (codes "--batch=" ++ number) ∷ (codes "--config=" ++ file) ∷ [])
         ≡ Some ((codes "history", None) ∷ (codes "batch", Some number) ∷ (codes "config", Some file) ∷ []) }
+    ensures pipe_traced { (file number : Text)
+        → reading pipe_items (codes "--trace" ∷ (codes "--batch=" ++ number) ∷ (codes "--config=" ++ file) ∷ [])
+        ≡ Some ((codes "trace", None) ∷ (codes "batch", Some number) ∷ (codes "config", Some file) ∷ []) }
     ensures serve { (file place : Text) → form_of file ≡ plain → form_of place ≡ plain
         → reading serve_items (codes "--config" ∷ file ∷ codes "--listen" ∷ place ∷ [])
         ≡ Some ((codes "config", Some file) ∷ (codes "listen", Some place) ∷ []) }

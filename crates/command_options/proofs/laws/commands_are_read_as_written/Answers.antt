@@ -1,10 +1,11 @@
-use Rattle.command_options.proofs.Written.{pipe_reads, pipe_joined_reads, serve_reads, serve_joined_reads, refs_reads, refs_joined_reads, idl_reads, idl_joined_reads}
+use Rattle.command_options.proofs.Written.{pipe_reads, pipe_joined_reads, pipe_traced_reads, serve_reads, serve_joined_reads, refs_reads, refs_joined_reads, idl_reads, idl_joined_reads}
 use Rattle.command_options.proofs.laws.commands_are_read_as_written.Goals as goal
 
 pub returns : goal.returns
 returns c = record {
   pipe = λ file number file_plain number_plain. pipe_reads file number file_plain number_plain;
   pipe_joined = λ file number. pipe_joined_reads file number;
+  pipe_traced = λ file number. pipe_traced_reads file number;
   serve = λ file place file_plain place_plain. serve_reads file place file_plain place_plain;
   serve_joined = λ file place. serve_joined_reads file place;
   refs = λ place file place_plain file_plain. refs_reads place file place_plain file_plain;
