@@ -87,5 +87,5 @@ built_in_has_servants (fault.Absent role.Idl) old new h = absurd h.0
 built_in_has_servants (fault.Absent role.Scripts) old new h = absurd h.1
 built_in_has_servants (fault.TooLong role.Idl) old new h = absurd h.0
 built_in_has_servants (fault.TooLong role.Scripts) old new h = absurd h.1
-built_in_has_servants fault.ReadFault old new h = elim h.0 [ inl n ↦ absurd (unnamed n) | inr n ↦ absurd (unnamed n) ]
+built_in_has_servants fault.ReadFault old new h = elim h.0 [ inl n ↦ absurd (unnamed n) | inr n ↦ absurd (unnamed n.1) ]
 built_in_has_servants fault.NoMemory old new h = refl

@@ -65,7 +65,7 @@ not_here (fault.Absent role.Scripts) setup r old new idl h = (record { things = 
 not_here (fault.TooLong role.Scripts) setup r old new idl h = (record { things = things_of r; interfaces = idl.0 }, h.0, h.1)
 not_here (fault.Absent role.Idl) setup r old new idl h = absurd h
 not_here (fault.TooLong role.Idl) setup r old new idl h = absurd h
-not_here fault.ReadFault setup r old new idl h = (inr h.0, h.1)
+not_here fault.ReadFault setup r old new idl h = (inr (record { things = things_of r; interfaces = idl.0 }, h.0), h.1)
 not_here fault.NoMemory setup r old new idl h = h
 not_here (fault.Idl f) setup r old new idl h = absurd h
 not_here (fault.Check f) setup r old new idl h = absurd h

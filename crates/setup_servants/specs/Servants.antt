@@ -52,9 +52,9 @@ pub record BothGive (files : FilesState) (setup : SetupData) (answer : Result Se
   pub scripts : ScriptsGive files setup.scripts (Ok said)
   pub serves : Serves answer setup things said
 
--- the setup names a file for one of its texts
-abbrev pub NamesFile : SetupData → Type 0
-NamesFile setup = IsSome setup.idl ⊎ IsSome setup.scripts
+-- a file that may have failed to be read is named: that of the interfaces, or, once these were read, that of the scripts
+abbrev pub FailsReading : FilesState → SetupData → Type 0
+FailsReading files setup = IsSome setup.idl ⊎ (HasInterfaces files setup × IsSome setup.scripts)
 
 -- the servants of a setup whose texts are in these files, or the first fault in the order of work, and how often a read failed
 abbrev pub GivesServants : Result Servants ServingFault → SetupData → FilesState → FilesState → Type 0
@@ -70,5 +70,5 @@ GivesServants (Err (fault.Absent role.Scripts)) setup old new =
 GivesServants (Err (fault.TooLong role.Idl)) setup old new = IsTooLong old setup.idl × (new.faults ≡ old.faults)
 GivesServants (Err (fault.TooLong role.Scripts)) setup old new =
     HasInterfaces old setup × IsTooLong old setup.scripts × (new.faults ≡ old.faults)
-GivesServants (Err fault.ReadFault) setup old new = NamesFile setup × Rose old.faults new.faults
+GivesServants (Err fault.ReadFault) setup old new = FailsReading old setup × Rose old.faults new.faults
 GivesServants (Err fault.NoMemory) setup old new = new.faults ≡ old.faults

@@ -289,6 +289,14 @@ const UNREAD: &[(Content, Content, &[u64], Due)] = &[
         &[1],
         Due::Unread,
     ),
+    // The interfaces are read first, and the scripts aren't read where these are refused.
+    (
+        Content::Bytes(BAD_IDL),
+        Content::Bytes(SCRIPT),
+        &[0],
+        Due::Unread,
+    ),
+    (Content::Bytes(BAD_IDL), Content::Bytes(SCRIPT), &[1], GONE),
 ];
 
 fn all_unread(alloc: Global) -> bool {
