@@ -1,13 +1,15 @@
 -- What is shown of the run of a stream.
-use Rattle.std.proofs.Common.{◌≡◌, ◌⊎◌, inl, inr, ℕ, Bool, true, false, List, [], ◌++◌, Option, Some, Ok, Err, sym, ap, ◌∙◌, subst, arith}
-use Rattle.std.specs.Prelude.{option_map, unwrap_or}
+use Rattle.std.proofs.Common.{◌≡◌, inl, inr, ℕ, Bool, true, false, List, [], ◌++◌, Option, Some, Ok, Err, sym, ap, ◌∙◌, subst, arith}
+use Rattle.std.specs.Prelude.{option_map, unwrap_or, Result, OnErr}
 use Rattle.orb_base.specs.JobRecord.{JobRecord}
 use Rattle.orb_base.specs.Outside.{SourceState, SinkState, Rose}
 use Rattle.orb_base.specs.declared.no_memory.NoMemory.{NoMemory}
 use Rattle.orb_base.specs.declared.outcome.Outcome.{Outcome}
 use Rattle.lane_machine.specs.Histories.{History}
-use Rattle.history_lines.specs.Lines.{history_text}
 use Rattle.text_streams.specs.Streams.{WroteText, WroteFrontOf}
+use Rattle.text_streams.specs.declared.writing.WriteAll.{WriteAll}
+use Rattle.trace_lines.specs.Texts.{trace_text}
+use Rattle.trace_lines.specs.Writing.{WritesText}
 use Rattle.adapter_policies.specs.SetupData.{SetupData}
 use Rattle.conn_engine.specs.Reads.{FaultsAt}
 use Rattle.conn_engine.specs.Streams.{IsRunOf, RunsBytes, RunsStream}
@@ -15,9 +17,10 @@ use Rattle.conn_engine.specs.declared.read_end.ReadEnd.{ReadEnd}
 use Rattle.conn_engine.specs.declared.read_end.ReadEnd.TheVariants as read
 use Rattle.conn_engine.specs.declared.stream_end.StreamEnd.{StreamEnd}
 use Rattle.conn_engine.specs.declared.stream_end.StreamEnd.TheVariants as end
-use Rattle.pipe_runs.specs.Pipe.{Showed, ShowedUpToLast, FailedReading, MayFail, ShowsRun, Pipes}
+use Rattle.pipe_runs.specs.Pipe.{shown_of, IsLines, Showed, ShowedUpToLast, ShowedSomeLines, StopsShowing, BeganLines, BeganShowing, FailedReading, MayFail, ShowsRun, Pipes}
 use Rattle.pipe_runs.specs.declared.piped.Piped.{Piped}
-use Rattle.pipe_runs.specs.declared.shown.Shown.TheVariants.{Bytes, Text}
+use Rattle.pipe_runs.specs.declared.shown.Shown.{Shown}
+use Rattle.pipe_runs.specs.declared.shown.Shown.TheVariants.{Bytes, Text, Trace}
 
 -- the history that was kept is that of the run
 kept_is : (entries history : History) (log' : Option History) → log' ≡ option_map (λ h. h ++ entries) (Some []) → history ≡ unwrap_or log' [] → entries ≡ history
@@ -44,6 +47,35 @@ faults_with read.ReadFault old new out out' h none = (h, none)
 never_rose : (a b : ℕ) → a ≡ 0 → b ≡ 0 → Rose a b → ⊥
 never_rose a b none still rose = omega (arith, rose)
 
+-- a prefix of the trace was written where memory ran out over it
+pub trace_began : (shown : Shown) (setup : SetupData) (h : History) (r : Result WriteAll NoMemory) (out out' : SinkState) → shown ≡ Trace
+    → WritesText r (trace_text setup.pool setup.slots setup.per_slot h) out out' → OnErr r (BeganLines shown setup h out out')
+trace_began shown setup h (Ok written) out out' is wrote = tt
+trace_began shown setup h (Err e) out out' is wrote = subst (λ (s : Shown). BeganLines s setup h out out') (sym is) wrote
+
+-- lines are no bytes
+stops_by : (shown : Shown) → IsLines shown → (setup : SetupData) (outcome : List ℕ → JobRecord → Outcome) (batch : ℕ) (earlier bytes : List ℕ) (ended : Bool)
+    (history : History) (old new : SourceState) (out out' : SinkState) → ShowedSomeLines shown setup outcome batch earlier bytes ended history old new out out'
+    → StopsShowing shown setup outcome batch earlier bytes ended history old new out out'
+stops_by Bytes lines setup outcome batch earlier bytes ended history old new out out' h = absurd lines
+stops_by Text lines setup outcome batch earlier bytes ended history old new out out' h = h
+stops_by Trace lines setup outcome batch earlier bytes ended history old new out out' h = h
+
+began_by : (shown : Shown) (setup : SetupData) (outcome : List ℕ → JobRecord → Outcome) (batch : ℕ) (earlier bytes : List ℕ) (ended : Bool)
+    (history : History) (end : ReadEnd) (closing : Bool) (out out' : SinkState) → IsRunOf setup outcome batch earlier bytes ended end closing history
+    → BeganLines shown setup history out out' → BeganShowing shown setup outcome batch earlier bytes ended out out'
+began_by Bytes setup outcome batch earlier bytes ended history end closing out out' run began = absurd began
+began_by Text setup outcome batch earlier bytes ended history end closing out out' run began = began
+began_by Trace setup outcome batch earlier bytes ended history end closing out out' run began =
+    inr (record { end = end; closing = closing; history = history; run = run; wrote = began })
+
+-- nothing is written where memory ran out in the run
+nothing_by : (shown : Shown) → IsLines shown → (setup : SetupData) (outcome : List ℕ → JobRecord → Outcome) (batch : ℕ) (earlier bytes : List ℕ) (ended : Bool)
+    (out out' : SinkState) → out' ≡ out → BeganShowing shown setup outcome batch earlier bytes ended out out'
+nothing_by Bytes lines setup outcome batch earlier bytes ended out out' same = inl same
+nothing_by Text lines setup outcome batch earlier bytes ended out out' same = same
+nothing_by Trace lines setup outcome batch earlier bytes ended out out' same = inl same
+
 module _ (setup : SetupData) (outcome : List ℕ → JobRecord → Outcome) (batch : ℕ) (earlier bytes : List ℕ) (ended : Bool) (old new : SourceState) where
   -- ---- the bytes
 
@@ -60,49 +92,67 @@ module _ (setup : SetupData) (outcome : List ℕ → JobRecord → Outcome) (bat
       let same = kept_is h.0.entries history log' h.0.logged is in
       (subst (λ (x : History). ShowedUpToLast setup outcome batch earlier bytes ended x out out') same (record { run = h.0.run; wrote = h.0.wrote }), h.1, h.2)
 
-  -- ---- the text
+module _ (shown : Shown) (lines : IsLines shown) (setup : SetupData) (outcome : List ℕ → JobRecord → Outcome) (batch : ℕ) (earlier bytes : List ℕ) (ended : Bool)
+    (old new : SourceState) where
+  -- ---- the lines
 
-  text_came : (comes : StreamEnd) (log' : Option History) (history : History) (nowhere nowhere' out out' : SinkState) → history ≡ unwrap_or log' []
+  lines_came : (comes : StreamEnd) (log' : Option History) (history : History) (nowhere nowhere' out out' : SinkState) → history ≡ unwrap_or log' []
       → nowhere.faults ≡ 0 → nowhere'.faults ≡ 0 → RunsBytes (Ok comes) setup outcome batch earlier bytes ended old new (Some []) log' nowhere nowhere'
-      → WroteText (history_text history) out out' → out'.faults ≡ out.faults
-      → ShowsRun comes history Text setup outcome batch earlier bytes ended old new out out'
-  text_came (end.Ended out_so) log' history nowhere nowhere' out out' is none still h wrote faults =
+      → WroteText (shown_of shown setup history) out out' → out'.faults ≡ out.faults
+      → ShowsRun comes history shown setup outcome batch earlier bytes ended old new out out'
+  lines_came (end.Ended out_so) log' history nowhere nowhere' out out' is none still h wrote faults =
       let same = kept_is h.0.entries history log' h.0.logged is in (
         record { run = subst (λ (x : History). IsRunOf setup outcome batch earlier bytes ended out_so false x) same h.0.run; wrote = wrote },
         faults_with out_so old new out out' (reads_of out_so old new nowhere nowhere' h.1) faults,
       )
-  text_came end.Closed log' history nowhere nowhere' out out' is none still h wrote faults =
+  lines_came end.Closed log' history nowhere nowhere' out out' is none still h wrote faults =
       let same = kept_is h.0.1.entries history log' h.0.1.logged is in (
         (h.0.0, record { run = subst (λ (x : History). IsRunOf setup outcome batch earlier bytes ended h.0.0 true x) same h.0.1.run; wrote = wrote }),
         (h.1.0, faults),
       )
-  text_came end.WriteFault log' history nowhere nowhere' out out' is none still h wrote faults = absurd (never_rose nowhere.faults nowhere'.faults none still h.2)
+  lines_came end.WriteFault log' history nowhere nowhere' out out' is none still h wrote faults = absurd (never_rose nowhere.faults nowhere'.faults none still h.2)
 
-  text_stopped : (comes : StreamEnd) (log' : Option History) (history : History) (nowhere nowhere' out out' : SinkState) → history ≡ unwrap_or log' []
+  stops : (history : History) (out out' : SinkState) → ShowedSomeLines shown setup outcome batch earlier bytes ended history old new out out'
+      → StopsShowing shown setup outcome batch earlier bytes ended history old new out out'
+  stops history out out' = stops_by shown lines setup outcome batch earlier bytes ended history old new out out'
+
+  lines_stopped : (comes : StreamEnd) (log' : Option History) (history : History) (nowhere nowhere' out out' : SinkState) → history ≡ unwrap_or log' []
       → nowhere.faults ≡ 0 → nowhere'.faults ≡ 0 → RunsBytes (Ok comes) setup outcome batch earlier bytes ended old new (Some []) log' nowhere nowhere'
-      → WroteFrontOf (history_text history) out out' → Rose out.faults out'.faults
-      → ShowsRun end.WriteFault history Text setup outcome batch earlier bytes ended old new out out'
-  text_stopped (end.Ended out_so) log' history nowhere nowhere' out out' is none still h wrote rose =
+      → WroteFrontOf (shown_of shown setup history) out out' → Rose out.faults out'.faults
+      → ShowsRun end.WriteFault history shown setup outcome batch earlier bytes ended old new out out'
+  lines_stopped (end.Ended out_so) log' history nowhere nowhere' out out' is none still h wrote rose =
       let same = kept_is h.0.entries history log' h.0.logged is in
       let reads = reads_of out_so old new nowhere nowhere' h.1 in (
-        record { end = out_so; closing = false; run = subst (λ (x : History). IsRunOf setup outcome batch earlier bytes ended out_so false x) same h.0.run; wrote = wrote; reads = reads },
+        stops history out out' (record { end = out_so; closing = false; run = subst (λ (x : History). IsRunOf setup outcome batch earlier bytes ended out_so false x) same h.0.run; wrote = wrote; reads = reads }),
         may_fail out_so old new reads,
         rose,
       )
-  text_stopped end.Closed log' history nowhere nowhere' out out' is none still h wrote rose =
+  lines_stopped end.Closed log' history nowhere nowhere' out out' is none still h wrote rose =
       let same = kept_is h.0.1.entries history log' h.0.1.logged is in (
-        record { end = h.0.0; closing = true; run = subst (λ (x : History). IsRunOf setup outcome batch earlier bytes ended h.0.0 true x) same h.0.1.run; wrote = wrote; reads = h.1.0 },
+        stops history out out' (record { end = h.0.0; closing = true; run = subst (λ (x : History). IsRunOf setup outcome batch earlier bytes ended h.0.0 true x) same h.0.1.run; wrote = wrote; reads = h.1.0 }),
         inl h.1.0,
         rose,
       )
-  text_stopped end.WriteFault log' history nowhere nowhere' out out' is none still h wrote rose = absurd (never_rose nowhere.faults nowhere'.faults none still h.2)
+  lines_stopped end.WriteFault log' history nowhere nowhere' out out' is none still h wrote rose = absurd (never_rose nowhere.faults nowhere'.faults none still h.2)
 
-  -- memory was wanting for the text
-  text_wanting : (comes : StreamEnd) (log' : Option History) (nowhere nowhere' : SinkState) → nowhere.faults ≡ 0 → nowhere'.faults ≡ 0
-      → RunsBytes (Ok comes) setup outcome batch earlier bytes ended old new (Some []) log' nowhere nowhere' → MayFail old new
-  text_wanting (end.Ended out_so) log' nowhere nowhere' none still h = may_fail out_so old new (reads_of out_so old new nowhere nowhere' h.1)
-  text_wanting end.Closed log' nowhere nowhere' none still h = inl h.1.0
-  text_wanting end.WriteFault log' nowhere nowhere' none still h = h.1
+  -- memory ran out over the lines
+  lines_began : (comes : StreamEnd) (log' : Option History) (history : History) (nowhere nowhere' out out' : SinkState) → history ≡ unwrap_or log' []
+      → nowhere.faults ≡ 0 → nowhere'.faults ≡ 0 → RunsBytes (Ok comes) setup outcome batch earlier bytes ended old new (Some []) log' nowhere nowhere'
+      → BeganLines shown setup history out out'
+      → BeganShowing shown setup outcome batch earlier bytes ended out out' × MayFail old new
+  lines_began (end.Ended out_so) log' history nowhere nowhere' out out' is none still h began =
+      let same = kept_is h.0.entries history log' h.0.logged is in (
+        began_by shown setup outcome batch earlier bytes ended history out_so false out out'
+            (subst (λ (x : History). IsRunOf setup outcome batch earlier bytes ended out_so false x) same h.0.run) began,
+        may_fail out_so old new (reads_of out_so old new nowhere nowhere' h.1),
+      )
+  lines_began end.Closed log' history nowhere nowhere' out out' is none still h began =
+      let same = kept_is h.0.1.entries history log' h.0.1.logged is in (
+        began_by shown setup outcome batch earlier bytes ended history h.0.0 true out out'
+            (subst (λ (x : History). IsRunOf setup outcome batch earlier bytes ended h.0.0 true x) same h.0.1.run) began,
+        inl h.1.0,
+      )
+  lines_began end.WriteFault log' history nowhere nowhere' out out' is none still h began = absurd (never_rose nowhere.faults nowhere'.faults none still h.2)
 
 module _ (setup : SetupData) (outcome : List ℕ → JobRecord → Outcome) (batch : ℕ) (old new : SourceState) where
   pub bytes_shown : (ran : Piped) (log' : Option History) (out out' : SinkState) → ran.history.items ≡ unwrap_or log' []
@@ -119,41 +169,49 @@ module _ (setup : SetupData) (outcome : List ℕ → JobRecord → Outcome) (bat
       → RunsStream (Err e) setup outcome batch old new log log' out out' → Pipes (Err f) Bytes setup outcome batch old new out out'
   bytes_begun e f log log' out out' h = record { bytes = h.bytes; earlier = h.earlier; ended = h.ended; takes = h.takes; came = h.came }
 
-  pub text_shown : (ran : Piped) (log' : Option History) (nowhere nowhere' out out' : SinkState) → ran.history.items ≡ unwrap_or log' []
+module _ (shown : Shown) (lines : IsLines shown) (setup : SetupData) (outcome : List ℕ → JobRecord → Outcome) (batch : ℕ) (old new : SourceState) where
+  pub lines_shown : (ran : Piped) (log' : Option History) (nowhere nowhere' out out' : SinkState) → ran.history.items ≡ unwrap_or log' []
       → nowhere.faults ≡ 0 → nowhere'.faults ≡ 0 → RunsStream (Ok ran.end) setup outcome batch old new (Some []) log' nowhere nowhere'
-      → WroteText (history_text ran.history.items) out out' → out'.faults ≡ out.faults → Pipes (Ok ran) Text setup outcome batch old new out out'
-  text_shown ran log' nowhere nowhere' out out' is none still h wrote faults = record {
+      → WroteText (shown_of shown setup ran.history.items) out out' → out'.faults ≡ out.faults → Pipes (Ok ran) shown setup outcome batch old new out out'
+  lines_shown ran log' nowhere nowhere' out out' is none still h wrote faults = record {
     bytes = h.bytes;
     earlier = h.earlier;
     ended = h.ended;
     takes = h.takes;
-    came = text_came setup outcome batch h.earlier h.bytes h.ended old new ran.end log' ran.history.items nowhere nowhere' out out' is none still h.came wrote faults;
+    came = lines_came shown lines setup outcome batch h.earlier h.bytes h.ended old new ran.end log' ran.history.items nowhere nowhere' out out' is none still h.came wrote faults;
   }
 
-  pub front_shown : (ran : Piped) (log' : Option History) (nowhere nowhere' out out' : SinkState) → ran.history.items ≡ unwrap_or log' []
+  pub some_shown : (ran : Piped) (log' : Option History) (nowhere nowhere' out out' : SinkState) → ran.history.items ≡ unwrap_or log' []
       → nowhere.faults ≡ 0 → nowhere'.faults ≡ 0 → RunsStream (Ok ran.end) setup outcome batch old new (Some []) log' nowhere nowhere'
-      → WroteFrontOf (history_text ran.history.items) out out' → Rose out.faults out'.faults
-      → Pipes (Ok (record ran { end = end.WriteFault })) Text setup outcome batch old new out out'
-  front_shown ran log' nowhere nowhere' out out' is none still h wrote rose = record {
+      → WroteFrontOf (shown_of shown setup ran.history.items) out out' → Rose out.faults out'.faults
+      → Pipes (Ok (record ran { end = end.WriteFault })) shown setup outcome batch old new out out'
+  some_shown ran log' nowhere nowhere' out out' is none still h wrote rose = record {
     bytes = h.bytes;
     earlier = h.earlier;
     ended = h.ended;
     takes = h.takes;
-    came = text_stopped setup outcome batch h.earlier h.bytes h.ended old new ran.end log' ran.history.items nowhere nowhere' out out' is none still h.came wrote rose;
+    came = lines_stopped shown lines setup outcome batch h.earlier h.bytes h.ended old new ran.end log' ran.history.items nowhere nowhere' out out' is none still h.came wrote rose;
   }
 
-  -- memory was wanting in the run
+  -- memory ran out in the run
   pub none_shown : (e f : NoMemory) (log log' : Option History) (nowhere nowhere' out out' : SinkState) → out' ≡ out
-      → RunsStream (Err e) setup outcome batch old new log log' nowhere nowhere' → Pipes (Err f) Text setup outcome batch old new out out'
-  none_shown e f log log' nowhere nowhere' out out' same h = record { bytes = h.bytes; earlier = h.earlier; ended = h.ended; takes = h.takes; came = (same, h.came.1) }
-
-  -- memory was wanting for the text
-  pub none_written : (comes : StreamEnd) (f : NoMemory) (log' : Option History) (nowhere nowhere' out out' : SinkState) → nowhere.faults ≡ 0 → nowhere'.faults ≡ 0 → out' ≡ out
-      → RunsStream (Ok comes) setup outcome batch old new (Some []) log' nowhere nowhere' → Pipes (Err f) Text setup outcome batch old new out out'
-  none_written comes f log' nowhere nowhere' out out' none still same h = record {
+      → RunsStream (Err e) setup outcome batch old new log log' nowhere nowhere' → Pipes (Err f) shown setup outcome batch old new out out'
+  none_shown e f log log' nowhere nowhere' out out' same h = record {
     bytes = h.bytes;
     earlier = h.earlier;
     ended = h.ended;
     takes = h.takes;
-    came = (same, text_wanting setup outcome batch h.earlier h.bytes h.ended old new comes log' nowhere nowhere' none still h.came);
+    came = (nothing_by shown lines setup outcome batch h.earlier h.bytes h.ended out out' same, h.came.1);
+  }
+
+  -- memory ran out over the lines
+  pub few_shown : (comes : StreamEnd) (f : NoMemory) (log' : Option History) (history : History) (nowhere nowhere' out out' : SinkState) → history ≡ unwrap_or log' []
+      → nowhere.faults ≡ 0 → nowhere'.faults ≡ 0 → BeganLines shown setup history out out'
+      → RunsStream (Ok comes) setup outcome batch old new (Some []) log' nowhere nowhere' → Pipes (Err f) shown setup outcome batch old new out out'
+  few_shown comes f log' history nowhere nowhere' out out' is none still began h = record {
+    bytes = h.bytes;
+    earlier = h.earlier;
+    ended = h.ended;
+    takes = h.takes;
+    came = lines_began shown lines setup outcome batch h.earlier h.bytes h.ended old new comes log' history nowhere nowhere' out out' is none still h.came began;
   }

@@ -1,9 +1,8 @@
 //! The pipe: one connection, read from a source and answered to a sink.
 ghost use Rattle.std.specs.Prelude.{◌≡◌, ◌≤◌, [], unwrap_or, IfOk, OnErr};
-ghost use Rattle.history_lines.specs.Lines.{history_text as history_text_of};
 ghost use Rattle.text_streams.specs.Streams.{WritesAll};
 ghost use Rattle.pipe_runs.specs.Pipe as Spec;
-ghost use Rattle.pipe_runs.specs.declared.shown.Shown.TheVariants.{Bytes, Text};
+ghost use Rattle.pipe_runs.specs.declared.shown.Shown.TheVariants.{Bytes};
 
 use crate::batch::Batch;
 use crate::piped::Piped;
@@ -15,6 +14,7 @@ use lane_driver::{Log, Noted};
 use orb_base::{CountingSink, List, NoMemory, Serving, Sink, Source};
 use std::alloc::Global;
 use text_streams::{WriteAll, write_all};
+use trace_lines::write_trace;
 
 /// The history that was kept; the empty one where none was.
 fn kept_of(alloc: Global, log: Log) -> List<Noted>
@@ -26,17 +26,34 @@ fn kept_of(alloc: Global, log: Log) -> List<Noted>
     }
 }
 
-/// Writes the text of a history.
-fn write_history<O: Sink>(
+/// Writes the lines of a history.
+#[tactic(auto, using(crate::proofs::Showing::trace_began))]
+fn write_lines<O: Sink>(
     alloc: Global,
     sink: &mut O,
+    setup: &Setup,
+    shown: Shown,
     history: &[Noted],
 ) -> Result<WriteAll, NoMemory>
-    ensures written { IfOk result (λ w. WritesAll w (history_text_of history.now) (O.state sink.old) (O.state sink.new)) }
-    ensures wanting { OnErr result (O.state sink.new ≡ O.state sink.old) }
+    requires lines { Spec.IsLines shown }
+    ensures written { IfOk result (λ w. WritesAll w (Spec.shown_of shown setup.now history.now) (O.state sink.old) (O.state sink.new)) }
+    ensures began { OnErr result (Spec.BeganLines shown setup.now history.now (O.state sink.old) (O.state sink.new)) }
 {
-    let text = history_text(alloc, history)?;
-    Ok(write_all(sink, text.as_bytes()))
+    match shown {
+        Shown::Bytes => unreachable!(),
+        Shown::Text => {
+            let text = history_text(alloc, history)?;
+            Ok(write_all(sink, text.as_bytes()))
+        }
+        Shown::Trace => write_trace(
+            alloc,
+            sink,
+            setup.pool(),
+            setup.slots(),
+            setup.per_slot(),
+            history,
+        ),
+    }
 }
 
 /// Runs a stream, and writes the bytes that its history says.
@@ -58,17 +75,19 @@ fn run_as_bytes<I: Source, O: Sink, S: Serving>(
     Ok(Piped { end, history })
 }
 
-/// Runs a stream, and writes the text of its history in place of the bytes.
-fn run_as_text<I: Source, O: Sink, S: Serving>(
+/// Runs a stream, and writes the lines of its history in place of the bytes.
+fn run_as_lines<I: Source, O: Sink, S: Serving>(
     alloc: Global,
     setup: &Setup,
     servants: &S,
     batch: u8,
+    shown: Shown,
     source: &mut I,
     sink: &mut O,
 ) -> Result<Piped, NoMemory>
     requires batch { 1 ≤ batch }
-    ensures { Spec.Pipes result Text setup.now (S.outcome servants.now) batch (I.state source.old) (I.state source.new)
+    requires lines { Spec.IsLines shown }
+    ensures { Spec.Pipes result shown setup.now (S.outcome servants.now) batch (I.state source.old) (I.state source.new)
         (O.state sink.old) (O.state sink.new) }
 {
     let mut log = Log::kept(alloc);
@@ -83,7 +102,7 @@ fn run_as_text<I: Source, O: Sink, S: Serving>(
         &mut nowhere,
     )?;
     let history = kept_of(alloc, log);
-    match write_history(alloc, sink, history.as_slice())? {
+    match write_lines(alloc, sink, setup, shown, history.as_slice())? {
         WriteAll::Whole => Ok(Piped { end, history }),
         WriteAll::Failed => Ok(Piped {
             end: StreamEnd::WriteFault,
@@ -93,8 +112,8 @@ fn run_as_text<I: Source, O: Sink, S: Serving>(
 }
 
 /// Runs the pipe of a setup: reads the stream piece by piece, runs it in groups of `batch` calls, and writes the bytes that its history
-/// says while it runs, or the text of its history behind it. The history is answered, whatever the end: how the reading came out, at
-/// the latest behind `conn_engine::MAX_TAKEN` bytes, or that a limit of the run was met, or that a write failed. Where the text could
+/// says while it runs, or the lines of its history after it. The history is answered, whatever the end: how the reading came out, at
+/// the latest after `conn_engine::MAX_TAKEN` bytes, or that a limit of the run was met, or that a write failed. Where the lines could
 /// not be written whole, that goes before how the run came out. It returns where each read and write returns. Memory grows with the machine's
 /// limits, the unfinished messages and the history; the work is that of hearing, and for each call that of one step of the machine.
 pub fn pipe_run<I: Source, O: Sink, S: Serving>(
@@ -112,6 +131,8 @@ pub fn pipe_run<I: Source, O: Sink, S: Serving>(
     let calls = batch.calls();
     match shown {
         Shown::Bytes => run_as_bytes(alloc, setup, servants, calls, source, sink),
-        Shown::Text => run_as_text(alloc, setup, servants, calls, source, sink),
+        Shown::Text | Shown::Trace => {
+            run_as_lines(alloc, setup, servants, calls, shown, source, sink)
+        }
     }
 }

@@ -7,4 +7,6 @@ pub enum Shown {
     Bytes,
     /// Its text, a line for each of its calls.
     Text,
+    /// Its trace, for an audit: the pool and its lanes, a line for each of its calls, and how many there are.
+    Trace,
 }

@@ -226,6 +226,13 @@ fn all_hold(alloc: Global, rows: &[Row]) -> bool {
 const HISTORY: &[u8] =
     b"offer c0.0 #1 p20 l1 run t1\noffer c0.0 #2 p20 l1 lent t0\noffer c0.0 #3 p20 l1 kept\ntake t0 #2\nfinish t0 #2 returned\ntake t0 #3\nfinish t0 #3 returned\ntake t1 #1\nfinish t1 #1 returned\ncollect c0.0 #2\ncollect c0.0 #3\ncollect c0.0 #1\nend c0.0 quiet\ncollect c0.0 done\n";
 
+/// The pool of `LANES` in a trace, in a pipe that has one slot of up to 128 connections, and the lines of its lanes.
+const HEAD: &[u8] = b"pool 1 1 1 3 120 65536 67108864 1 128\nlane 10 1 0\nlane 20 1 0\n";
+
+/// The trace of the three requests, which are numbered from 0 in the order of their offers.
+const TRACE: &[u8] =
+    b"0 offer 0.0 0 1 2 20 1 60 run 1\n0 offer 0.0 1 2 2 20 1 60 lent 0\n0 offer 0.0 2 3 2 20 1 60 kept\n0 take 0 1\n0 finish 0 1 0\n0 take 0 2\n0 finish 0 2 0\n0 take 1 0\n0 finish 1 0 0\n0 collect 0.0 answered 1\n0 collect 0.0 answered 2\n0 collect 0.0 answered 0\n0 end 0.0 quiet\n0 collect 0.0 done\nentries 14\n";
+
 const ASKS: &[&[u8]] = &[ASKS_1, ASKS_2, ASKS_3];
 
 const SHOWN: &[Row] = &[
@@ -263,6 +270,20 @@ const SHOWN: &[Row] = &[
             calls: Some(14),
         },
     },
+    Row {
+        config: LANES,
+        piping: Piping {
+            batch: 3,
+            shown: Shown::Trace,
+            ..STEADY
+        },
+        parts: ASKS,
+        want: Comes {
+            end: ENDED,
+            written: &[HEAD, TRACE],
+            calls: Some(14),
+        },
+    },
 ];
 
 fn batches_are_1_to_64() -> bool {
@@ -278,7 +299,7 @@ fn batches_are_1_to_64() -> bool {
 }
 
 #[test]
-fn the_pipe_shows_bytes_or_the_text_of_its_history(rt: HostRuntime) {
+fn the_pipe_shows_bytes_or_the_lines_of_its_history(rt: HostRuntime) {
     assert!(rt; batches_are_1_to_64());
     assert!(rt; all_hold(rt.alloc(), SHOWN));
 }
@@ -343,6 +364,15 @@ const ONE_RAN: &[u8] =
 const TWO_RAN: &[u8] =
     b"offer c0.0 #1 p20 l1 run t1\ntake t1 #1\nfinish t1 #1 returned\ncollect c0.0 #1\noffer c0.0 #2 p20 l1 run t1\ntake t1 #2\nfinish t1 #2 returned\ncollect c0.0 #2\nend c0.0 quiet\ncollect c0.0 done\n";
 
+/// Their traces, after the head.
+const NONE_TRACED: &[u8] = b"0 end 0.0 quiet\n0 collect 0.0 done\nentries 2\n";
+
+const ONE_TRACED: &[u8] =
+    b"0 offer 0.0 0 1 2 20 1 60 run 1\n0 take 1 0\n0 finish 1 0 0\n0 collect 0.0 answered 0\n0 end 0.0 quiet\n0 collect 0.0 done\nentries 6\n";
+
+const TWO_TRACED: &[u8] =
+    b"0 offer 0.0 0 1 2 20 1 60 run 1\n0 take 1 0\n0 finish 1 0 0\n0 collect 0.0 answered 0\n0 offer 0.0 1 2 2 20 1 60 run 1\n0 take 1 1\n0 finish 1 1 0\n0 collect 0.0 answered 1\n0 end 0.0 quiet\n0 collect 0.0 done\nentries 10\n";
+
 /// The input of two requests.
 const TWO: &[&[u8]] = &[ASKS_1, ASKS_2];
 
@@ -358,6 +388,11 @@ fn wanted_of(shown: Shown, n: usize) -> (&'static [&'static [u8]], usize) {
             0..60 => (&[NONE_RAN], 2),
             60..120 => (&[ONE_RAN], 6),
             _ => (&[TWO_RAN], 10),
+        },
+        Shown::Trace => match n {
+            0..60 => (&[HEAD, NONE_TRACED], 2),
+            60..120 => (&[HEAD, ONE_TRACED], 6),
+            _ => (&[HEAD, TWO_TRACED], 10),
         },
     }
 }
@@ -387,7 +422,8 @@ fn each_fault_is_met(alloc: Global, setup: &Setup, input: &[u8]) -> bool {
     }
     for n in 0..121 {
         let is_met = fault_is_met(alloc, setup, input, Shown::Bytes, n)
-            && fault_is_met(alloc, setup, input, Shown::Text, n);
+            && fault_is_met(alloc, setup, input, Shown::Text, n)
+            && fault_is_met(alloc, setup, input, Shown::Trace, n);
         if !is_met {
             return false;
         }
@@ -418,7 +454,7 @@ fn calls_behind(shown: Shown, n: usize) -> usize {
     match shown {
         Shown::Bytes if n < 24 => 4,
         Shown::Bytes => 8,
-        Shown::Text => 10,
+        Shown::Text | Shown::Trace => 10,
     }
 }
 
@@ -473,6 +509,13 @@ fn fronts_stand(alloc: Global, setup: &Setup) -> bool {
             input.as_slice(),
         )
         && fronts_of(alloc, setup, Shown::Text, &[TWO_RAN], input.as_slice())
+        && fronts_of(
+            alloc,
+            setup,
+            Shown::Trace,
+            &[HEAD, TWO_TRACED],
+            input.as_slice(),
+        )
 }
 
 fn fronts_over(alloc: Global, config: &[u8]) -> bool {
@@ -487,24 +530,41 @@ fn a_front_stands_behind_a_failed_write(rt: HostRuntime) {
     assert!(rt; fronts_over(rt.alloc(), LANES));
 }
 
-const BOTH_FAIL: &[Row] = &[Row {
-    config: LANES,
-    piping: Piping {
-        shown: Shown::Text,
-        reads: &[1],
-        writes: &[0],
-        ..STEADY
+const BOTH_FAIL: &[Row] = &[
+    Row {
+        config: LANES,
+        piping: Piping {
+            shown: Shown::Text,
+            reads: &[1],
+            writes: &[0],
+            ..STEADY
+        },
+        parts: &[ASKS_1],
+        want: Comes {
+            end: StreamEnd::WriteFault,
+            written: &[],
+            calls: Some(6),
+        },
     },
-    parts: &[ASKS_1],
-    want: Comes {
-        end: StreamEnd::WriteFault,
-        written: &[],
-        calls: Some(6),
+    Row {
+        config: LANES,
+        piping: Piping {
+            shown: Shown::Trace,
+            reads: &[1],
+            writes: &[0],
+            ..STEADY
+        },
+        parts: &[ASKS_1],
+        want: Comes {
+            end: StreamEnd::WriteFault,
+            written: &[],
+            calls: Some(6),
+        },
     },
-}];
+];
 
 #[test]
-fn a_failed_write_of_the_text_goes_before_a_failed_read(rt: HostRuntime) {
+fn a_failed_write_of_lines_goes_before_a_failed_read(rt: HostRuntime) {
     assert!(rt; all_hold(rt.alloc(), BOTH_FAIL));
 }
 

@@ -1,5 +1,5 @@
 -- The bytes are those of the run.
-use Rattle.std.proofs.Common.{Option, Some, Ok, Err, subst}
+use Rattle.std.proofs.Common.{Option, Ok, subst}
 use Rattle.std.proofs.lemmas.Result.{err_from_is_err_and}
 use Rattle.lane_machine.specs.Histories.{History}
 use Rattle.conn_engine.specs.Streams.{RunsStream}
