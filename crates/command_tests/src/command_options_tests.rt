@@ -144,6 +144,16 @@ const PIPE_ROWS: &[Row] = &[
     (&["--config=c", "--batch", "3", "--config", "d"], None),
     (&["--batch", "3", "--batch=3"], None),
     (&["--history", "--history"], None),
+    (&["--trace", "--trace"], None),
+    (&["--trace="], None),
+    (
+        &["--trace", "--config=c"],
+        Some(&[("config", Some("c")), ("trace", Some("true"))]),
+    ),
+    (
+        &["--history", "--trace"],
+        Some(&[("history", Some("true")), ("trace", Some("true"))]),
+    ),
     // What a value may be.
     (&["--config="], Some(&[("config", Some(""))])),
     (&["--config", ""], Some(&[("config", Some(""))])),

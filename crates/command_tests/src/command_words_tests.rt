@@ -124,6 +124,21 @@ const PIPES: &[Row] = &[
     (&["pipe", "--batch", "3"], Said::Pipe(None, 3, Shown::Bytes)),
     (&["pipe", "--batch=3"], Said::Pipe(None, 3, Shown::Bytes)),
     (&["pipe", "--history"], Said::Pipe(None, 1, Shown::Text)),
+    (&["pipe", "--trace"], Said::Pipe(None, 1, Shown::Trace)),
+    // The trace with all others, and with the text of the history, which it excludes.
+    (
+        &["pipe", "--trace", "--batch=3", "--config", "c"],
+        Said::Pipe(Some("c"), 3, Shown::Trace),
+    ),
+    (&["pipe", "--history", "--trace"], Said::Unread),
+    (&["pipe", "--trace", "--history"], Said::Unread),
+    (
+        &["pipe", "--trace", "--batch", "3", "--history"],
+        Said::Unread,
+    ),
+    (&["pipe", "--trace", "--trace"], Said::Unread),
+    (&["pipe", "--trace="], Said::Unread),
+    (&["pipe", "--trace", "true"], Said::Unread),
     // Each left out.
     (
         &["pipe", "--history", "--batch=3"],

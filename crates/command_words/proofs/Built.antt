@@ -28,8 +28,9 @@ IsBuilt Unread = Unit {0}
 
 -- ---- each command
 
-piped_built : (config : Option Text) (batch : Option ℕ) (shown : Shown) → IsBuilt (piped config batch shown)
-piped_built config (Some batch) shown = tt
+piped_built : (config : Option Text) (batch : Option ℕ) (shown : Option Shown) → IsBuilt (piped config batch shown)
+piped_built config (Some batch) (Some shown) = tt
+piped_built config (Some batch) None = tt
 piped_built config None shown = tt
 
 served_built : (config : Option Text) (place : Option Place) → IsBuilt (served_at config place)
@@ -51,7 +52,7 @@ listed_built (Some name) = tt
 listed_built None = tt
 
 pipe_built : (gives : Gives) → IsBuilt (pipe_by gives)
-pipe_built gives = piped_built (gives (codes "config")) (batch_by (gives (codes "batch"))) (shown_by (gives (codes "history")))
+pipe_built gives = piped_built (gives (codes "config")) (batch_by (gives (codes "batch"))) (shown_by (gives (codes "history")) (gives (codes "trace")))
 
 serve_built : (gives : Gives) → IsBuilt (serve_by gives)
 serve_built gives = served_built (gives (codes "config")) (option_and_then address_of (gives (codes "listen")))

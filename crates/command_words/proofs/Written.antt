@@ -37,18 +37,26 @@ clean xs ys same none = position_from-zero (λ b. b == 0) xs ∙ any_none 0 xs (
 -- ---- the commands
 
 pub pipe_means : (file number : Text) → form_of file ≡ plain → form_of number ≡ plain → HasNoNul file → HasNoNul number
-    → command_of (codes "pipe" ∷ codes "--config" ∷ file ∷ codes "--batch" ∷ number ∷ codes "--history" ∷ []) ≡ piped (Some file) (batch_of number) shown.Text
+    → command_of (codes "pipe" ∷ codes "--config" ∷ file ∷ codes "--batch" ∷ number ∷ codes "--history" ∷ []) ≡ piped (Some file) (batch_of number) (Some shown.Text)
 unfolding command_of given
 pipe_means file number file_plain number_plain file_clean number_clean =
     rw (file_clean, number_clean, options.pipe_reads file number file_plain number_plain) refl
 
 pub pipe_joined_means : (file number : Text) → HasNoNul file → HasNoNul number
-    → command_of (codes "pipe" ∷ codes "--history" ∷ (codes "--batch=" ++ number) ∷ (codes "--config=" ++ file) ∷ []) ≡ piped (Some file) (batch_of number) shown.Text
+    → command_of (codes "pipe" ∷ codes "--history" ∷ (codes "--batch=" ++ number) ∷ (codes "--config=" ++ file) ∷ []) ≡ piped (Some file) (batch_of number) (Some shown.Text)
 unfolding command_of given
 pipe_joined_means file number file_clean number_clean =
     let file_so : HasNoNul (codes "--config=" ++ file) = clean (codes "--config=" ++ file) file refl file_clean in
     let number_so : HasNoNul (codes "--batch=" ++ number) = clean (codes "--batch=" ++ number) number refl number_clean in
     rw (file_so, number_so, options.pipe_joined_reads file number) refl
+
+pub pipe_traced_means : (file number : Text) → HasNoNul file → HasNoNul number
+    → command_of (codes "pipe" ∷ codes "--trace" ∷ (codes "--batch=" ++ number) ∷ (codes "--config=" ++ file) ∷ []) ≡ piped (Some file) (batch_of number) (Some shown.Trace)
+unfolding command_of given
+pipe_traced_means file number file_clean number_clean =
+    let file_so : HasNoNul (codes "--config=" ++ file) = clean (codes "--config=" ++ file) file refl file_clean in
+    let number_so : HasNoNul (codes "--batch=" ++ number) = clean (codes "--batch=" ++ number) number refl number_clean in
+    rw (file_so, number_so, options.pipe_traced_reads file number) refl
 
 pub serve_means : (file place : Text) → form_of file ≡ plain → form_of place ≡ plain → HasNoNul file → HasNoNul place
     → command_of (codes "serve" ∷ codes "--config" ∷ file ∷ codes "--listen" ∷ place ∷ []) ≡ served_at (Some file) (address_of place)

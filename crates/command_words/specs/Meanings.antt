@@ -14,7 +14,7 @@ use Rattle.command_words.specs.declared.meaning.Meaning.TheVariants.{Pipe, Serve
 abbrev pub Gives : Type 0
 Gives = Text → Option Text
 
--- ---- `pipe [--config FILE] [--batch N] [--history]`
+-- ---- `pipe [--config FILE] [--batch N]`, and `--history` or `--trace`
 
 -- a number from 1 to 64, of 1 to 10 decimal digits
 abbrev pub batch_of : Text → Option ℕ
@@ -25,18 +25,23 @@ abbrev pub batch_by : Option Text → Option ℕ
 batch_by (Some word) = batch_of word
 batch_by None = Some 1
 
--- what is written: the bytes, or with the switch the text of the history
-abbrev pub shown_by : Option Text → Shown
-shown_by (Some _) = shown.Text
-shown_by None = shown.Bytes
+-- what is written, by the switches for the text of the history and for its trace: the bytes without them, and nothing with both
+abbrev pub shown_by : Option Text → Option Text → Option Shown
+shown_by None None = Some shown.Bytes
+shown_by (Some _) None = Some shown.Text
+shown_by None (Some _) = Some shown.Trace
+shown_by (Some _) (Some _) = None
 
--- the pipe, where its batch is a number that it may be
-abbrev pub piped : Option Text → Option ℕ → Shown → Meaning
-piped config (Some batch) shown = Pipe (record { config = config; batch = batch; shown = shown })
+-- the pipe, where its batch is a number that it may be, and where one thing is written
+abbrev pub piped : Option Text → Option ℕ → Option Shown → Meaning
+piped config (Some batch) (Some shown) = Pipe (record { config = config; batch = batch; shown = shown })
+piped config (Some batch) None = Unread
 piped config None shown = Unread
 
+-- the pipe, by the texts of its options
 abbrev pub pipe_by : Gives → Meaning
-pipe_by gives = piped (gives (codes "config")) (batch_by (gives (codes "batch"))) (shown_by (gives (codes "history")))
+pipe_by gives =
+    piped (gives (codes "config")) (batch_by (gives (codes "batch"))) (shown_by (gives (codes "history")) (gives (codes "trace")))
 
 -- ---- `serve --config FILE --listen HOST:PORT`
 
@@ -46,6 +51,7 @@ served_at (Some config) (Some at) = Serve (record { config = config; at = at })
 served_at (Some config) None = Unread
 served_at None at = Unread
 
+-- the server, by the texts of its options
 abbrev pub serve_by : Gives → Meaning
 serve_by gives = served_at (gives (codes "config")) (option_and_then address_of (gives (codes "listen")))
 
@@ -62,19 +68,23 @@ refs_of (Some place) config = refs_at (address_of place) config
 refs_of None (Some config) = Unread
 refs_of None None = Refs
 
+-- the references, by the texts of their options
 abbrev pub refs_by : Gives → Meaning
 refs_by gives = refs_of (gives (codes "at")) (gives (codes "config"))
 
 -- ---- `dump`
 
+-- the dump, which has no options
 abbrev pub dump_by : Gives → Meaning
 dump_by gives = Dump
 
 -- ---- `idl --file FILE`
 
+-- the listing of a file of interfaces, which has to be named
 abbrev pub listed : Option Text → Meaning
 listed (Some name) = Idl name
 listed None = Unread
 
+-- the listing, by the text of its option
 abbrev pub idl_by : Gives → Meaning
 idl_by gives = listed (gives (codes "file"))

@@ -32,10 +32,13 @@ pub fn second_use_is_refused()
 pub fn commands_mean_what_they_say()
     ensures pipe { (file number : Text) → form_of file ≡ plain → form_of number ≡ plain → HasNoNul file → HasNoNul number
         → command_of (codes "pipe" ∷ codes "--config" ∷ file ∷ codes "--batch" ∷ number ∷ codes "--history" ∷ [])
-        ≡ piped (Some file) (batch_of number) shown.Text }
+        ≡ piped (Some file) (batch_of number) (Some shown.Text) }
     ensures pipe_joined { (file number : Text) → HasNoNul file → HasNoNul number
         → command_of (codes "pipe" ∷ codes "--history" ∷ (codes "--batch=" ++ number) ∷ (codes "--config=" ++ file) ∷ [])
-        ≡ piped (Some file) (batch_of number) shown.Text }
+        ≡ piped (Some file) (batch_of number) (Some shown.Text) }
+    ensures pipe_traced { (file number : Text) → HasNoNul file → HasNoNul number
+        → command_of (codes "pipe" ∷ codes "--trace" ∷ (codes "--batch=" ++ number) ∷ (codes "--config=" ++ file) ∷ [])
+        ≡ piped (Some file) (batch_of number) (Some shown.Trace) }
     ensures serve { (file place : Text) → form_of file ≡ plain → form_of place ≡ plain → HasNoNul file → HasNoNul place
         → command_of (codes "serve" ∷ codes "--config" ∷ file ∷ codes "--listen" ∷ place ∷ [])
         ≡ served_at (Some file) (address_of place) }

@@ -11,7 +11,7 @@ pub struct PipeWords {
     pub config: Option<Text>,
     /// How many calls a group has at most; 1 where none is said.
     pub batch: Batch,
-    /// What is written: the bytes of GIOP, or with `--history` the text of the history.
+    /// What is written: the bytes of GIOP, with `--history` the text of the history, or with `--trace` its trace.
     pub shown: Shown,
 }
 

@@ -104,11 +104,14 @@ fn pipe_by(alloc: Global, options: &Options<'_>) -> Result<Meaning, NoMemory>
     let Some(batch) = batch_by(options.value("batch")) else {
         return Ok(Meaning::Unread);
     };
+    let Some(shown) = shown_by(options.value("history"), options.value("trace")) else {
+        return Ok(Meaning::Unread);
+    };
     let config = text_by(alloc, options.value("config"))?;
     Ok(Meaning::Pipe(PipeWords {
         config,
         batch,
-        shown: shown_by(options.value("history")),
+        shown,
     }))
 }
 
@@ -126,13 +129,16 @@ fn batch_by(word: Option<&str>) -> Option<Batch>
     }
 }
 
-/// What is written: the bytes, or with `--history` the text of the history.
-fn shown_by(history: Option<&str>) -> Shown
-    ensures { result ≡ By.shown_by (option_map (λ word. word.now) history.entry) }
+/// What is written: the bytes, with `--history` the text of the history, or with `--trace` its trace. None with both.
+fn shown_by(history: Option<&str>, trace: Option<&str>) -> Option<Shown>
+    ensures { result
+        ≡ By.shown_by (option_map (λ word. word.now) history.entry) (option_map (λ word. word.now) trace.entry) }
 {
-    match history {
-        Some(_) => Shown::Text,
-        None => Shown::Bytes,
+    match (history, trace) {
+        (None, None) => Some(Shown::Bytes),
+        (Some(_), None) => Some(Shown::Text),
+        (None, Some(_)) => Some(Shown::Trace),
+        (Some(_), Some(_)) => None,
     }
 }
 

@@ -75,6 +75,13 @@ const PINGS: &[Row<'static>] = &[
         ..EMPTY
     },
     Row {
+        story: "the trace of a ping",
+        words: &["pipe", "--trace"],
+        input: PING_REQUEST,
+        output: b"pool 0 0 0 0 0 65536 67108864 1 128\nlane 100 1 0\n0 offer 0.0 0 1 2 100 0 48 run 0\n0 take 0 0\n0 finish 0 0 2\n0 collect 0.0 answered 0\n0 end 0.0 quiet\n0 collect 0.0 done\nentries 6\n",
+        ..EMPTY
+    },
+    Row {
         story: "a ping read byte by byte",
         input: PING_REQUEST,
         reads: ONES,
@@ -303,6 +310,14 @@ const MISREAD: &[Row<'static>] = &[
     Row {
         story: "an option twice",
         words: &["pipe", "--batch", "2", "--batch=2"],
+        input: PING_REQUEST,
+        status: 1,
+        note: "Usage",
+        ..EMPTY
+    },
+    Row {
+        story: "the text of the history and the trace at once",
+        words: &["pipe", "--history", "--trace"],
         input: PING_REQUEST,
         status: 1,
         note: "Usage",
