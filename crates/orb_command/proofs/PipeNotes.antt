@@ -26,9 +26,10 @@ use Rattle.conn_engine.specs.declared.read_end.ReadEnd.TheVariants as read
 use Rattle.conn_engine.specs.declared.read_end.TheConstants.{MAX_TAKEN}
 use Rattle.conn_engine.specs.declared.stream_end.StreamEnd.{StreamEnd}
 use Rattle.conn_engine.specs.declared.stream_end.StreamEnd.TheVariants as stream
-use Rattle.pipe_runs.specs.Pipe.{Pipes, PipesBytes, ShowsRun}
+use Rattle.pipe_runs.specs.Pipe.{BeganShowing, Pipes, PipesBytes, ShowsRun}
 use Rattle.pipe_runs.specs.declared.piped.Piped.{Piped}
 use Rattle.pipe_runs.specs.declared.shown.Shown.{Shown}
+use Rattle.pipe_runs.specs.declared.shown.Shown.TheVariants.{Bytes, Text, Trace}
 use Rattle.command_words.specs.declared.meaning.PipeWords.{PipeWords}
 use Rattle.text_streams.proofs.CallerLemmas.{gave_none}
 use Rattle.text_streams.specs.Streams.{GaveFew}
@@ -79,12 +80,21 @@ shown_so (stream.Ended read.ReadFault) history shown setup outcome batch earlier
 shown_so stream.Closed history shown setup outcome batch earlier bytes ended before after h = h.1
 shown_so stream.WriteFault history shown setup outcome batch earlier bytes ended before after h = (h.1, h.2)
 
+-- no write failed where memory ran out
+began_still : (shown : Shown) (setup : SetupData) (outcome : List ℕ → JobRecord → Outcome) (batch : ℕ) (earlier bytes : List ℕ) (ended : Bool)
+    (out out' : SinkState) → BeganShowing shown setup outcome batch earlier bytes ended out out' → out'.faults ≡ out.faults
+began_still Bytes setup outcome batch earlier bytes ended out out' (inl same) = ap (λ (o : SinkState). o.faults) same
+began_still Bytes setup outcome batch earlier bytes ended out out' (inr ran) = ran.faults
+began_still Text setup outcome batch earlier bytes ended out out' same = ap (λ (o : SinkState). o.faults) same
+began_still Trace setup outcome batch earlier bytes ended out out' (inl same) = ap (λ (o : SinkState). o.faults) same
+began_still Trace setup outcome batch earlier bytes ended out out' (inr began) = began.wrote.1
+
 run_faults : (ran : Result Piped NoMemory) (shown : Shown) (setup : SetupData) (outcome : List ℕ → JobRecord → Outcome) (batch : ℕ) (earlier bytes : List ℕ) (ended : Bool)
     (before after : Moment) → PipesBytes ran shown setup outcome batch earlier bytes ended before.input after.input before.out after.out
     → RunFaults (note_of ran) before after
 run_faults (Ok ran) shown setup outcome batch earlier bytes ended before after h =
     shown_so ran.end ran.history.items shown setup outcome batch earlier bytes ended before after h
-run_faults (Err e) shown setup outcome batch earlier bytes ended before after h = tt
+run_faults (Err e) shown setup outcome batch earlier bytes ended before after h = began_still shown setup outcome batch earlier bytes ended before.out after.out h.0
 
 ran_faults : (words : PipeWords) (broker : Broker) (note : Note) (piped : Option Piped) (before after : Moment)
     → (ran : Ran words broker note piped before.input after.input before.out after.out) → RunFaults (note_of ran.answer) before after
@@ -105,7 +115,7 @@ with_store_run stream.WriteFault before after same h = (same, h.0, h.1)
 with_store : (ran : Result Piped NoMemory) (before after : Moment) → after.files.faults ≡ before.files.faults → RunFaults (note_of ran) before after
     → ConfiguredFaults (note_of ran) before after
 with_store (Ok ran) before after same h = with_store_run ran.end before after same h
-with_store (Err e) before after same h = same
+with_store (Err e) before after same h = (same, h)
 
 -- ---- the counts where nothing was taken and nothing written
 
@@ -127,9 +137,9 @@ declined_faults (why.Unserved (fault.Object f)) note piped before after h d = (h
 declined_faults (why.Unserved (fault.Absent role)) note piped before after h d = (h, still (setup_note (why.Unserved (fault.Absent role))) note piped before after d)
 declined_faults (why.Unserved (fault.TooLong role)) note piped before after h d = (h, still (setup_note (why.Unserved (fault.TooLong role))) note piped before after d)
 declined_faults (why.Unserved fault.ReadFault) note piped before after h d = inl (h, d.input, d.output)
-declined_faults (why.Unserved fault.NoMemory) note piped before after h d = h
+declined_faults (why.Unserved fault.NoMemory) note piped before after h d = (h, ap (λ (o : SinkState). o.faults) d.output)
 declined_faults why.ReadFault note piped before after h d = inl (h, d.input, d.output)
-declined_faults why.NoMemory note piped before after h d = h
+declined_faults why.NoMemory note piped before after h d = (h, ap (λ (o : SinkState). o.faults) d.output)
 
 -- the built-in setup has servants unless memory runs out
 plain_wants : (reason : SetupEnd) (old new : FilesState) → GivesBroker (Err reason) None old new → (setup_note reason ≡ Memory) × (new.faults ≡ old.faults)
@@ -161,7 +171,7 @@ faults_by None words note piped before after e (kept, inl (broker, gives, ran)) 
 faults_by None words note piped before after e (kept, inr (reason, gives, d)) =
     let wants = plain_wants reason before.files after.files (subst (λ (c : Option (List ℕ)). GivesBroker (Err reason) c before.files after.files) e gives) in (
       same_state after.files before.files kept wants.1,
-      subst (λ n. RunFaults n before after) (sym (d.told ∙ wants.0)) tt,
+      subst (λ n. RunFaults n before after) (sym (d.told ∙ wants.0)) (ap (λ (o : SinkState). o.faults) d.output),
     )
 
 -- few bytes were taken

@@ -68,7 +68,7 @@ RunFaults Limit before after = NoneFailed before.input after.input before.out af
 RunFaults ReadFault before after = ReadFailed before.input after.input before.out after.out
 RunFaults WriteFault before after = MayFail before.input after.input × Rose before.out.faults after.out.faults
 RunFaults NetFault before after = ⊥
-RunFaults Memory before after = Unit {0}
+RunFaults Memory before after = after.out.faults ≡ before.out.faults
 RunFaults (Config _) before after = ⊥
 RunFaults (IdlNote _) before after = ⊥
 RunFaults (Script _) before after = ⊥
@@ -101,7 +101,7 @@ ConfiguredFaults ReadFault before after =
 ConfiguredFaults WriteFault before after =
     (after.files.faults ≡ before.files.faults) × MayFail before.input after.input × Rose before.out.faults after.out.faults
 ConfiguredFaults NetFault before after = ⊥
-ConfiguredFaults Memory before after = after.files.faults ≡ before.files.faults
+ConfiguredFaults Memory before after = (after.files.faults ≡ before.files.faults) × (after.out.faults ≡ before.out.faults)
 ConfiguredFaults NotBuilt before after = ⊥
 ConfiguredFaults Usage before after = ⊥
 ConfiguredFaults (Reference _) before after = ⊥
