@@ -1,188 +1,20 @@
 //! Runs over links in memory.
-ghost use Rattle.orb_base.specs.declared.outcome.Outcome.TheVariants.{Returned};
-ghost use Rattle.std.specs.Prelude.{[]};
+mod devices;
 
+use self::devices::{Asking, Held, Once, Quick, Telling};
 use adapter_policies::{Setup, read_setup};
 use conn_engine::ReadEnd;
 use conn_sides::{LastCollect, ReadSideEnd, WriteEnd};
 use heard_calls::Ending;
 use lane_machine::{LaneCall, Lanes};
-use orb_base::{
-    Accepted, Acceptor, Completed, ConnId, Gate, Got, Job, List, MemAcceptor, MemLink, MemSink,
-    MemSource, NoMemory, Octets, Outcome, Put, Serving, SharedOctets, Sink, Source, Sys, SysName,
-    Text,
-};
+use orb_base::{ConnId, List, MemAcceptor, MemLink, MemSink, MemSource, Octets};
 use orb_server::*;
 use std::alloc::Global;
 use std::collections::LinkedList;
 use std::sync::Wait;
 use std::sync::atomic::{AtomicU64, Ordering};
-use std::thread;
 use std::thread::Threads;
 use turn_cell::Entry;
-
-/// Answers each request with an empty body, and counts its invocations.
-#[derive(Drop)]
-struct Quick<'a> {
-    alloc: Global,
-    invoked: &'a AtomicU64,
-}
-
-impl Serving for Quick<'_> {
-    ghost outcome = { λ _ _ _. Returned [] };
-
-    fn invoke(&self, _interface: &Text, _job: &Job) -> Outcome {
-        self.invoked.fetch_add(1, Ordering::SeqCst);
-        match SharedOctets::new(self.alloc, List::new(self.alloc)) {
-            Ok(body) => Outcome::Returned(body),
-            Err(NoMemory) => Outcome::System(Sys {
-                name: SysName::NoMemory,
-                minor: 1,
-                completed: Completed::Maybe,
-            }),
-        }
-    }
-}
-
-/// Holds the worker of request 1 until a number is 1, as it is once request 2 was carried out, and counts its calls.
-#[derive(Drop)]
-struct Held<'a> {
-    until: &'a AtomicU64,
-    /// 1 where the worker of request 1 looked too often.
-    missed: &'a AtomicU64,
-    entered: &'a AtomicU64,
-    left: &'a AtomicU64,
-}
-
-/// How often the worker of request 1 looks.
-const LOOKS: u64 = 100_000_000;
-
-impl Gate for Held<'_> {
-    fn enter(&self, job: &Job) {
-        self.entered.fetch_add(1, Ordering::SeqCst);
-        if job.id == 1 && !look(self.until, 1) {
-            self.missed.store(1, Ordering::SeqCst);
-        }
-    }
-
-    fn leave(&self, job: &Job) {
-        self.left.fetch_add(1, Ordering::SeqCst);
-        if job.id == 2 {
-            self.until.store(1, Ordering::SeqCst);
-        }
-    }
-}
-
-/// Looks until a number is at least this; whether it was, before it was looked at too often.
-fn look(at: &AtomicU64, least: u64) -> bool {
-    for _ in 0..LOOKS {
-        if at.load(Ordering::SeqCst) >= least {
-            return true;
-        }
-        thread::yield_now();
-    }
-    false
-}
-
-/// A source that gives its second piece once so many bytes were written, or not at all, and then tells that it met its end.
-#[derive(Drop)]
-struct Asking<'a> {
-    first: &'a [u8],
-    second: &'a [u8],
-    given: usize,
-    written: &'a AtomicU64,
-    least: u64,
-    met: &'a AtomicU64,
-    ends: u64,
-}
-
-impl Source for Asking<'_> {
-    ghost use Rattle.std.specs.Prelude.{None};
-
-    ghost state = { λ s. record { left = None; taken = None; faults = 0; ends = s.ends } };
-
-    fn read(&mut self, into: &mut [u8]) -> Got {
-        let given = self.given;
-        let comes = given == 0 || look(self.written, self.least);
-        let piece = if given == 0 { self.first } else { self.second };
-        if comes && given < 2 && piece.len() <= into.len() && !piece.is_empty() {
-            into[..piece.len()].copy_from_slice(piece);
-            self.given = given + 1;
-            return Got::Bytes(piece.len());
-        }
-        self.met.store(1, Ordering::SeqCst);
-        self.ends = self.ends.saturating_add(1);
-        Got::End
-    }
-}
-
-/// A sink that tells how many bytes were written.
-#[derive(Drop)]
-struct Telling<'a> {
-    held: MemSink,
-    written: &'a AtomicU64,
-}
-
-impl Sink for Telling<'_> {
-    ghost state = { λ s. ⟦<MemSink as Sink>⟧.state s.held };
-
-    fn write(&mut self, piece: &[u8]) -> Put {
-        let put = self.held.write(piece);
-        if let Put::Took(n) = put {
-            self.written.fetch_add(n as u64, Ordering::SeqCst);
-        }
-        put
-    }
-
-    fn close(&mut self) {
-        self.held.close();
-    }
-}
-
-/// An acceptor of one such link.
-#[derive(Drop)]
-struct Once<'a> {
-    alloc: Global,
-    first: &'a [u8],
-    second: &'a [u8],
-    written: &'a AtomicU64,
-    least: u64,
-    met: &'a AtomicU64,
-    left: bool,
-    ends: u64,
-}
-
-impl<'a> Acceptor for Once<'a> {
-    type In = Asking<'a>;
-
-    type Out = Telling<'a>;
-
-    ghost use Rattle.std.specs.Prelude.{None};
-
-    ghost state = { λ a. record { links = None; faults = 0; ends = a.ends } };
-
-    fn accept(&mut self) -> Accepted<Asking<'a>, Telling<'a>> {
-        if !self.left {
-            self.ends = self.ends.saturating_add(1);
-            return Accepted::Done;
-        }
-        self.left = false;
-        let source = Asking {
-            first: self.first,
-            second: self.second,
-            given: 0,
-            written: self.written,
-            least: self.least,
-            met: self.met,
-            ends: 0,
-        };
-        let sink = Telling {
-            held: MemSink::new(self.alloc, List::new(self.alloc), List::new(self.alloc)),
-            written: self.written,
-        };
-        Accepted::Link(source, sink)
-    }
-}
 
 /// One slot of one connection, one thread, and room for three requests.
 const QUEUE: &[u8] =
@@ -649,6 +481,8 @@ const NO_LINK: Row = Row {
 
 #[test]
 fn a_slot_is_done_where_no_link_is_left(rt: HostRuntime) {
+    a_run_ends_at_rest();
+    each_reply_is_handed_once::<MemAcceptor>();
     assert!(&rt; holds(&rt, rt.alloc(), &NO_LINK));
 }
 

@@ -229,6 +229,7 @@ const SERVED: &[Row] = &[Row {
 
 #[test]
 fn a_request_is_served_and_counted(rt: HostRuntime) {
+    runs_without_fault_are_complete::<MemAcceptor>();
     assert!(&rt; all_hold(&rt, rt.alloc(), SERVED));
 }
 
