@@ -4,6 +4,8 @@
 ghost use Rattle.std.specs.Prelude.{◌≡◌};
 ghost use Rattle.orb_command.specs.Command.{status_of};
 
+#[cfg(test)]
+mod cause_tests;
 mod note_text;
 mod std_files;
 mod std_links;
