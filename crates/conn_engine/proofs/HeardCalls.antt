@@ -15,6 +15,7 @@ use Rattle.orb_base.specs.declared.notice.What.{What}
 use Rattle.orb_base.specs.declared.notice.What.TheVariants as what
 use Rattle.orb_base.specs.declared.order.Order.{Order}
 use Rattle.priority_models.proofs.Lanes.{lane_is}
+use Rattle.priority_models.specs.Transforms.{mandated}
 use Rattle.giop_frames.specs.Messages as Frames
 use Rattle.giop_messages.specs.Flags.{due_of}
 use Rattle.giop_messages.specs.Message.{Message, Request, request, reply, cancel, locate, located, close, error}
@@ -33,6 +34,7 @@ use Rattle.request_judge.specs.declared.refusal.Refusal.{Refusal}
 use Rattle.request_judge.specs.declared.verdict.Place.{Place}
 use Rattle.request_judge.specs.declared.verdict.Verdict.{Verdict}
 use Rattle.request_judge.specs.declared.verdict.Verdict.TheVariants.{Runs, Binds}
+use Rattle.request_judge.proofs.Runs.{ran_in}
 use Rattle.heard_calls.specs.Hearing.{Told, Hears, HearsOn}
 use Rattle.heard_calls.specs.Meaning.{MeansRead}
 use Rattle.heard_calls.specs.declared.means.Means.{Means}
@@ -70,9 +72,9 @@ runs_one : (setup : SetupData) (conn : ConnId) (band : Option Span) (serial : �
     → IsWellFormed setup.pool → Running setup band r (Ok place) → HasLane setup.pool.laned (job_of conn serial order size r place) (slice_get setup.pool.lanes place.lane)
 runs_one setup conn band serial order size r place well runs =
     let job = job_of conn serial order size r place in
-    let lane = lane_is setup.pool _ place.lane well runs.runs.2.2 in
-    let has = λ (is : setup.pool.laned ≡ true). subst (λ (p : ℕ). HoldsAt (λ l. l.priority ≡ p) setup.pool.lanes place.lane) (sym runs.runs.1) (lane.priority is) in
-    lane_one setup.pool.laned setup.pool.lanes job (slice_get setup.pool.lanes place.lane) refl lane.inside has
+    let level : Option ℕ = mandated runs.served.model runs.served.priority runs.served.inbound runs.told.priority in
+    let lane = lane_is setup.pool place.priority place.lane well (ran_in setup band runs.served level place runs.runs) in
+    lane_one setup.pool.laned setup.pool.lanes job (slice_get setup.pool.lanes place.lane) refl lane.inside lane.priority
 
 verdict_one : (setup : SetupData) (conn : ConnId) (band : Option Span) (serial : ℕ) (order : Order) (size : ℕ) (r : Request) (verdict : Result Verdict Refusal)
     → IsWellFormed setup.pool → Judges setup band r verdict → IsOne setup.pool conn serial (call_of conn serial order size r verdict)

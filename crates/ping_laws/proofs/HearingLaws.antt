@@ -26,7 +26,6 @@ use Rattle.ping_laws.specs.Setup.{IsKnown}
 use Rattle.pipe_laws.specs.Setup.{pipe_conn}
 use Rattle.ping_laws.specs.declared.place.Place.{Place}
 use Rattle.adapter_policies.specs.SetupData.{SetupData}
-use Rattle.priority_models.specs.Transforms.{mandated}
 use Rattle.ping_laws.specs.Heard.{job_of}
 use Rattle.ping_laws.specs.declared.laws.TheConstants.{MAX_PINGS}
 use Rattle.ping_laws.specs.Built.{IsAsked, IsPing}

@@ -4,8 +4,9 @@ use Rattle.std.specs.Prelude.{codes, if◌then◌else◌, IsSome, option_to_list
 use Rattle.std.specs.Option.{option_map, option_and_then}
 use Rattle.std.specs.List.{All, AllByRecursion}
 use Rattle.orb_base.specs.JobRecord.{JobRecord}
-use Rattle.priority_models.specs.Transforms.{mandated}
 use Rattle.orb_base.specs.Span.{Span}
+use Rattle.orb_base.specs.declared.priority_model.PriorityModel.{PriorityModel}
+use Rattle.orb_base.specs.declared.priority_model.PriorityModel.TheVariants.{ClientPropagated, ServerDeclared}
 use Rattle.cdr_core.specs.Encapsulation.{order_byte}
 use Rattle.giop_frames.specs.Messages as Frames
 use Rattle.giop_frames.specs.Pieces.{kind_of}
@@ -16,6 +17,8 @@ use Rattle.giop_messages.specs.Reading.{ReadsIn}
 use Rattle.giop_messages.specs.declared.message_fault.MessageFault.{MessageFault}
 use Rattle.giop_messages.proofs.Headed.{IsHeaded}
 use Rattle.giop_messages.proofs.WholeAgain.{in_order}
+use Rattle.priority_models.specs.Transforms.{mandated}
+use Rattle.priority_models.specs.declared.transform.TransformRow.{TransformRow}
 use Rattle.service_contexts.specs.Telling.{Tells}
 use Rattle.lane_machine.specs.declared.call.LaneCall.{LaneCall}
 use Rattle.lane_machine.specs.declared.call.LaneCall.TheVariants.{Offer}
@@ -23,7 +26,7 @@ use Rattle.adapter_policies.specs.Index.{number_from}
 use Rattle.adapter_policies.specs.SetupData.{SetupData}
 use Rattle.pipe_laws.specs.Setup.{pipe_conn}
 use Rattle.request_judge.specs.Calls.{job_of}
-use Rattle.request_judge.specs.Judging.{Judges, bind_operation}
+use Rattle.request_judge.specs.Judging.{Judges, RunsAt, bind_operation}
 use Rattle.request_judge.specs.Served.{served_at, served_of, served_as, served_by}
 use Rattle.request_judge.specs.declared.verdict.Place.{Place as RunPlace}
 use Rattle.request_judge.specs.declared.verdict.Verdict.TheVariants.{Runs}
@@ -48,11 +51,16 @@ another_name same = let longer : ◌≡◌ {A = ℕ} 7 19 = ap length same in om
 run_place : Place → RunPlace
 run_place place = record { target = place.target; priority = place.level; lane = 0 }
 
+-- where no priority was sent, the object's is mandated, whatever the model and the transform are
+unsent : (model : PriorityModel) (server : ℕ) (rows : List TransformRow) → Some server ≡ mandated model server rows None
+unsent ServerDeclared server rows = refl
+unsent ClientPropagated server rows = refl
+
 judged : (setup : SetupData) (r : Request) (place : Place) → setup.pool.laned ≡ false → IsAsked setup r place → Judges setup None r (Ok (Runs (run_place place)))
 unfolding run_place
 judged setup r place no_lanes asked =
     let p = placed_so setup asked.key place asked.placed in
-    let level = mandated p.adapter.model p.object.priority None in
+    let level = p.object.priority in
     record {
       served = served_by place.target p.object p.adapter;
       told = record { priority = None; range = None };
@@ -63,7 +71,9 @@ judged setup r place no_lanes asked =
         found = served_there setup asked.key place p;
       };
       no_bind = λ bind. another_name (sym (ap (λ (x : Request). x.operation) asked.asks) ∙ bind);
-      runs = (refl, p.level, (tt, p.mapped, ap (λ (laned : Bool). if laned then position (λ lane. lane.priority == level) setup.pool.lanes else Some 0) no_lanes));
+      runs = subst (λ (m : Option ℕ). RunsAt setup None (served_by place.target p.object p.adapter) m (Ok (run_place place)))
+          (unsent p.adapter.model level p.adapter.inbound)
+          (refl, p.level, (tt, p.mapped, ap (λ (laned : Bool). if laned then position (λ lane. lane.priority == level) setup.pool.lanes else Some 0) no_lanes));
     }
 
 -- the header of a message that is read as a request

@@ -4,9 +4,8 @@ use Rattle.std.proofs.lemmas.Option.{same_Some}
 use Rattle.std.specs.Cmp.Lexicographic.{bytes_decides, pointwise}
 use Rattle.std.specs.Prelude.{IsSome, ℤ, codes, nat_eq, slice_get}
 use Rattle.std.specs.Option.{option_map, option_and_then}
-use Rattle.priority_models.specs.Transforms.{mandated}
 use Rattle.priority_maps.specs.Maps.{to_native}
-use Rattle.adapter_policies.specs.BuiltIn.{built_in, built_in_adapter, built_in_object}
+use Rattle.adapter_policies.specs.BuiltIn.{built_in, built_in_object}
 use Rattle.adapter_policies.specs.Index.{number_from}
 use Rattle.adapter_policies.specs.SetupData.{AdapterData, SetupData}
 use Rattle.adapter_policies.specs.declared.object_spec.ObjectSpec.{ObjectSpec}
@@ -39,20 +38,20 @@ pub record Placed (setup : SetupData) (key : List ℕ) (place : Place) : Type 0 
   pub known : slice_get setup.objects place.target ≡ Some object
   pub served : slice_get setup.adapters object.adapter ≡ Some adapter
   pub spelled : object.key ≡ key
-  pub level : place.level ≡ mandated adapter.model object.priority None
-  pub mapped : IsSome (to_native setup.mapping (mandated adapter.model object.priority None))
+  pub level : place.level ≡ object.priority
+  pub mapped : IsSome (to_native setup.mapping (object.priority))
 
 pub placed_so : (setup : SetupData) (key : List ℕ) (place : Place) → place_of setup key ≡ Some place → Placed setup key place
 placed_so setup key place is = numbered (number_from 0 setup.objects key) refl is
   where
     mapped : (target : ℕ) (object : ObjectSpec) (adapter : AdapterData) → number_from 0 setup.objects key ≡ Some target → slice_get setup.objects target ≡ Some object
-        → slice_get setup.adapters object.adapter ≡ Some adapter → (native : Option ℤ) → to_native setup.mapping (mandated adapter.model object.priority None) ≡ native
-        → option_map (λ level. record { target = target; level = level }) (option_map (λ n. mandated adapter.model object.priority None) native) ≡ Some place
+        → slice_get setup.adapters object.adapter ≡ Some adapter → (native : Option ℤ) → to_native setup.mapping (object.priority) ≡ native
+        → option_map (λ level. record { target = target; level = level }) (option_map (λ n. object.priority) native) ≡ Some place
         → Placed setup key place
     mapped target object adapter found there under None none is = absurd (cc)
     mapped target object adapter found there under (Some native) some is =
         let has = has_key setup.objects 0 key target found in
-        let same : record { target = target; level = mandated adapter.model object.priority None } ≡ place = same_Some _ _ is in
+        let same : record { target = target; level = object.priority } ≡ place = same_Some _ _ is in
         let objects : has.object ≡ object = same_Some _ _ (sym has.there ∙ ap (λ n. slice_get setup.objects n) (sym (has.counted ∙ omega arith)) ∙ there) in
         record {
           object = object;
@@ -70,7 +69,7 @@ placed_so setup key place is = numbered (number_from 0 setup.objects key) refl i
         → option_map (λ level. record { target = target; level = level }) (option_and_then (level_under setup object) adapter) ≡ Some place → Placed setup key place
     adapted target object found there None none is = absurd (cc)
     adapted target object found there (Some adapter) some is =
-        mapped target object adapter found there some (to_native setup.mapping (mandated adapter.model object.priority None)) refl is
+        mapped target object adapter found there some (to_native setup.mapping (object.priority)) refl is
 
     there : (target : ℕ) → number_from 0 setup.objects key ≡ Some target → (object : Option ObjectSpec) → slice_get setup.objects target ≡ object
         → option_and_then (place_at setup target) object ≡ Some place → Placed setup key place
@@ -103,9 +102,7 @@ pub pings_place : (key : List ℕ) (place : Place) → place_of built_in key ≡
 pings_place key place is =
     let p = placed_so built_in key place is in
     let first = at_first place.target p.object p.known in
-    let adapter : p.adapter ≡ built_in_adapter = sym (same_Some _ _ (sym (ap (λ (o : ObjectSpec). slice_get built_in.adapters o.adapter) first.1) ∙ p.served)) in
-    let level : place.level ≡ 100 =
-    p.level ∙ ap (λ (x : AdapterData × ObjectSpec). mandated x.0.model x.1.priority None) {x = (p.adapter, p.object)} {y = (built_in_adapter, built_in_object)} (λ i. (adapter i, first.1 i)) in
+    let level : place.level ≡ 100 = p.level ∙ ap (λ (o : ObjectSpec). o.priority) first.1 in
     record {
       place_is = λ i. record { target = first.0 i; level = level i };
       key_is = sym p.spelled ∙ ap (λ (o : ObjectSpec). o.key) first.1;

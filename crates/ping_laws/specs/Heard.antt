@@ -1,7 +1,6 @@
 -- The jobs of requests.
 use Rattle.std.specs.Prelude.{◌≡◌, ℕ, suc, List, [], ◌∷◌, Some, None, length, slice_get, codes, IsSome}
 use Rattle.orb_base.specs.Priorities.{lane_of}
-use Rattle.priority_models.specs.Transforms.{mandated}
 use Rattle.orb_base.specs.JobRecord.{JobRecord}
 use Rattle.priority_maps.specs.Maps.{to_native}
 use Rattle.orb_base.specs.declared.conn_id.ConnId.{ConnId}

@@ -2,7 +2,6 @@
 use Rattle.std.specs.Prelude.{◌≡◌, ◌≤◌, ◌*◌, ℕ, false, List, [], ◌∷◌, Option, None, Some, IsSome, slice_get}
 use Rattle.std.specs.Option.{option_map, option_and_then}
 use Rattle.orb_base.specs.Pool.{Pool, HasSlots}
-use Rattle.priority_models.specs.Transforms.{mandated}
 use Rattle.orb_base.specs.declared.lane_spec.LaneSpec.{LaneSpec}
 use Rattle.adapter_policies.specs.Index.{number_from}
 use Rattle.adapter_policies.specs.SetupData.{AdapterData, SetupData}
@@ -20,10 +19,10 @@ HasDistinctKeys setup = (m n : ℕ) (x y : ObjectSpec) → slice_get setup.objec
 abbrev pub IsKnown : SetupData → ℕ → Type 0
 IsKnown setup target = IsSome (slice_get setup.objects target)
 
--- the mandated priority of an object under an adapter, which has to have a native one
+-- the priority of an object under an adapter, which has to have a native one: whatever the adapter's model and its transform are, a
+-- request that sends no priority runs at the object's
 abbrev pub level_under : SetupData → ObjectSpec → AdapterData → Option ℕ
-level_under setup object adapter =
-    option_map (λ native. mandated adapter.model object.priority None) (to_native setup.mapping (mandated adapter.model object.priority None))
+level_under setup object adapter = option_map (λ native. object.priority) (to_native setup.mapping object.priority)
 
 -- the same under the object's own adapter, which has to be there
 abbrev pub level_of : SetupData → ObjectSpec → Option ℕ

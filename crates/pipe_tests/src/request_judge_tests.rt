@@ -18,6 +18,10 @@ const LANES: &[u8] =
 const MAPPED: &[u8] =
     b"pool = { static = 1, dynamic = 0, default_priority = 100 }\nmap = { kind = \"linear\", corba_low = 0, corba_high = 100, native_low = 1, native_high = 10 }\nadapter = [{ name = \"main\", model = \"CLIENT_PROPAGATED\", priority = 100 }]\nobject = [{ key = \"ping\", adapter = \"main\", interface = \"i\" }]\n";
 
+/// Lanes 10 and 20; `ping` under CLIENT_PROPAGATED at 10, whose clients speak of 0 to 100, `decl` under SERVER_DECLARED at 20.
+const TRANSFORMED: &[u8] =
+    b"pool = { lanes = [{ priority = 10, static = 1, dynamic = 0 }, { priority = 20, static = 1, dynamic = 0 }] }\nadapter = [{ name = \"prop\", model = \"CLIENT_PROPAGATED\", priority = 10, inbound = [{ low = 0, high = 49, to = 10 }, { low = 50, high = 100, to = 20 }] }, { name = \"decl\", model = \"SERVER_DECLARED\", priority = 20 }]\nobject = [{ key = \"ping\", adapter = \"prop\", interface = \"i\" }, { key = \"decl\", adapter = \"decl\", interface = \"i\" }]\n";
+
 /// A verdict as numbers: target, priority and lane, or the ends of a band.
 #[derive(Clone, Copy)]
 enum Shape {
@@ -302,6 +306,127 @@ fn requests_are_refused_for_the_first_cause(rt: HostRuntime) {
     assert!(rt; all_hold(rt.alloc(), MAPPED, REFUSED_MAPPED));
 }
 
+/// Requests to an adapter with a transform: what is sent counts only by the row that holds it.
+const RUNNING_TRANSFORMED: &[Row] = &[
+    (
+        None,
+        b"ping",
+        CURRENT,
+        Some((10, b"\0\0\0\x46")),
+        Shape::Runs(0, 20, 1),
+    ),
+    (
+        None,
+        b"ping",
+        CURRENT,
+        Some((10, b"\0\0\0\x31")),
+        Shape::Runs(0, 10, 0),
+    ),
+    (
+        None,
+        b"ping",
+        CURRENT,
+        Some((10, b"\0\0\0\x14")),
+        Shape::Runs(0, 10, 0),
+    ),
+    (None, b"ping", CURRENT, None, Shape::Runs(0, 10, 0)),
+    (
+        None,
+        b"decl",
+        CURRENT,
+        Some((10, b"\0\0\0\x65")),
+        Shape::Runs(1, 20, 1),
+    ),
+    // The bound band judges what the transform made of the priority.
+    (
+        Some((20, 30)),
+        b"ping",
+        CURRENT,
+        Some((10, b"\0\0\0\x46")),
+        Shape::Runs(0, 20, 1),
+    ),
+];
+
+/// 101 is in no row, which goes before the band; 30 comes to 10.
+const REFUSED_TRANSFORMED: &[Row] = &[
+    (
+        None,
+        b"ping",
+        CURRENT,
+        Some((10, b"\0\0\0\x65")),
+        Shape::Refused(Refusal::NoTransform),
+    ),
+    (
+        Some((20, 30)),
+        b"ping",
+        CURRENT,
+        Some((10, b"\0\0\0\x65")),
+        Shape::Refused(Refusal::NoTransform),
+    ),
+    (
+        Some((20, 30)),
+        b"ping",
+        CURRENT,
+        Some((10, b"\0\0\0\x1e")),
+        Shape::Refused(Refusal::OutsideBand),
+    ),
+    (
+        Some((20, 30)),
+        b"ping",
+        CURRENT,
+        None,
+        Shape::Refused(Refusal::OutsideBand),
+    ),
+];
+
+/// A bind asks no transform: its band is one of lanes.
+const BINDING_TRANSFORMED: &[Row] = &[
+    (
+        None,
+        b"ping",
+        BIND,
+        Some((11, b"\0\0\0\x14\0\x1e")),
+        Shape::Binds(20, 30),
+    ),
+    (
+        None,
+        b"ping",
+        BIND,
+        Some((11, b"\0\0\0\x32\0\x64")),
+        Shape::Refused(Refusal::BandWithoutLane),
+    ),
+];
+
+#[test]
+fn a_transform_maps_what_a_client_sends(rt: HostRuntime) {
+    assert!(rt; all_hold(rt.alloc(), TRANSFORMED, RUNNING_TRANSFORMED));
+    assert!(rt; all_hold(rt.alloc(), TRANSFORMED, REFUSED_TRANSFORMED));
+    assert!(rt; all_hold(rt.alloc(), TRANSFORMED, BINDING_TRANSFORMED));
+}
+
+/// A bind whose other context sends a priority that no row holds.
+fn bind_with_a_priority(alloc: Global) -> Option<Request> {
+    let target = key(alloc, b"ping")?;
+    let mut list = one_context(alloc, 10, octets(alloc, b"\0\0\0\x65")?)?;
+    let bytes = octets(alloc, b"\0\0\0\x14\0\x1e")?;
+    if list.push(Context { id: 11, bytes }).is_err() {
+        return None;
+    }
+    request(alloc, 3, target, BIND, list)
+}
+
+fn binds_whatever_is_sent(alloc: Global) -> bool {
+    match (read_setup(alloc, TRANSFORMED), bind_with_a_priority(alloc)) {
+        (Ok(setup), Some(request)) => comes_to(&setup, None, &request, Shape::Binds(20, 30)),
+        _ => false,
+    }
+}
+
+#[test]
+fn a_bind_asks_neither_transform_nor_map(rt: HostRuntime) {
+    assert!(rt; binds_whatever_is_sent(rt.alloc()));
+}
+
 const BINDING: &[Row] = &[
     (
         None,
@@ -445,6 +570,7 @@ const EXCEPTIONS: &[(Refusal, Option<(SysName, u32)>)] = &[
     (Refusal::UnknownObject, Some((SysName::ObjectNotExist, 1))),
     (Refusal::NoBand, Some((SysName::Marshal, 2))),
     (Refusal::BandWithoutLane, Some((SysName::InvPolicy, 5))),
+    (Refusal::NoTransform, Some((SysName::DataConversion, 2))),
     (Refusal::OutsideBand, Some((SysName::InvPolicy, 4))),
     (Refusal::NoNative, Some((SysName::DataConversion, 1))),
     (Refusal::NoLane, Some((SysName::InvPolicy, 3))),

@@ -4,3 +4,4 @@ mod range_tests;
 mod reference_tests;
 mod tests;
 mod text_tests;
+mod transform_tests;

@@ -52,35 +52,154 @@ pub fn pool(alloc: Global, laned: bool, levels: &[i16]) -> Option<PoolSpec> {
     })
 }
 
-/// A model, the priority that a request was sent with, and the one that counts on a server of priority 30.
-const MANDATED: &[(PriorityModel, Option<i16>, i16)] = &[
-    (PriorityModel::ClientPropagated, Some(100), 100),
-    (PriorityModel::ClientPropagated, None, 30),
-    (PriorityModel::ServerDeclared, Some(100), 30),
-    (PriorityModel::ServerDeclared, None, 30),
-];
+/// The low end, the high end and the priority that takes their place.
+type RowEnds = (i16, i16, i16);
 
-/// What counts, or None where there is no such priority.
-fn counts(model: PriorityModel, sent: Option<i16>) -> Option<i16> {
-    let server = Priority::new(30)?;
-    match sent {
-        Some(level) => Some(mandated(model, server, Some(Priority::new(level)?)).get()),
-        None => Some(mandated(model, server, None).get()),
+/// The rows of these numbers, or None where they are none.
+fn rows(alloc: Global, table: &[RowEnds]) -> Option<List<TransformRow>> {
+    let mut rows = List::new(alloc);
+    for (low, high, to) in table {
+        let band = Band::new(Priority::new(*low)?, Priority::new(*high)?)?;
+        let to = Priority::new(*to)?;
+        if rows.push(TransformRow { band, to }).is_err() {
+            return None;
+        }
     }
+    Some(rows)
 }
 
-fn each_counts() -> bool {
-    for (model, sent, want) in MANDATED {
-        if counts(*model, *sent) != Some(*want) {
+/// A model, the priority that a request was sent with, and the one that counts on a server of priority 30.
+type Counted = (PriorityModel, Option<i16>, Option<i16>);
+
+/// Without a transform.
+const MANDATED: &[Counted] = &[
+    (PriorityModel::ClientPropagated, Some(100), Some(100)),
+    (PriorityModel::ClientPropagated, None, Some(30)),
+    (PriorityModel::ServerDeclared, Some(100), Some(30)),
+    (PriorityModel::ServerDeclared, None, Some(30)),
+];
+
+/// 0 to 49 to 10, and 50 to 100 to 20.
+const TWO_ROWS: &[RowEnds] = &[(0, 49, 10), (50, 100, 20)];
+
+/// The same in the other order.
+const TURNED: &[RowEnds] = &[(50, 100, 20), (0, 49, 10)];
+
+/// With either of them.
+const TRANSFORMED: &[Counted] = &[
+    (PriorityModel::ClientPropagated, Some(0), Some(10)),
+    (PriorityModel::ClientPropagated, Some(49), Some(10)),
+    (PriorityModel::ClientPropagated, Some(50), Some(20)),
+    (PriorityModel::ClientPropagated, Some(100), Some(20)),
+    (PriorityModel::ClientPropagated, Some(101), None),
+    // The server's own priority isn't mapped.
+    (PriorityModel::ClientPropagated, None, Some(30)),
+    (PriorityModel::ServerDeclared, Some(70), Some(30)),
+    (PriorityModel::ServerDeclared, Some(101), Some(30)),
+    (PriorityModel::ServerDeclared, None, Some(30)),
+];
+
+/// The number that counts, if one does.
+fn counts(model: PriorityModel, transform: &Transform, sent: Option<Priority>) -> Option<i16> {
+    let server = Priority::new(30)?;
+    let counted = mandated(model, server, transform, sent)?;
+    Some(counted.get())
+}
+
+/// The priority of a number, if there is one.
+fn sent(level: Option<i16>) -> Option<Priority> {
+    Priority::new(level?)
+}
+
+fn each_counts(transform: &Transform, rows: &[Counted]) -> bool {
+    for (model, level, want) in rows {
+        if counts(*model, transform, sent(*level)) != *want {
             return false;
         }
     }
     true
 }
 
+/// Whether these priorities count with the transform of these rows.
+fn all_count(alloc: Global, table: &[RowEnds], counted: &[Counted]) -> bool {
+    match rows(alloc, table) {
+        Some(rows) => match Transform::new(rows) {
+            Some(transform) => each_counts(&transform, counted),
+            None => false,
+        },
+        None => false,
+    }
+}
+
+fn all_count_without(alloc: Global) -> bool {
+    each_counts(&Transform::none(alloc), MANDATED)
+}
+
 #[test]
 fn the_model_decides_whose_priority_counts(rt: HostRuntime) {
-    assert!(rt; each_counts());
+    assert!(rt; all_count_without(rt.alloc()));
+}
+
+#[test]
+fn a_transform_maps_what_a_client_sends(rt: HostRuntime) {
+    transforms_map_by_bands();
+    assert!(rt; all_count(rt.alloc(), TWO_ROWS, TRANSFORMED));
+    assert!(rt; all_count(rt.alloc(), TURNED, TRANSFORMED));
+}
+
+#[test]
+fn a_transform_of_no_rows_keeps_what_a_client_sends(rt: HostRuntime) {
+    assert!(rt; all_count(rt.alloc(), &[], MANDATED));
+}
+
+/// Rows, and whether they are those of a transform.
+const TABLES: &[(&[RowEnds], bool)] = &[
+    (&[], true),
+    (&[(0, 32767, 1)], true),
+    (&[(5, 5, 1), (6, 6, 1), (4, 4, 1)], true),
+    (&[(0, 49, 10), (49, 100, 20)], false),
+    (&[(0, 49, 10), (0, 49, 10)], false),
+    (&[(10, 20, 1), (40, 50, 1), (0, 9, 1), (15, 15, 1)], false),
+    (&[(0, 32767, 1), (7, 7, 1)], false),
+];
+
+fn is_a_transform(alloc: Global, table: &[RowEnds]) -> Option<bool> {
+    let rows = rows(alloc, table)?;
+    Some(Transform::new(rows).is_some())
+}
+
+fn tables_are_judged(alloc: Global) -> bool {
+    for (table, want) in TABLES {
+        if is_a_transform(alloc, table) != Some(*want) {
+            return false;
+        }
+    }
+    true
+}
+
+/// So many rows, each of one priority.
+fn single_rows(alloc: Global, count: i16) -> Option<List<TransformRow>> {
+    let mut rows = List::new(alloc);
+    for level in 0..count {
+        let p = Priority::new(level)?;
+        let band = Band::new(p, p)?;
+        if rows.push(TransformRow { band, to: p }).is_err() {
+            return None;
+        }
+    }
+    Some(rows)
+}
+
+fn takes(alloc: Global, count: i16) -> Option<bool> {
+    let rows = single_rows(alloc, count)?;
+    Some(Transform::new(rows).is_some())
+}
+
+#[test]
+fn a_transform_has_few_rows_that_share_no_priority(rt: HostRuntime) {
+    assert!(rt; tables_are_judged(rt.alloc()));
+    assert!(rt; takes(rt.alloc(), 32) == Some(true));
+    assert!(rt; takes(rt.alloc(), 33) == Some(false));
 }
 
 /// A band that is bound, a priority, and the lane that takes it.

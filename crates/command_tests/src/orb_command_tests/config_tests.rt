@@ -228,6 +228,28 @@ const REFUSED: &[Row<'static>] = &[
         ..PIPE
     },
     Row {
+        story: "a transform under SERVER_DECLARED, before an interface that nobody serves",
+        files: &[(
+            "c",
+            b"pool = { static = 1, dynamic = 0, default_priority = 1 }\nadapter = [{ name = \"prop\", model = \"CLIENT_PROPAGATED\", priority = 7, inbound = [{ low = 0, high = 9, to = 7 }] }, { name = \"decl\", model = \"SERVER_DECLARED\", priority = 20, inbound = [{ low = 0, high = 9, to = 7 }] }]\nobject = [{ key = \"ping\", adapter = \"prop\", interface = \"IDL:M/V:1.0\" }]\n",
+        )],
+        input: PING,
+        status: 2,
+        note: "Config(TransformNotAllowed at adapter[1].inbound)",
+        ..PIPE
+    },
+    Row {
+        story: "a transform to a priority of no lane",
+        files: &[(
+            "c",
+            b"pool = { lanes = [{ priority = 10, static = 1, dynamic = 0 }, { priority = 20, static = 1, dynamic = 0 }] }\nadapter = [{ name = \"prop\", model = \"CLIENT_PROPAGATED\", priority = 10, inbound = [{ low = 0, high = 49, to = 10 }, { low = 50, high = 100, to = 15 }] }]\nobject = [{ key = \"ping\", adapter = \"prop\", interface = \"IDL:Orb/Ping:1.0\" }]\n",
+        )],
+        input: PING,
+        status: 2,
+        note: "Config(PriorityNotALane at adapter[0].inbound[1].to)",
+        ..PIPE
+    },
+    Row {
         story: "an interface without a servant",
         files: &[("c", UNSERVED)],
         input: PING,

@@ -36,11 +36,18 @@ const THREE_CALLS: &[u8] =
 const DYNAMIC: &[u8] =
     b"pool = { static = 1, dynamic = 2, default_priority = 1 }\nadapter = [{ name = \"prop\", model = \"CLIENT_PROPAGATED\", priority = 1 }]\nobject = [{ key = \"ping\", adapter = \"prop\", interface = \"IDL:Orb/Ping:1.0\" }]\n";
 
+/// Lanes 10 and 20 of one static thread each. `ping` is under CLIENT_PROPAGATED at 10, and its clients speak of 0 to 100: 0 to 49 is
+/// served at 10, and 50 to 100 at 20. `decl` is under SERVER_DECLARED at 20.
+const TRANSFORMED: &[u8] =
+    b"pool = { lanes = [{ priority = 10, static = 1, dynamic = 0 }, { priority = 20, static = 1, dynamic = 0 }] }\nadapter = [{ name = \"prop\", model = \"CLIENT_PROPAGATED\", priority = 10, inbound = [{ low = 0, high = 49, to = 10 }, { low = 50, high = 100, to = 20 }] }, { name = \"decl\", model = \"SERVER_DECLARED\", priority = 20 }]\nobject = [{ key = \"ping\", adapter = \"prop\", interface = \"IDL:Orb/Ping:1.0\" }, { key = \"decl\", adapter = \"decl\", interface = \"IDL:Orb/Ping:1.0\" }]\n";
+
 /// A message of the client, by its request id and the priority that its context asks for.
 #[derive(Clone, Copy)]
 enum Ask {
     /// `current` of `ping`, with a reply.
     Ping(u32, u16),
+    /// `current` of `ping` in a request that sends no priority, with a reply.
+    Plain(u32),
     /// `current` of `ping`, without one.
     Oneway(u32, u16),
     /// `current` of `decl`, with a reply.
@@ -56,6 +63,8 @@ enum Said {
     Reply(u32, u16),
     /// TRANSIENT, minor 1, completed NO.
     Transient(u32),
+    /// DATA_CONVERSION, minor 2, completed NO, in 76 bytes.
+    Conversion(u32),
     /// INV_POLICY, minor 3, completed NO.
     Policy(u32),
     /// CloseConnection.
@@ -69,6 +78,11 @@ fn spell_ask(bytes: &mut List<u8>, message: Ask) -> Result<(), NoMemory> {
         Ask::Ping(id, priority) => (id, 3, b"ping", priority),
         Ask::Oneway(id, priority) => (id, 0, b"ping", priority),
         Ask::Decl(id, priority) => (id, 3, b"decl", priority),
+        Ask::Plain(id) => {
+            bytes.append(b"GIOP\x01\x02\0\0\0\0\0\x24")?;
+            bytes.append(&id.to_be_bytes())?;
+            return bytes.append(b"\x03\0\0\0\0\0\0\0\0\0\0\x04ping\0\0\0\x08current\0\0\0\0\0");
+        }
         Ask::Cancel(id) => {
             bytes.append(b"GIOP\x01\x02\0\x02\0\0\0\x04")?;
             return bytes.append(&id.to_be_bytes());
@@ -96,6 +110,13 @@ fn spell_said(bytes: &mut List<u8>, message: Said) -> Result<(), NoMemory> {
             bytes.append(&id.to_be_bytes())?;
             bytes.append(
                 b"\0\0\0\x02\0\0\0\0\0\0\0\x20IDL:omg.org/CORBA/TRANSIENT:1.0\0\0\0\0\x01\0\0\0\x01",
+            )
+        }
+        Said::Conversion(id) => {
+            bytes.append(b"GIOP\x01\x02\0\x01\0\0\0\x40")?;
+            bytes.append(&id.to_be_bytes())?;
+            bytes.append(
+                b"\0\0\0\x02\0\0\0\0\0\0\0\x26IDL:omg.org/CORBA/DATA_CONVERSION:1.0\0\0\0\0\0\0\x02\0\0\0\x01",
             )
         }
         Said::Policy(id) => {
@@ -310,6 +331,30 @@ const SCENES: &[Scene<'static>] = &[
     },
 ];
 
+/// What clients send, by the transform of their adapter.
+const MAPPED: &[Scene<'static>] = &[Scene {
+    asks: &[
+        Ask::Ping(1, 70),
+        Ask::Ping(2, 101),
+        Ask::Plain(3),
+        Ask::Oneway(4, 101),
+        Ask::Ping(5, 20),
+        Ask::Decl(6, 101),
+    ],
+    said: &[
+        Said::Reply(1, 20),
+        Said::Conversion(2),
+        Said::Reply(3, 10),
+        Said::Reply(5, 10),
+        Said::Reply(6, 20),
+    ],
+    row: Row {
+        story: "a transform maps what is sent, and refuses what no row holds",
+        files: &[("c", TRANSFORMED)],
+        ..SINGLY
+    },
+}];
+
 fn asked_bytes(alloc: Global, messages: &[Ask]) -> Result<Octets, NoMemory> {
     let mut bytes = List::new(alloc);
     for message in messages {
@@ -369,4 +414,9 @@ fn first_other<R: Wait + Threads + Sync>(
 #[test]
 fn pools_lend_keep_refuse_and_cancel(rt: HostRuntime) {
     assert_eq!(rt; first_other(&rt, rt.alloc(), SCENES), "");
+}
+
+#[test]
+fn a_transform_maps_what_clients_send(rt: HostRuntime) {
+    assert_eq!(rt; first_other(&rt, rt.alloc(), MAPPED), "");
 }
