@@ -1,3 +1,4 @@
+pub mod Counts
 pub mod DumpLaws
 pub mod Pieces
 pub mod Runs

@@ -1,27 +1,29 @@
 //! The lines of `orb dump`.
-ghost use Rattle.std.specs.Prelude.{◌≡◌, ◌++◌, OnOk, string_bytes};
-ghost use Rattle.giop_messages.specs.Views.{message_of};
+ghost use Rattle.std.specs.Prelude.{◌≡◌, ◌++◌, OnOk, length, string_bytes};
+ghost use Rattle.cdr_core.specs.Lists.{listed, IsAtList, context_of};
+ghost use Rattle.giop_messages.specs.PartsView.{parts_message, AreSound};
 ghost use Rattle.giop_dump.specs.Lines as Text;
 
+use cdr_core::Reader;
 use giop_frames::Whole;
-use giop_messages::{Message, Target};
-use orb_base::{Context, List, NoMemory, Octets, Order};
+use giop_messages::{PartTarget, Parts};
+use orb_base::{NoMemory, Order};
 use std::fmt;
 use std::fmt::Write;
 use text_streams::shown;
 
 /// The name of a message's kind: CORBA 3.0.3, section 15.4.1.
-fn kind_name(message: &Message) -> &'static str
-    ensures { result.now ≡ Text.kind_name (message_of message.now) }
+fn kind_name(parts: &Parts<'_>) -> &'static str
+    ensures { result.now ≡ Text.kind_name (parts_message parts.now) }
 {
-    match message {
-        Message::Request(_) => "Request",
-        Message::Reply(_) => "Reply",
-        Message::Cancel(_) => "CancelRequest",
-        Message::Locate(_) => "LocateRequest",
-        Message::Located(_) => "LocateReply",
-        Message::Close => "CloseConnection",
-        Message::Error => "MessageError",
+    match parts {
+        Parts::Request { .. } => "Request",
+        Parts::Reply { .. } => "Reply",
+        Parts::Cancel(_) => "CancelRequest",
+        Parts::Locate { .. } => "LocateRequest",
+        Parts::Located { .. } => "LocateReply",
+        Parts::Close => "CloseConnection",
+        Parts::Error => "MessageError",
     }
 }
 
@@ -34,140 +36,143 @@ fn order_name(order: Order) -> &'static str
     }
 }
 
+/// How many contexts the list has that a reader is at.
+#[tactic(auto, using(crate::proofs::Counts::counted, crate::proofs::Counts::uncounted))]
+fn context_count(list: &Reader<'_>) -> u32
+    requires { IsAtList context_of list.now }
+    ensures { result ≡ length (listed context_of list.now) }
+{
+    let mut reader = list.copy();
+    match reader.take_count() {
+        Ok(count) => count,
+        // A list that has a reading begins with its count.
+        Err(_) => 0,
+    }
+}
+
 /// The object that a message is for.
 #[derive(Clone, Copy)]
 struct ShownTarget<'a> {
-    target: &'a Target,
+    target: &'a PartTarget<'a>,
 }
 
 impl fmt::Display for ShownTarget<'_> {
     ghost use Rattle.std.specs.Prelude.{Some};
-    ghost use Rattle.giop_messages.specs.TargetView.{target_of};
+    ghost use Rattle.giop_messages.specs.PartsView.{parts_target};
 
-    ghost output = { λ t. Some (Text.target_text (target_of t.target.now)) };
+    ghost output = { λ t. Some (Text.target_text (parts_target t.target.now)) };
 
     fn fmt<W: fmt::Write>(&self, f: &mut fmt::Formatter<W>) -> fmt::Result {
         match self.target {
-            Target::Key(key) => write!(f, "key {}", shown(key.as_slice())),
-            Target::Profile(_) => f.write_str("profile"),
-            Target::Addressing { .. } => f.write_str("addressing"),
+            PartTarget::Key(key) => write!(f, "key {}", shown(key)),
+            PartTarget::Profile { .. } => f.write_str("profile"),
+            PartTarget::Addressing { .. } => f.write_str("addressing"),
         }
     }
 }
 
 /// How many service contexts and octets of a body a message has.
 #[derive(Clone, Copy)]
-struct ShownCounts<'a> {
-    contexts: &'a List<Context>,
-    body: &'a Octets,
+struct ShownCounts {
+    contexts: u32,
+    body: usize,
 }
 
-impl fmt::Display for ShownCounts<'_> {
-    ghost use Rattle.std.specs.Prelude.{Some};
+impl fmt::Display for ShownCounts {
+    ghost use Rattle.std.specs.Prelude.{◌++◌, Some, codes};
+    ghost use Rattle.std.specs.Fmt.{decimal};
 
-    ghost output = { λ c. Some (Text.counts_text c.contexts.now.items c.body.now.items) };
+    ghost output = { λ c. Some (codes " contexts " ++ decimal c.contexts ++ codes " body " ++ decimal c.body) };
 
     fn fmt<W: fmt::Write>(&self, f: &mut fmt::Formatter<W>) -> fmt::Result {
-        write!(
-            f,
-            " contexts {} body {}",
-            self.contexts.len(),
-            self.body.len()
-        )
+        write!(f, " contexts {} body {}", self.contexts, self.body)
     }
 }
 
-/// The fields of a message.
-#[derive(Clone, Copy)]
-struct ShownFields<'a> {
-    message: &'a Message,
+/// The counts of the contexts that a reader is at, and of a body.
+fn counts(contexts: &Reader<'_>, body: &[u8]) -> ShownCounts
+    requires { IsAtList context_of contexts.now }
+    ensures contexts { result.contexts ≡ length (listed context_of contexts.now) }
+    ensures body { result.body ≡ length body.now }
+{
+    ShownCounts {
+        contexts: context_count(contexts),
+        body: body.len(),
+    }
 }
 
-impl fmt::Display for ShownFields<'_> {
-    ghost use Rattle.std.specs.Prelude.{Some};
-
-    ghost output = { λ m. Some (Text.fields_text (message_of m.message.now)) };
-
-    fn fmt<W: fmt::Write>(&self, f: &mut fmt::Formatter<W>) -> fmt::Result {
-        match self.message {
-            Message::Request(r) => {
-                let target = ShownTarget { target: &r.target };
-                let operation = shown(r.operation.as_slice());
-                let counts = ShownCounts {
-                    contexts: &r.contexts,
-                    body: &r.body,
-                };
-                write!(
-                    f,
-                    " id {} flags {} {target} op {operation}{counts}",
-                    r.id, r.flags
-                )
-            }
-            Message::Reply(r) => {
-                let counts = ShownCounts {
-                    contexts: &r.contexts,
-                    body: &r.body,
-                };
-                write!(f, " id {} status {}{counts}", r.id, r.status)
-            }
-            Message::Cancel(id) => write!(f, " id {id}"),
-            Message::Locate(l) => {
-                let target = ShownTarget { target: &l.target };
-                write!(f, " id {} {target}", l.id)
-            }
-            Message::Located(l) => write!(f, " id {} status {}", l.id, l.status),
-            Message::Close => Ok(()),
-            Message::Error => Ok(()),
+/// Puts the fields of a message after the text.
+fn put_fields(text: &mut String, parts: &Parts<'_>) -> Result<(), NoMemory>
+    requires { AreSound parts.now }
+    ensures { OnOk result (string_bytes text.new ≡ string_bytes text.old ++ Text.fields_text (parts_message parts.now)) }
+{
+    match parts {
+        Parts::Request {
+            id,
+            flags,
+            target: object,
+            operation: name,
+            contexts,
+            body,
+        } => {
+            let target = ShownTarget { target: object };
+            let operation = shown(name);
+            let counts = counts(contexts, body);
+            write!(
+                text,
+                " id {id} flags {flags} {target} op {operation}{counts}"
+            )?;
         }
+        Parts::Reply {
+            id,
+            status,
+            contexts,
+            body,
+        } => {
+            let counts = counts(contexts, body);
+            write!(text, " id {id} status {status}{counts}")?;
+        }
+        Parts::Cancel(id) => write!(text, " id {id}")?,
+        Parts::Locate { id, target: object } => {
+            let target = ShownTarget { target: object };
+            write!(text, " id {id} {target}")?;
+        }
+        Parts::Located { id, status } => write!(text, " id {id} status {status}")?,
+        Parts::Close => (),
+        Parts::Error => (),
     }
+    Ok(())
 }
 
-/// What stands before the fields of a message.
+/// What comes before the fields of a message.
 #[derive(Clone, Copy)]
 struct ShownHead<'a> {
     whole: &'a Whole,
-    message: &'a Message,
+    parts: &'a Parts<'a>,
 }
 
 impl fmt::Display for ShownHead<'_> {
     ghost use Rattle.std.specs.Prelude.{Some};
 
-    ghost output = { λ h. Some (Text.head_text h.whole.now (message_of h.message.now)) };
+    ghost output = { λ h. Some (Text.head_text h.whole.now (parts_message h.parts.now)) };
 
     fn fmt<W: fmt::Write>(&self, f: &mut fmt::Formatter<W>) -> fmt::Result {
         let whole = self.whole;
-        let kind = kind_name(self.message);
+        let kind = kind_name(self.parts);
         let order = order_name(whole.order);
         write!(f, "{} {kind} {order} {}", whole.at, whole.bytes.len())
     }
 }
 
-/// The line of a whole message, which was read as this message.
-#[derive(Clone, Copy)]
-struct DumpLine<'a> {
-    whole: &'a Whole,
-    message: &'a Message,
-}
-
-impl fmt::Display for DumpLine<'_> {
-    ghost use Rattle.std.specs.Prelude.{Some};
-
-    ghost output = { λ l. Some (Text.dump_line l.whole.now (message_of l.message.now)) };
-
-    fn fmt<W: fmt::Write>(&self, f: &mut fmt::Formatter<W>) -> fmt::Result {
-        let whole = self.whole;
-        let message = self.message;
-        let head = ShownHead { whole, message };
-        let fields = ShownFields { message };
-        writeln!(f, "{head}{fields}")
-    }
-}
-
-/// Puts a line behind the text.
-pub fn put_line(text: &mut String, whole: &Whole, message: &Message) -> Result<(), NoMemory>
-    ensures { OnOk result (string_bytes text.new ≡ string_bytes text.old ++ Text.dump_line whole.now (message_of message.now)) }
+/// Puts the line of a whole message, which was read in these parts, after the text.
+#[tactic(auto, using(crate::proofs::Counts::put_in_parts))]
+pub fn put_line(text: &mut String, whole: &Whole, parts: &Parts<'_>) -> Result<(), NoMemory>
+    requires { AreSound parts.now }
+    ensures { OnOk result (string_bytes text.new ≡ string_bytes text.old ++ Text.dump_line whole.now (parts_message parts.now)) }
 {
-    let line = DumpLine { whole, message };
-    write!(text, "{line}")?;
+    let head = ShownHead { whole, parts };
+    write!(text, "{head}")?;
+    put_fields(text, parts)?;
+    text.push_str("\n")?;
     Ok(())
 }

@@ -7,7 +7,7 @@ ghost use Rattle.giop_dump.specs.Ending.{line_by, refusal_by, lines_before, firs
 use crate::dump_line::put_line;
 use crate::refusal::Refusal;
 use giop_frames::Whole;
-use giop_messages::read_message;
+use giop_messages::read_parts;
 use orb_base::NoMemory;
 use std::alloc::Global;
 
@@ -18,15 +18,15 @@ pub struct DumpLines {
     pub refusal: Option<Refusal>,
 }
 
-/// Reads a whole message, and puts its line behind the text. Gives why the message has no reading, if it has none.
-fn put_message(alloc: Global, text: &mut String, whole: &Whole) -> Result<Option<Refusal>, NoMemory>
+/// Reads a whole message where it lies, and puts its line after the text. Gives why the message has no reading, if it has none.
+fn put_message(text: &mut String, whole: &Whole) -> Result<Option<Refusal>, NoMemory>
     requires { IsMessage whole.now }
     ensures text { OnOk result (string_bytes text.new ≡ string_bytes text.old ++ line_by whole.now (message_at whole.now)) }
     ensures refusal { IfOk result (λ refusal. refusal ≡ refusal_by whole.now (message_at whole.now)) }
 {
-    match read_message(alloc, whole) {
-        Ok(message) => {
-            put_line(text, whole, &message)?;
+    match read_parts(whole) {
+        Ok(parts) => {
+            put_line(text, whole, &parts)?;
             Ok(None)
         }
         Err(fault) => match fault.cause() {
@@ -34,6 +34,7 @@ fn put_message(alloc: Global, text: &mut String, whole: &Whole) -> Result<Option
                 let offset = whole.at;
                 Ok(Some(Refusal { offset, fault }))
             }
+            // Reading in parts takes no memory.
             None => Err(NoMemory),
         },
     }
@@ -47,7 +48,7 @@ pub fn dump_lines(alloc: Global, messages: &[Whole]) -> Result<DumpLines, NoMemo
 {
     let mut text = String::new(alloc);
     for whole in messages {
-        let refusal = put_message(alloc, &mut text, whole)?;
+        let refusal = put_message(&mut text, whole)?;
         if refusal.is_some() {
             return Ok(DumpLines { text, refusal });
         }
