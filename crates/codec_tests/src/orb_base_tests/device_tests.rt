@@ -1,5 +1,5 @@
 //! Sources, sinks, files and links in memory, which follow their scripts.
-use super::list;
+use super::{job, list};
 use orb_base::*;
 use std::alloc::Global;
 use std::collections::LinkedList;
