@@ -226,8 +226,8 @@ fn all_hold(alloc: Global, rows: &[Row]) -> bool {
 const HISTORY: &[u8] =
     b"offer c0.0 #1 p20 l1 run t1\noffer c0.0 #2 p20 l1 lent t0\noffer c0.0 #3 p20 l1 kept\ntake t0 #2\nfinish t0 #2 returned\ntake t0 #3\nfinish t0 #3 returned\ntake t1 #1\nfinish t1 #1 returned\ncollect c0.0 #2\ncollect c0.0 #3\ncollect c0.0 #1\nend c0.0 quiet\ncollect c0.0 done\n";
 
-/// The pool of `LANES` in a trace, in a pipe that has one slot of up to 128 connections, and the lines of its lanes.
-const HEAD: &[u8] = b"pool 1 1 1 3 120 65536 67108864 1 128\nlane 10 1 0\nlane 20 1 0\n";
+/// The pool of `LANES` in a trace, with the slots of a setup that names none, 4 of 32 connections, and the lines of its lanes.
+const HEAD: &[u8] = b"pool 1 1 1 3 120 65536 67108864 4 32\nlane 10 1 0\nlane 20 1 0\n";
 
 /// The trace of the three requests, which are numbered from 0 in the order of their offers.
 const TRACE: &[u8] =
