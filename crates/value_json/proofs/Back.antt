@@ -1,7 +1,7 @@
 -- What is printed of a value reads back as that value.
-use Rattle.std.proofs.Common.{◌≡◌, ◌∙◌, ℕ, ℤ, pos, zero, suc, ◌+◌, ◌==◌, ◌&&◌, Bool, true, false, true≢false, not, List, [], ◌∷◌, length, Option, Some, None, option_map, option_and_then, refl, sym, ap, arith, ltb-true, is_some, is_none, bytes_eq, chars, codes, eqb}
-use Rattle.std.specs.Prelude.{IsTrue, nat_lt}
-use Rattle.std.specs.List.{list_all, list_any}
+use Rattle.std.proofs.Common.{◌≡◌, ◌∙◌, ℕ, ℤ, pos, zero, suc, ◌+◌, ◌==◌, ◌&&◌, Bool, true, true≢false, not, List, [], ◌∷◌, length, Option, Some, None, refl, sym, ap, arith, is_some, bytes_eq, chars, codes}
+use Rattle.std.specs.Prelude.{nat_lt}
+use Rattle.std.specs.List.{list_any}
 use Rattle.std.specs.Int.{w32, from_bool}
 use Rattle.cdr_core.specs.Field as core
 use Rattle.cdr_core.specs.Field.{string_fields}
@@ -15,7 +15,6 @@ use Rattle.serde_json.specs.Events.{items_len, members_len}
 use Rattle.serde_json.specs.Find.{get_member}
 use Rattle.serde_json.proofs.Views.{get_member-put}
 use Rattle.cdr_values.specs.Choice.{choose, nth_kind, kind_at}
-use Rattle.cdr_values.specs.Fitting.{is_of}
 use Rattle.cdr_values.specs.Lawful.{differ, member_names, has_member, is_lawful_scalar, is_lawful, are_lawful, cases_are_lawful, all_labels, has_one_default, is_tag}
 use Rattle.cdr_values.specs.Reading.{value_at}
 use Rattle.cdr_values.specs.Spelling.{lowest, limit, width_of, ranged, number_field, one_field, behind, is_text, is_count, tag_field, fields_of, fields_each, fields_members, fields_chosen}
@@ -23,12 +22,12 @@ use Rattle.cdr_values.specs.Trees.{Scalar, boolean, char, unsigned, signed, enum
 use Rattle.cdr_values.proofs.Members.{bit_back}
 use Rattle.value_json.specs.Laws.{has_bytes, have_bytes, ReadsBack}
 use Rattle.value_json.specs.Meant.{meant, meant_members, meant_choice, each_in, with_member, without_member}
-use Rattle.value_json.specs.Numerals.{numeral_in, number_in, number_data}
+use Rattle.value_json.specs.Numerals.{number_in, number_data}
 use Rattle.value_json.specs.Shown.{shown, shown_each, shown_members, shown_chosen}
 use Rattle.value_json.specs.Texts.{are_bytes, text_of}
 use Rattle.value_json.proofs.Fields.{if_some, ranged_some, one_some, behind_some, both_some}
 use Rattle.value_json.proofs.MembersBack.{members_count, absent_none, kept}
-use Rattle.value_json.proofs.NumbersBack.{in_range, small_scalar, numeral_back}
+use Rattle.value_json.proofs.NumbersBack.{small_scalar, numeral_back}
 
 -- ---- strings
 

@@ -1,7 +1,6 @@
 -- Characters whose codes are those of bytes.
-use Rattle.std.proofs.Common.{◌≡◌, ℕ, suc, length, take, drop, get_or, ◌+◌, ◌-◌, ◌/◌, ◌%◌, ◌<◌, ◌≤◌, ◌&&◌, Bool, true, false, ltb, lt-ltb, le-ltb, List, [], ◌∷◌, ◌++◌, Option, Some, None, refl, sym, ap, ◌∙◌, arith, append_assoc, nat_eq, eqb, bytes_eq, chars, encode_utf8_all, IsAscii}
+use Rattle.std.proofs.Common.{◌≡◌, ℕ, suc, length, take, drop, get_or, ◌+◌, ◌-◌, ◌/◌, ◌%◌, ◌<◌, ◌≤◌, ◌&&◌, Bool, true, false, ltb, lt-ltb, le-ltb, List, [], ◌∷◌, ◌++◌, Some, None, refl, sym, ap, ◌∙◌, arith, append_assoc, nat_eq, eqb, bytes_eq, chars, encode_utf8_all, IsAscii}
 use Rattle.std.specs.Char.{encode_utf8}
-use Rattle.std.specs.List.{list_all}
 use Rattle.std.proofs.lemmas.Bool.{and_parts, eqb-true, eq-eqb, ne_eqb}
 use Rattle.std.specs.Str.{IsUtf8}
 use Rattle.std.proofs.lemmas.List.{append-nil, take_all}

@@ -1,6 +1,6 @@
 -- Chars and enumerators by their numbers, as JSON.
-use Rattle.std.proofs.Common.{◌≡◌, ◌⊎◌, inl, inr, ℕ, ℤ, pos, negsuc, ◌<◌, ◌≤◌, ◌^◌, ◌&&◌, Bool, true, false, true≢false, ltb, lt-ltb, le-ltb, ltb-true, leb-true, List, [], ◌∷◌, Option, Some, None, option_map, option_and_then, bytes_eq, refl, sym, ap, ◌∙◌, arith}
-use Rattle.std.specs.Prelude.{slice_get, position, unwrap_or, unsigned_abs, int_le, int_lt}
+use Rattle.std.proofs.Common.{◌≡◌, ◌⊎◌, inl, inr, ℕ, ℤ, pos, negsuc, ◌<◌, ◌≤◌, ◌^◌, true, ltb, lt-ltb, le-ltb, ltb-true, leb-true, List, [], ◌∷◌, Option, Some, None, option_map, option_and_then, bytes_eq, refl, arith}
+use Rattle.std.specs.Prelude.{slice_get, position, unwrap_or, unsigned_abs, int_le}
 use Rattle.std.specs.Int.{w8, w32, w64, FitsUnsigned}
 use Rattle.std.specs.Prelude.{FitsSigned}
 use Rattle.std.proofs.lemmas.Bool.{cases_lt, and_parts}

@@ -7,3 +7,5 @@ pub mod NumbersBack
 pub mod MembersBack
 pub mod Back
 pub mod OfType
+pub mod Answering
+pub mod NoFloats

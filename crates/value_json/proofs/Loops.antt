@@ -1,5 +1,5 @@
 -- Items and members, one after another.
-use Rattle.std.proofs.Common.{◌≡◌, ◌==◌, Bool, true, false, if◌then◌else◌, codes, Result, subst, ℕ, ℤ, zero, suc, ◌+◌, ◌-◌, ◌<◌, ◌≤◌, List, [], ◌∷◌, ◌++◌, map, length, drop, Option, Some, None, option_map, option_and_then, String, Global, Bor, string_bytes, refl, ap, sym, ◌∙◌, append_assoc, nat_cmp, arith}
+use Rattle.std.proofs.Common.{◌≡◌, ◌==◌, Bool, true, false, if◌then◌else◌, codes, Result, subst, ℕ, ℤ, zero, suc, ◌-◌, ◌<◌, List, [], ◌∷◌, ◌++◌, length, Option, Some, None, option_map, option_and_then, String, Global, Bor, string_bytes, refl, ap, sym, ◌∙◌, append_assoc, nat_cmp, arith}
 use Rattle.std.proofs.lemmas.List.{append-nil}
 use Rattle.std.specs.BTreeMap.{is_at}
 use Rattle.std.specs.Cmp.Lexicographic.{slice_cmp}
@@ -23,7 +23,7 @@ use Rattle.cdr_values.specs.Values.{value_of, values_view}
 use Rattle.cdr_values.proofs.Members.{kind_in}
 use Rattle.value_json.specs.Gives.{Refuses, Gives}
 use Rattle.value_json.specs.Meant.{meant, meant_members, meant_choice, with_first, each_in, then_choice, with_member, without_member}
-use Rattle.value_json.specs.Shown.{shown, shown_each, shown_members, shown_chosen, value_member}
+use Rattle.value_json.specs.Shown.{ahead, shown, shown_each, shown_members, shown_chosen, value_member}
 use Rattle.value_json.specs.Numerals.{number_data}
 use Rattle.value_json.specs.Texts.{text_of}
 use Rattle.value_json.specs.declared.fault.JsonError.{JsonError}
@@ -188,16 +188,11 @@ with_none one os z none = one_none one os z (members_len os == 2) none
 
 -- ---- what is shown
 
--- these, and those after them
-abbrev pub ahead : List Data → Items → Items
-ahead [] more = more
-ahead (d ∷ ds) more = item d (ahead ds more)
-
-ahead_push : (ds : List Data) (d : Data) (more : Items) → ahead (ds ++ d ∷ []) more ≡ ahead ds (item d more)
+pub ahead_push : (ds : List Data) (d : Data) (more : Items) → ahead (ds ++ d ∷ []) more ≡ ahead ds (item d more)
 ahead_push [] d more = refl
 ahead_push (e ∷ ds) d more = ap (item e) (ahead_push ds d more)
 
-ahead_none : (ds : List Data) → ahead ds no_items ≡ items_of ds
+pub ahead_none : (ds : List Data) → ahead ds no_items ≡ items_of ds
 ahead_none [] = refl
 ahead_none (d ∷ ds) = ap (item d) (ahead_none ds)
 

@@ -1,5 +1,5 @@
 -- The members of a struct, put into an object, are found there.
-use Rattle.std.proofs.Common.{◌≡◌, ◌∙◌, ◌⊎◌, ℕ, suc, ◌+◌, ◌&&◌, ◌||◌, Bool, true, false, true≢false, not, List, [], ◌∷◌, length, Option, Some, None, Ordering, Less, Equal, Greater, nat_cmp, refl, sym, ap, arith, bytes_eq, is_some}
+use Rattle.std.proofs.Common.{◌≡◌, ◌∙◌, ℕ, suc, ◌+◌, true, false, true≢false, not, List, length, Some, None, Ordering, Less, Equal, Greater, nat_cmp, refl, sym, ap, arith, bytes_eq, is_some}
 use Rattle.std.specs.List.{list_any}
 use Rattle.std.specs.Cmp.Lexicographic.{slice_cmp}
 use Rattle.std.specs.Ordering.{match_ordering}
@@ -9,7 +9,7 @@ use Rattle.std.proofs.lemmas.Slice.Eq.{bytes_eq-Decides}
 use Rattle.serde_json.specs.Data.{Data, Members as JsonMembers, no_members as no_json, member as json_member, put}
 use Rattle.serde_json.specs.Events.{members_len}
 use Rattle.serde_json.specs.Find.{get_member}
-use Rattle.serde_json.proofs.Views.{get_member-put, get_member-put_other}
+use Rattle.serde_json.proofs.Views.{get_member-put_other}
 use Rattle.cdr_values.specs.Lawful.{differ, member_names}
 use Rattle.cdr_values.specs.Spelling.{fields_of, fields_members}
 use Rattle.cdr_values.specs.Trees.{Members, no_members, member, Values, no_values, value}

@@ -1,17 +1,16 @@
 -- A number of a type that is printed reads back as that number.
-use Rattle.std.proofs.Common.{◌≡◌, ◌∙◌, ℕ, zero, suc, ℤ, pos, negsuc, neg_ℤ, ◌+◌, ◌-◌, ◌*◌, ◌<◌, ◌≤◌, ◌^◌, ◌&&◌, min, Bool, true, false, true≢false, not, ltb, List, [], ◌∷◌, length, Option, Some, None, option_map, option_and_then, refl, sym, ap, arith, ltb-true, leb-true, lt-ltb, le-leb, lit≤, bytes_eq, chars, encode_utf8_all}
-use Rattle.std.specs.Prelude.{int_le, int_lt, nat_le, nat_lt, slice_get, position, unwrap_or}
-use Rattle.std.specs.Int.{byte_len}
+use Rattle.std.proofs.Common.{◌≡◌, ◌∙◌, ℕ, zero, suc, ℤ, pos, negsuc, neg_ℤ, ◌+◌, ◌-◌, ◌<◌, ◌≤◌, ◌^◌, ◌&&◌, min, Bool, true, false, true≢false, not, List, [], ◌∷◌, length, Some, refl, sym, ap, arith, ltb-true, leb-true, lt-ltb, le-leb, lit≤, bytes_eq, chars, encode_utf8_all}
+use Rattle.std.specs.Prelude.{int_le, int_lt, nat_le, nat_lt, slice_get, unwrap_or}
 use Rattle.std.specs.List.{list_any, prefix_len}
 use Rattle.std.proofs.lemmas.Bool.{and_parts, or_parts, not-true}
-use Rattle.std.proofs.lemmas.Option.{slice_get-get_or, slice_get_within}
+use Rattle.std.proofs.lemmas.Option.{slice_get-get_or}
 use Rattle.std.proofs.lemmas.Str.{chars-encodes, encodes_same}
 use Rattle.std.proofs.lemmas.Slice.Eq.{bytes_eq-Decides}
-use lib.Utf8.{scalar, scalars, low_scalar}
+use lib.Utf8.{scalar, low_scalar}
 use Rattle.cdr_values.specs.Lawful.{differ, is_lawful_scalar}
 use Rattle.cdr_values.specs.Spelling.{lowest, limit}
-use Rattle.cdr_values.specs.Trees.{Size, size1, size2, size4, size8, wide, Scalar, boolean, char, unsigned, signed, enumeration}
-use Rattle.value_json.specs.Numerals.{has_64_bits, numeral_data, numeral_in, label_data, label_in, as_label}
+use Rattle.cdr_values.specs.Trees.{Size, size1, size2, size4, size8, Scalar, boolean, char, unsigned, signed, enumeration}
+use Rattle.value_json.specs.Numerals.{numeral_data, numeral_in, label_data, label_in}
 use Rattle.value_json.specs.Texts.{text_of}
 
 abbrev pub in_range : Scalar → ℤ → Bool

@@ -1,5 +1,5 @@
 -- What is read of a type is of that type.
-use Rattle.std.proofs.Common.{◌≡◌, ◌∙◌, ℕ, ℤ, pos, negsuc, zero, suc, ◌+◌, ◌<◌, ◌^◌, ◌==◌, ◌&&◌, min, Bool, true, false, true≢false, List, [], ◌∷◌, length, Option, Some, None, option_map, option_and_then, refl, sym, ap, subst, arith, ltb-true, lt-ltb, le-leb, bytes_eq, chars, codes, is_some, cond, if◌then◌else◌}
+use Rattle.std.proofs.Common.{◌≡◌, ◌∙◌, ℕ, ℤ, pos, negsuc, zero, suc, ◌<◌, ◌^◌, ◌==◌, ◌&&◌, min, Bool, true, false, true≢false, List, [], ◌∷◌, length, Option, Some, None, option_map, option_and_then, refl, sym, ap, subst, arith, ltb-true, lt-ltb, le-leb, bytes_eq, chars, codes, is_some, if◌then◌else◌}
 use Rattle.std.specs.Prelude.{nat_lt, nat_le, int_le, int_lt, position, unwrap_or}
 use Rattle.std.proofs.lemmas.List.Quantifiers.{position-Some}
 use Rattle.std.specs.Int.{w32, from_bool}
@@ -22,17 +22,17 @@ use Rattle.value_json.proofs.NumbersBack.{in_range, two_only}
 
 -- ---- what a value that is there came from
 
-never : {A : Type 0} (x : A) (P : Type 0) → None ≡ Some x → P
+pub never : {A : Type 0} (x : A) (P : Type 0) → None ≡ Some x → P
 never x P e = absurd (cc)
 
-same_some : {A : Type 0} (x y : A) → Some x ≡ Some y → x ≡ y
+pub same_some : {A : Type 0} (x y : A) → Some x ≡ Some y → x ≡ y
 same_some x y e = ap (λ o. unwrap_or o x) e
 
-from_map : {A B : Type 0} (f : A → B) (o : Option A) (y : B) → option_map f o ≡ Some y → (x : A) × (o ≡ Some x) × (f x ≡ y)
+pub from_map : {A B : Type 0} (f : A → B) (o : Option A) (y : B) → option_map f o ≡ Some y → (x : A) × (o ≡ Some x) × (f x ≡ y)
 from_map f (Some x) y e = (x, refl, same_some (f x) y e)
 from_map f None y e = never y _ e
 
-from_then : {A B : Type 0} (f : A → Option B) (o : Option A) (y : B) → option_and_then f o ≡ Some y → (x : A) × (o ≡ Some x) × (f x ≡ Some y)
+pub from_then : {A B : Type 0} (f : A → Option B) (o : Option A) (y : B) → option_and_then f o ≡ Some y → (x : A) × (o ≡ Some x) × (f x ≡ Some y)
 from_then f (Some x) y e = (x, refl, e)
 from_then f None y e = never y _ e
 
@@ -40,7 +40,7 @@ from_if : {A : Type 0} (b : Bool) (o : Option A) (y : A) → (if b then o else N
 from_if true o y e = (refl, e)
 from_if false o y e = never y _ e
 
-from_first : {A : Type 0} (o : Option A) (more : Option (List A)) (ys : List A) → with_first o more ≡ Some ys
+pub from_first : {A : Type 0} (o : Option A) (more : Option (List A)) (ys : List A) → with_first o more ≡ Some ys
     → (x : A) × (xs : List A) × (o ≡ Some x) × (more ≡ Some xs) × (x ∷ xs ≡ ys)
 from_first None more ys e = never ys _ e
 from_first (Some x) None ys e = never ys _ e

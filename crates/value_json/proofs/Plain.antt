@@ -1,6 +1,5 @@
 -- A value of a type whose values are numbers.
 use Rattle.std.proofs.Common.{◌≡◌, refl}
-use Rattle.serde_json.specs.View.{view}
 use Rattle.cdr_values.specs.Trees.{Scalar, scalar, Value, truth, number, letter, text, items, chosen, label}
 use Rattle.value_json.specs.Shown.{shown, plain_data}
 

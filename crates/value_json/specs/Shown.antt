@@ -1,5 +1,5 @@
 -- What a value of a type is as JSON: own profile. What is no value of its type is null.
-use Rattle.std.specs.Prelude.{ℕ, pos, List, codes, Option, Some, None}
+use Rattle.std.specs.Prelude.{ℕ, pos, List, [], ◌∷◌, codes, Option, Some, None}
 use Rattle.std.specs.Int.{from_bool}
 use Rattle.serde_json.specs.Data.{Data, Items, no_items, item, put}
 use Rattle.serde_json.specs.Data as json
@@ -71,3 +71,8 @@ plain_data k (chosen z vs) = json.null
 abbrev pub value_member : Option Data → json.Members
 value_member None = json.no_members
 value_member (Some d) = json.member (codes "value") d json.no_members
+
+-- items in order, and more after them
+abbrev pub ahead : List Data → Items → Items
+ahead [] more = more
+ahead (d ∷ ds) more = item d (ahead ds more)

@@ -1,7 +1,8 @@
 //! Values of IDL types as JSON, both ways: own profile.
 //!
 //! What a value is as JSON is a function from values, in `specs/Shown.antt`, and what JSON means is a function from JSON,
-//! in `specs/Meant.antt`. `to_json` and `from_json` are these functions, and two laws tie them.
+//! in `specs/Meant.antt`. `to_json` and `from_json` are these functions, and two laws tie them. The arguments of an operation
+//! are a JSON text, and so are its results, by `specs/Operations.antt`.
 //!
 //! | Type | JSON | Example |
 //! |---|---|---|
@@ -17,16 +18,20 @@
 //! Of a key that occurs twice in an object the last value counts.
 #![tactic(auto)]
 
+mod arguments;
 mod choice;
 mod fault;
 mod laws;
 mod numerals;
 mod objects;
 mod reading;
+mod results;
 mod showing;
 mod texts;
 
+pub use arguments::arguments_from;
 pub use fault::JsonError;
 pub use laws::{means_of_type, reads_back};
 pub use reading::from_json;
+pub use results::results_json;
 pub use showing::to_json;

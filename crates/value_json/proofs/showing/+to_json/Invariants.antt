@@ -5,8 +5,7 @@ use Rattle.cdr_values.specs.Choice.{nth_kind}
 use Rattle.cdr_values.specs.Kinds.{kind_of, members_view, cases_view}
 use Rattle.cdr_values.specs.Trees.{values_of, members_of, cases_of, value, no_values}
 use Rattle.cdr_values.specs.Values.{value_of, values_view}
-use Rattle.value_json.specs.Shown.{shown_each, shown_members, shown_chosen}
-use Rattle.value_json.proofs.Loops.{ahead}
+use Rattle.value_json.specs.Shown.{ahead, shown_each, shown_members, shown_chosen}
 use Rattle.value_json.proofs.showing.+to_json.Given as goal
 
 abbrev pub invariant-each_json-loop-value : goal.invariant-each_json-loop-value
