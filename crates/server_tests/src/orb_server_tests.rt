@@ -9,6 +9,7 @@ use heard_calls::Ending;
 use lane_machine::{LaneCall, Lanes};
 use orb_base::{ConnId, List, MemAcceptor, MemLink, MemSink, MemSource, Octets};
 use orb_server::*;
+use server_laws::each_request_has_its_mandated_priority;
 use std::alloc::Global;
 use std::collections::LinkedList;
 use std::sync::Wait;
@@ -483,6 +484,7 @@ const NO_LINK: Row = Row {
 fn a_slot_is_done_where_no_link_is_left(rt: HostRuntime) {
     a_run_ends_at_rest();
     each_reply_is_handed_once::<MemAcceptor>();
+    each_request_has_its_mandated_priority::<MemAcceptor>();
     assert!(&rt; holds(&rt, rt.alloc(), &NO_LINK));
 }
 
