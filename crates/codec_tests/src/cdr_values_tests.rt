@@ -675,3 +675,103 @@ const UNION_LAWS: &[(Kind, bool)] = &[
 fn unlawful_unions_are_told(rt: HostRuntime) {
     assert!(rt; all_are_judged(rt.alloc(), UNION_LAWS));
 }
+
+/// A type, a value's bytes in the big order from place 8 on, a place, and the place after that value where it begins there.
+type End = (Kind, &'static [u8], usize, usize);
+
+fn ends(kind: &IdlType, value: &IdlValue, place: usize, end: usize) -> bool {
+    fits(kind, value) && spelled_end(place, kind, value) == end
+}
+
+fn value_ends(alloc: Global, kind: &IdlType, row: &End) -> bool {
+    match decode(alloc, Order::Big, 8, kind, row.1) {
+        Ok((value, _)) => ends(kind, &value, row.2, row.3),
+        Err(_) => false,
+    }
+}
+
+fn all_end(alloc: Global, rows: &[End]) -> bool {
+    for row in rows {
+        match kind_made(alloc, &row.0) {
+            Some(kind) if value_ends(alloc, &kind, row) => (),
+            _ => return false,
+        }
+    }
+    true
+}
+
+const PLAIN_ENDS: &[End] = &[
+    (Kind::One(One::Boolean), b"\x01", 3, 4),
+    (Kind::One(One::Short), b"\xff\xfe", 3, 6),
+    (Kind::One(One::Short), b"\xff\xfe", 4, 6),
+    (Kind::One(COLOUR), b"\0\0\0\x01", 1, 8),
+    (
+        Kind::One(One::LongLong),
+        b"\xff\xff\xff\xff\xff\xff\xff\xfd",
+        9,
+        24,
+    ),
+    (Kind::One(One::Words(0)), b"\0\0\0\x03hi\0", 1, 11),
+    (Kind::One(One::Words(2)), b"\0\0\0\x01\0", 8, 13),
+];
+
+const NESTED_ENDS: &[End] = &[
+    (Kind::Seq(One::UShort, 2), b"\0\0\0\x02\0\x07\0\x08", 2, 12),
+    (Kind::Seq(One::LongLong, 0), b"\0\0\0\0", 8, 12),
+    (Kind::Arrays(One::Short, 1, 2), b"\xff\xff\0\x01", 1, 6),
+    (
+        Kind::Pair(b"y", One::LongLong),
+        b"\x05\0\0\0\0\0\0\0\0\0\0\0\0\0\0\x09",
+        0,
+        16,
+    ),
+    (
+        Kind::Pair(b"y", One::LongLong),
+        b"\x05\0\0\0\0\0\0\0\0\0\0\0\0\0\0\x09",
+        7,
+        16,
+    ),
+    (
+        Kind::Union(One::Long, &[1, 2], &[5]),
+        b"\0\0\0\x05\0\x07",
+        2,
+        10,
+    ),
+    (Kind::Union(One::Long, &[1, 2], &[5]), b"\0\0\0\x06", 2, 8),
+];
+
+#[test]
+fn a_value_ends_after_its_pad_and_its_bytes(rt: HostRuntime) {
+    assert!(rt; all_end(rt.alloc(), PLAIN_ENDS));
+}
+
+#[test]
+fn values_end_where_their_last_part_does(rt: HostRuntime) {
+    assert!(rt; all_end(rt.alloc(), NESTED_ENDS));
+}
+
+const GREAT_ENDS: &[End] = &[
+    (
+        Kind::One(One::Octet),
+        b"\xc8",
+        18446744073709551614,
+        18446744073709551615,
+    ),
+    (
+        Kind::One(One::Short),
+        b"\xff\xfe",
+        18446744073709551613,
+        18446744073709551615,
+    ),
+    (
+        Kind::One(One::Words(0)),
+        b"\0\0\0\x03hi\0",
+        18446744073709551615,
+        18446744073709551615,
+    ),
+];
+
+#[test]
+fn an_end_that_is_too_great_is_the_greatest_place(rt: HostRuntime) {
+    assert!(rt; all_end(rt.alloc(), GREAT_ENDS));
+}

@@ -2,6 +2,7 @@
 ghost use Rattle.std.specs.Prelude.{◌≡◌, IfSome};
 ghost use Rattle.cdr_core.specs.Lists.{AreCounted, item_of_tagged};
 
+use cdr_core::{CdrError, Reader, take_list};
 use orb_base::{Band, Context, List, Octets, Order, Priority, PriorityModel, Tagged};
 use service_contexts::*;
 use std::alloc::Global;
@@ -325,6 +326,72 @@ const NO_READINGS: &[Fault] = &[
 #[test]
 fn contexts_without_a_reading_are_refused(rt: HostRuntime) {
     assert!(rt; are_faults(rt.alloc(), NO_READINGS));
+}
+
+/// Contexts as they are spelled in the big order, and the priority and the range that they tell, or the id of the fault.
+type Spelled = (
+    &'static [u8],
+    Result<(Option<i16>, Option<(i16, i16)>), u32>,
+);
+
+/// None; one of each; two of one id, with an octet and a pad after the first; one without a reading; one without a
+/// reading after another.
+const SPELLED: &[Spelled] = &[
+    (&[0, 0, 0, 0], Ok((None, None))),
+    (
+        &[
+            0, 0, 0, 2, 0, 0, 0, 10, 0, 0, 0, 4, 0, 0, 0, 100, 0, 0, 0, 11, 0, 0, 0, 6, 0, 0, 0,
+            100, 0, 200,
+        ],
+        Ok((Some(100), Some((100, 200)))),
+    ),
+    (
+        &[
+            0, 0, 0, 2, 0, 0, 0, 10, 0, 0, 0, 5, 0, 0, 0, 100, 9, 0, 0, 0, 0, 0, 0, 10, 0, 0, 0, 0,
+        ],
+        Ok((Some(100), None)),
+    ),
+    (&[0, 0, 0, 1, 0, 0, 0, 11, 0, 0, 0, 0], Err(11)),
+    (
+        &[
+            0, 0, 0, 2, 0, 0, 0, 9, 0, 0, 0, 0, 0, 0, 0, 10, 0, 0, 0, 1, 0,
+        ],
+        Err(10),
+    ),
+];
+
+type Levels = (Option<i16>, Option<(i16, i16)>);
+
+fn levels_of(answer: Result<Contexts, ContextFault>) -> Result<Levels, u32> {
+    match answer {
+        Ok(told) => Ok((level_of(told.priority), ends_of(told.range))),
+        Err(fault) => Err(fault.id),
+    }
+}
+
+/// Whether a list that is spelled so tells this, in memory and by a reader at it.
+fn both_tell(alloc: Global, bytes: &[u8], told: Result<Levels, u32>) -> bool {
+    let reader = Reader::new(Order::Big, 0, bytes);
+    let mut copy = reader.copy();
+    let read: Result<List<Context>, CdrError> = take_list(alloc, &mut copy);
+    match read {
+        Ok(list) => levels_of(contexts_at(reader)) == told && levels_of(contexts_of(&list)) == told,
+        Err(_) => false,
+    }
+}
+
+fn all_of_both_tell(alloc: Global, rows: &[Spelled]) -> bool {
+    for (bytes, told) in rows {
+        if !both_tell(alloc, bytes, *told) {
+            return false;
+        }
+    }
+    true
+}
+
+#[test]
+fn a_reader_at_contexts_tells_what_they_tell(rt: HostRuntime) {
+    assert!(rt; all_of_both_tell(rt.alloc(), SPELLED));
 }
 
 fn is_model(bytes: &[u8], model: PriorityModel, level: i16) -> bool {

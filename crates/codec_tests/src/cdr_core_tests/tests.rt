@@ -618,3 +618,59 @@ fn lists_are_put_and_taken(rt: HostRuntime) {
     assert!(rt; list_is_put(rt.alloc()) && list_is_taken(rt.alloc()));
     assert!(rt; cut_list_is_refused(rt.alloc()));
 }
+
+/// A list at place 0 in the big order, what a call that passes over it answers, and the place after that.
+type Passed = (&'static [u8], Result<(), CdrFault>, usize);
+
+const SHORT_ITEM: CdrFault = CdrFault {
+    cause: CdrCause::Short,
+    place: 20,
+};
+
+const MANY_ITEMS: CdrFault = CdrFault {
+    cause: CdrCause::TooMany,
+    place: 0,
+};
+
+const MANY_OCTETS: CdrFault = CdrFault {
+    cause: CdrCause::TooMany,
+    place: 8,
+};
+
+/// No item; two; two of which the last is cut short; more than bytes follow; an item of more octets than follow.
+const PASSED: &[Passed] = &[
+    (&[0, 0, 0, 0, 7], Ok(()), 4),
+    (&LIST, Ok(()), 24),
+    (
+        &[
+            0, 0, 0, 2, 0, 0, 0, 5, 0, 0, 0, 1, 9, 0, 0, 0, 0, 0, 0, 6, 0,
+        ],
+        Err(SHORT_ITEM),
+        0,
+    ),
+    (&[0, 0, 0, 2, 1], Err(MANY_ITEMS), 0),
+    (
+        &[0, 0, 0, 1, 0, 0, 0, 5, 0, 0, 0, 2, 9],
+        Err(MANY_OCTETS),
+        0,
+    ),
+];
+
+fn is_passed(bytes: &[u8], answer: Result<(), CdrFault>, place: usize) -> bool {
+    let mut reader = Reader::new(Order::Big, 0, bytes);
+    pass_list(&mut reader) == answer && reader.place() == place
+}
+
+fn are_passed(rows: &[Passed]) -> bool {
+    for (bytes, answer, place) in rows {
+        if !is_passed(bytes, *answer, *place) {
+            return false;
+        }
+    }
+    true
+}
+
+#[test]
+fn lists_are_passed_over(rt: HostRuntime) {
+    assert!(rt; are_passed(PASSED));
+}

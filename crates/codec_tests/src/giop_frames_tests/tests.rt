@@ -379,6 +379,71 @@ fn a_header_alone_keeps_its_12_bytes(rt: HostRuntime) {
     assert!(rt; keeps_a_header(rt.alloc()));
 }
 
+/// Whether so many bytes at most are kept after each feed of at most `n` bytes, and none after the last.
+fn keeps_at_most(alloc: Global, bytes: &[u8], n: usize, most: u64) -> bool
+    requires { 0 < n }
+{
+    let mut whole = List::new(alloc);
+    let mut framer = match Framer::new(alloc, 262_144) {
+        Ok(framer) => framer,
+        Err(_) => return false,
+    };
+    let mut left = bytes;
+    while !left.is_empty() {
+        let (front, back) = left.split_at(n.min(left.len()));
+        if framer.feed(front, &mut whole) != Ok(()) || framer.kept() > most {
+            return false;
+        }
+        left = back;
+    }
+    framer.kept() == 0
+}
+
+/// What is kept after the first bytes of the two pings: of the open message 24 bytes, and 40 once it goes on; with them
+/// the bytes of the piece that comes.
+const KEPT: &[(usize, u64)] = &[
+    (0, 0),
+    (11, 11),
+    (24, 24),
+    (71, 71),
+    (72, 24),
+    (103, 55),
+    (104, 40),
+    (127, 63),
+    (128, 0),
+];
+
+fn keeps(alloc: Global, n: usize, kept: u64) -> bool
+    requires { n ≤ 128 }
+{
+    let mut whole = List::new(alloc);
+    match Framer::new(alloc, 262_144) {
+        Ok(mut framer) => {
+            framer.feed(&INTERLEAVED[..n], &mut whole) == Ok(()) && framer.kept() == kept
+        }
+        Err(_) => false,
+    }
+}
+
+fn all_keep(alloc: Global, rows: &[(usize, u64)]) -> bool {
+    for (n, kept) in rows {
+        if *n > 128 || !keeps(alloc, *n, *kept) {
+            return false;
+        }
+    }
+    true
+}
+
+#[test]
+fn what_is_unfinished_is_kept_and_no_more(rt: HostRuntime) {
+    assert!(rt; all_keep(rt.alloc(), KEPT));
+    assert!(rt; keeps_at_most(rt.alloc(), &INTERLEAVED, 1, 72));
+    assert!(rt;
+        keeps_at_most(rt.alloc(), &INTERLEAVED, 5, 72)
+            && keeps_at_most(rt.alloc(), &INTERLEAVED, 128, 0)
+    );
+}
+
 fn octets(alloc: Global, bytes: &[u8]) -> Option<Octets>
     ensures { IfSome result (λ o. o.items ≡ bytes.now) }
 {

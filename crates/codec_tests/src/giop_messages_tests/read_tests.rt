@@ -8,6 +8,7 @@ ghost use Rattle.giop_messages.specs.Views.{message_of};
 use super::rows::*;
 use super::vectors::*;
 use super::write_tests::spells;
+use cdr_core::Reader;
 use giop_frames::{Framer, Whole};
 use giop_messages::*;
 use orb_base::limits::MAX_MESSAGE;
@@ -108,27 +109,27 @@ fn is_target(target: &Target, aim: &Aim) -> bool {
 }
 
 /// Whether the message has these parts.
-fn has_parts(message: &Message, parts: &Parts) -> bool {
-    match parts {
-        Parts::Request(asked) => {
+fn has_parts(message: &Message, said: &Said) -> bool {
+    match said {
+        Said::Request(asked) => {
             matches!(message, Message::Request(request) if is_request(request, asked))
         }
-        Parts::Reply(replied) =>
+        Said::Reply(replied) =>
             matches!(message, Message::Reply(reply) if is_reply(reply, replied)),
-        Parts::Cancel(id) => matches!(message, Message::Cancel(cancelled) if cancelled == id),
-        Parts::Locate(id, aim) => {
+        Said::Cancel(id) => matches!(message, Message::Cancel(cancelled) if cancelled == id),
+        Said::Locate(id, aim) => {
             matches!(message, Message::Locate(locate) if locate.id == *id && is_target(&locate.target, aim))
         }
-        Parts::Located(answer) => matches!(message, Message::Located(located) if located == answer),
-        Parts::Close => matches!(message, Message::Close),
-        Parts::Error => matches!(message, Message::Error),
+        Said::Located(answer) => matches!(message, Message::Located(located) if located == answer),
+        Said::Close => matches!(message, Message::Close),
+        Said::Error => matches!(message, Message::Error),
     }
 }
 
 /// Whether the bytes are read as a message of these parts.
 fn is_read(alloc: Global, row: &Row) -> bool {
     match read(alloc, row.bytes) {
-        Ok(message) => has_parts(&message, &row.parts),
+        Ok(message) => has_parts(&message, &row.said),
         Err(_) => false,
     }
 }
@@ -168,7 +169,7 @@ const ANY_PADS: &[Row] = &[
     Row {
         order: Order::Big,
         bytes: RESERVED_PLACES,
-        parts: Parts::Request(Asked {
+        said: Said::Request(Asked {
             id: 1,
             key: b"ping",
             operation: b"current",
@@ -179,7 +180,7 @@ const ANY_PADS: &[Row] = &[
     Row {
         order: Order::Big,
         bytes: PAD_ALONE,
-        parts: Parts::Request(Asked {
+        said: Said::Request(Asked {
             id: 1,
             key: b"hello",
             operation: b"current",
@@ -190,7 +191,7 @@ const ANY_PADS: &[Row] = &[
     Row {
         order: Order::Big,
         bytes: PAD_AND_BODY,
-        parts: Parts::Request(Asked {
+        said: Said::Request(Asked {
             id: 1,
             key: b"hello",
             operation: b"current",
@@ -210,7 +211,7 @@ const EXCEPTIONS: &[Row] = &[
     Row {
         order: Order::Big,
         bytes: OBJECT_NOT_EXIST_REPLY,
-        parts: Parts::Reply(Replied {
+        said: Said::Reply(Replied {
             id: 1,
             status: 2,
             context: None,
@@ -220,7 +221,7 @@ const EXCEPTIONS: &[Row] = &[
     Row {
         order: Order::Big,
         bytes: TRANSIENT_REPLY,
-        parts: Parts::Reply(Replied {
+        said: Said::Reply(Replied {
             id: 3,
             status: 2,
             context: None,
@@ -239,12 +240,12 @@ const BEHIND: &[Row] = &[
     Row {
         order: Order::Big,
         bytes: b"GIOP\x01\x02\0\x04\0\0\0\x09\0\0\0\x05\0\0\0\x09\x01",
-        parts: Parts::Located(Located { id: 5, status: 9 }),
+        said: Said::Located(Located { id: 5, status: 9 }),
     },
     Row {
         order: Order::Little,
         bytes: b"GIOP\x01\x02\x01\x02\x05\0\0\0\x07\0\0\0\x01",
-        parts: Parts::Cancel(7),
+        said: Said::Cancel(7),
     },
 ];
 
@@ -310,4 +311,148 @@ fn all_written_back(alloc: Global, rows: &[(Order, &[u8])]) -> bool {
 #[test]
 fn writes_back_what_was_read(rt: HostRuntime) {
     assert!(rt; all_written_back(rt.alloc(), WRITTEN_BACK));
+}
+
+/// The first item of the list that a reader is at, if there is one.
+fn first_item<'a>(list: &Reader<'a>) -> Option<(u32, &'a [u8])> {
+    let mut reader = list.copy();
+    let count = reader.take_count().ok()?;
+    if count == 0 {
+        return None;
+    }
+    reader.take_item().ok()
+}
+
+/// Whether a reader is at a list of these items.
+fn are_listed(list: &Reader<'_>, items: &[Item]) -> bool {
+    let mut reader = list.copy();
+    match reader.take_count() {
+        Ok(count) => {
+            if count as usize != items.len() {
+                return false;
+            }
+        }
+        Err(_) => return false,
+    }
+    for item in items {
+        match reader.take_item() {
+            Ok(read) => {
+                if read != *item {
+                    return false;
+                }
+            }
+            Err(_) => return false,
+        }
+    }
+    true
+}
+
+fn has_key(target: &PartTarget<'_>, wanted: &[u8]) -> bool {
+    match target {
+        PartTarget::Key(key) => *key == wanted,
+        _ => false,
+    }
+}
+
+fn is_aimed_at(target: &PartTarget<'_>, aim: &Aim) -> bool {
+    match (target, aim) {
+        (PartTarget::Key(key), Aim::Key(bytes)) => *key == *bytes,
+        (PartTarget::Profile { tag, bytes }, Aim::Profile(item)) => (*tag, *bytes) == *item,
+        (
+            PartTarget::Addressing {
+                index,
+                type_id,
+                profiles,
+            },
+            Aim::Reference(reference),
+        ) => {
+            *index == reference.index
+                && *type_id == reference.type_id
+                && are_listed(profiles, reference.profiles)
+        }
+        _ => false,
+    }
+}
+
+/// Whether the parts are these.
+fn are_said(parts: &Parts<'_>, said: &Said) -> bool {
+    match (parts, said) {
+        (
+            Parts::Request {
+                id,
+                flags,
+                target,
+                operation,
+                contexts,
+                body,
+            },
+            Said::Request(asked),
+        ) => {
+            has_key(target, asked.key)
+                && (*id, *flags) == (asked.id, 3)
+                && *operation == asked.operation
+                && first_item(contexts) == asked.context
+                && *body == asked.body
+        }
+        (
+            Parts::Reply {
+                id,
+                status,
+                contexts,
+                body,
+            },
+            Said::Reply(replied),
+        ) => {
+            (*id, *status) == (replied.id, replied.status)
+                && first_item(contexts) == replied.context
+                && *body == replied.body
+        }
+        (Parts::Cancel(id), Said::Cancel(cancelled)) => id == cancelled,
+        (Parts::Locate { id, target }, Said::Locate(asked, aim)) => {
+            id == asked && is_aimed_at(target, aim)
+        }
+        (Parts::Located { id, status }, Said::Located(answer)) => {
+            (*id, *status) == (answer.id, answer.status)
+        }
+        (Parts::Close, Said::Close) => true,
+        (Parts::Error, Said::Error) => true,
+        _ => false,
+    }
+}
+
+/// Whether a message is read in these parts.
+fn is_in_parts(whole: &Whole, said: &Said) -> bool
+    requires { IsMessage whole.now }
+{
+    match read_parts(whole) {
+        Ok(parts) => are_said(&parts, said),
+        Err(_) => false,
+    }
+}
+
+/// Whether the bytes are one message of these parts.
+fn is_read_in_parts(alloc: Global, row: &Row) -> bool {
+    match framed(alloc, row.bytes) {
+        Ok(whole) => match whole.as_slice() {
+            [first] => is_in_parts(first, &row.said),
+            _ => false,
+        },
+        Err(_) => false,
+    }
+}
+
+fn all_read_in_parts(alloc: Global, rows: &[Row]) -> bool {
+    for row in rows {
+        if !is_read_in_parts(alloc, row) {
+            return false;
+        }
+    }
+    true
+}
+
+#[test]
+fn reads_parts_where_they_lie(rt: HostRuntime) {
+    assert!(rt; all_read_in_parts(rt.alloc(), REQUESTS) && all_read_in_parts(rt.alloc(), REPLIES));
+    assert!(rt; all_read_in_parts(rt.alloc(), TARGETS) && all_read_in_parts(rt.alloc(), SHORT));
+    assert!(rt; all_read_in_parts(rt.alloc(), ANY_PADS) && all_read_in_parts(rt.alloc(), BEHIND));
 }

@@ -39,7 +39,7 @@ pub(crate) enum Aim {
 }
 
 /// A message.
-pub(crate) enum Parts {
+pub(crate) enum Said {
     Request(Asked),
     Reply(Replied),
     Cancel(u32),
@@ -53,7 +53,7 @@ pub(crate) enum Parts {
 pub(crate) struct Row {
     pub order: Order,
     pub bytes: &'static [u8],
-    pub parts: Parts,
+    pub said: Said,
 }
 
 /// Requests: without a context; with a priority in either order; with the ends of a band; with a body behind a pad.
@@ -61,7 +61,7 @@ pub(crate) const REQUESTS: &[Row] = &[
     Row {
         order: Order::Big,
         bytes: PING_REQUEST,
-        parts: Parts::Request(Asked {
+        said: Said::Request(Asked {
             id: 1,
             key: b"ping",
             operation: b"current",
@@ -72,7 +72,7 @@ pub(crate) const REQUESTS: &[Row] = &[
     Row {
         order: Order::Little,
         bytes: LITTLE_ENDIAN_PING,
-        parts: Parts::Request(Asked {
+        said: Said::Request(Asked {
             id: 1,
             key: b"ping",
             operation: b"current",
@@ -83,7 +83,7 @@ pub(crate) const REQUESTS: &[Row] = &[
     Row {
         order: Order::Big,
         bytes: PRIORITY_REQUEST,
-        parts: Parts::Request(Asked {
+        said: Said::Request(Asked {
             id: 7,
             key: b"ping",
             operation: b"current",
@@ -94,7 +94,7 @@ pub(crate) const REQUESTS: &[Row] = &[
     Row {
         order: Order::Big,
         bytes: BIND_BAND_REQUEST,
-        parts: Parts::Request(Asked {
+        said: Said::Request(Asked {
             id: 1,
             key: b"ping",
             operation: b"_bind_priority_band",
@@ -105,7 +105,7 @@ pub(crate) const REQUESTS: &[Row] = &[
     Row {
         order: Order::Big,
         bytes: TWICE_REQUEST,
-        parts: Parts::Request(Asked {
+        said: Said::Request(Asked {
             id: 1,
             key: b"v",
             operation: b"twice",
@@ -120,7 +120,7 @@ pub(crate) const REPLIES: &[Row] = &[
     Row {
         order: Order::Big,
         bytes: PING_REPLY,
-        parts: Parts::Reply(Replied {
+        said: Said::Reply(Replied {
             id: 1,
             status: 0,
             context: None,
@@ -130,7 +130,7 @@ pub(crate) const REPLIES: &[Row] = &[
     Row {
         order: Order::Little,
         bytes: LITTLE_ENDIAN_PING_REPLY,
-        parts: Parts::Reply(Replied {
+        said: Said::Reply(Replied {
             id: 1,
             status: 0,
             context: None,
@@ -140,7 +140,7 @@ pub(crate) const REPLIES: &[Row] = &[
     Row {
         order: Order::Big,
         bytes: TWICE_REPLY,
-        parts: Parts::Reply(Replied {
+        said: Said::Reply(Replied {
             id: 1,
             status: 0,
             context: None,
@@ -150,7 +150,7 @@ pub(crate) const REPLIES: &[Row] = &[
     Row {
         order: Order::Big,
         bytes: GREATEST_STATUS,
-        parts: Parts::Reply(Replied {
+        said: Said::Reply(Replied {
             id: 9,
             status: 5,
             context: None,
@@ -164,22 +164,22 @@ pub(crate) const TARGETS: &[Row] = &[
     Row {
         order: Order::Big,
         bytes: LOCATE_PING,
-        parts: Parts::Locate(5, Aim::Key(b"ping")),
+        said: Said::Locate(5, Aim::Key(b"ping")),
     },
     Row {
         order: Order::Big,
         bytes: LOCATE_BY_PROFILE,
-        parts: Parts::Locate(5, Aim::Profile((7, b"abc"))),
+        said: Said::Locate(5, Aim::Profile((7, b"abc"))),
     },
     Row {
         order: Order::Little,
         bytes: LITTLE_ENDIAN_LOCATE,
-        parts: Parts::Locate(5, Aim::Profile((7, b"abc"))),
+        said: Said::Locate(5, Aim::Profile((7, b"abc"))),
     },
     Row {
         order: Order::Big,
         bytes: LOCATE_BY_REFERENCE,
-        parts: Parts::Locate(
+        said: Said::Locate(
             5,
             Aim::Reference(Reference {
                 index: 1,
@@ -195,21 +195,21 @@ pub(crate) const SHORT: &[Row] = &[
     Row {
         order: Order::Big,
         bytes: OBJECT_HERE,
-        parts: Parts::Located(Located { id: 5, status: 1 }),
+        said: Said::Located(Located { id: 5, status: 1 }),
     },
     Row {
         order: Order::Big,
         bytes: CANCEL_REQUEST,
-        parts: Parts::Cancel(5),
+        said: Said::Cancel(5),
     },
     Row {
         order: Order::Big,
         bytes: CLOSE_CONNECTION,
-        parts: Parts::Close,
+        said: Said::Close,
     },
     Row {
         order: Order::Big,
         bytes: MESSAGE_ERROR,
-        parts: Parts::Error,
+        said: Said::Error,
     },
 ];

@@ -121,26 +121,26 @@ fn reply(alloc: Global, replied: &Replied) -> Option<Message>
 }
 
 /// The message of these parts.
-fn message(alloc: Global, parts: &Parts) -> Option<Message>
+fn message(alloc: Global, said: &Said) -> Option<Message>
     ensures { IfSome result (λ m. Spec.HasStatus (message_of m)) }
 {
-    match parts {
-        Parts::Request(asked) => request(alloc, asked),
-        Parts::Reply(replied) => reply(alloc, replied),
-        Parts::Cancel(id) => Some(Message::Cancel(*id)),
-        Parts::Locate(id, aim) => {
+    match said {
+        Said::Request(asked) => request(alloc, asked),
+        Said::Reply(replied) => reply(alloc, replied),
+        Said::Cancel(id) => Some(Message::Cancel(*id)),
+        Said::Locate(id, aim) => {
             let target = target(alloc, aim)?;
             Some(Message::Locate(Locate { id: *id, target }))
         }
-        Parts::Located(located) => Some(Message::Located(*located)),
-        Parts::Close => Some(Message::Close),
-        Parts::Error => Some(Message::Error),
+        Said::Located(located) => Some(Message::Located(*located)),
+        Said::Close => Some(Message::Close),
+        Said::Error => Some(Message::Error),
     }
 }
 
 /// Whether a message of these parts has this length and is written so.
 fn is_written(alloc: Global, row: &Row) -> bool {
-    match message(alloc, &row.parts) {
+    match message(alloc, &row.said) {
         Some(message) => spells(alloc, row.order, &message, row.bytes),
         None => false,
     }
@@ -221,8 +221,8 @@ fn spells_reply(
 
 /// Whether a reply of these parts, which are borrowed, is written so.
 fn is_lent(alloc: Global, row: &Row) -> bool {
-    match &row.parts {
-        Parts::Reply(replied) => match contexts(alloc, replied.context) {
+    match &row.said {
+        Said::Reply(replied) => match contexts(alloc, replied.context) {
             Some(list) => spells_reply(alloc, row.order, replied, list.as_slice(), row.bytes),
             None => false,
         },
@@ -244,7 +244,7 @@ const LENT: &[Row] = &[
     Row {
         order: Order::Little,
         bytes: b"GIOP\x01\x02\x01\x01\x1f\0\0\0\x04\x03\x02\x01\x02\0\0\0\x01\0\0\0\x0a\0\0\0\x04\0\0\0\0\0\0d\0\0\0\0abc",
-        parts: Parts::Reply(Replied {
+        said: Said::Reply(Replied {
             id: 0x0102_0304,
             status: 2,
             context: Some((10, &[0, 0, 0, 100])),
@@ -254,7 +254,7 @@ const LENT: &[Row] = &[
     Row {
         order: Order::Big,
         bytes: b"GIOP\x01\x02\0\x01\0\0\0\x0c\0\0\0\x05\0\0\0\x01\0\0\0\0",
-        parts: Parts::Reply(Replied {
+        said: Said::Reply(Replied {
             id: 5,
             status: 1,
             context: None,
@@ -272,4 +272,33 @@ fn writes_replies_of_borrowed_parts(rt: HostRuntime) {
 fn starts_a_header(rt: HostRuntime) {
     assert!(rt; header_start(Order::Big, 0) == *b"GIOP\x01\x02\0\0");
     assert!(rt; header_start(Order::Little, 7) == *b"GIOP\x01\x02\x01\x07");
+}
+
+/// An operation of `ping`, how many octets the data of its contexts have, how many its body has, and its request's length.
+type Sizes = (&'static [u8], &'static [usize], usize, usize);
+
+const SIZES: &[Sizes] = &[
+    (b"current", &[], 0, 48),
+    (b"current", &[], 8, 56),
+    (b"current", &[4], 0, 60),
+    (b"current", &[4], 1, 65),
+    (b"_bind_priority_band", &[6], 0, 74),
+    (b"_bind_priority_band", &[6], 1, 81),
+    (b"current", &[5, 4], 0, 76),
+    (b"current", &[], 262_096, 262_144),
+    (b"current", &[], 18446744073709551615, 18446744073709551615),
+];
+
+fn all_are_that_long(rows: &[Sizes]) -> bool {
+    for (operation, contexts, body, want) in rows {
+        if request_len(b"ping", operation, contexts, *body) != *want {
+            return false;
+        }
+    }
+    true
+}
+
+#[test]
+fn a_requests_length_follows_from_the_lengths_of_its_parts(rt: HostRuntime) {
+    assert!(rt; all_are_that_long(SIZES));
 }
