@@ -1,2 +1,3 @@
 pub mod Again
 pub mod Texts
+pub mod Lengths

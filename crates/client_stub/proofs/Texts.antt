@@ -1,5 +1,5 @@
 -- A text is an object URL or a stringified reference, and never both; so what it means is what its form means.
-use Rattle.std.proofs.Common.{◌≡◌, ℕ, Bool, true, false, List, [], ◌∷◌, ◌++◌, map, length, take, get_or, Ok, Result, refl, sym, ap, ◌∙◌, subst, inl, inr, arith}
+use Rattle.std.proofs.Common.{◌≡◌, ℕ, Bool, true, false, List, [], ◌∷◌, ◌++◌, map, length, take, get_or, Ok, Result, refl, sym, ap, subst, inl, inr, arith}
 use Rattle.std.specs.Char.{to_ascii_lowercase}
 use Rattle.std.specs.Str.{bytes_eq}
 use Rattle.std.proofs.lemmas.List.{take_at}
@@ -15,7 +15,7 @@ use Rattle.object_refs.proofs.Texts.{references_exact}
 use Rattle.object_refs.proofs.Wholes.{profile_again}
 use Rattle.object_refs.specs.References.{IsReference, lower_prefix}
 use Rattle.object_refs.specs.Answers.{Answers}
-use Rattle.client_stub.specs.Remotes.{Remote, located, referred}
+use Rattle.client_stub.specs.Remotes.{Remote}
 use Rattle.client_stub.specs.Meaning.{url_remote, ior_remote, remote_of, IsRemote}
 
 abbrev pub begins : List ℕ → Bool

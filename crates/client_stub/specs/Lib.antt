@@ -1,2 +1,5 @@
 pub mod Remotes
 pub mod Meaning
+pub mod Choosing
+pub mod Asking
+pub mod Requests

@@ -1,10 +1,17 @@
-//! The calling side of the broker: remote objects.
+//! The calling side of the broker: remote objects, the band that a call binds first, and how long its requests are.
 //!
-//! What the text of a reference means stands in `specs/Meaning.antt`, from the definitions by which its parts are printed.
+//! What the text of a reference means stands in `specs/Meaning.antt`, from the definitions by which its parts are printed;
+//! which requests a call takes stands in `specs/Requests.antt`.
 #![tactic(auto)]
 
+mod asked;
+mod choosing;
+mod length;
 mod meaning;
 mod remote;
 
+pub use asked::Asked;
+pub use choosing::{NoBand, band_for};
+pub use length::{BIND_OPERATION, request_len};
 pub use meaning::remote_of;
 pub use remote::Remote;
