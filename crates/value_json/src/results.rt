@@ -49,7 +49,8 @@ fn result_json(
     params: &[Param],
     values: &[IdlValue],
 ) -> Result<Vec<Value>, NoMemory>
-    ensures { IfOk result (λ v. items_view v.items ≡ shown_of_each (kind_of kind.now ∷ kinds_back (map param_of params.now)) (values_view values.now)) }
+    ensures { IfOk result (λ v. items_view v.items
+        ≡ shown_of_each (kind_of kind.now ∷ kinds_back (map param_of params.now)) (values_view values.now)) }
 {
     let mut list = Vec::with_capacity(alloc, values.len())?;
     let [value, later @ ..] = values else {
