@@ -169,9 +169,11 @@ const ENDS: &[Row] = &[
     (Kind::One(One::Octet), "255", "255"),
     (Kind::One(One::Short), "-32768", "-32768"),
     (Kind::One(One::Short), "32767", "32767"),
+    (Kind::One(One::UShort), "0", "0"),
     (Kind::One(One::UShort), "65535", "65535"),
     (Kind::One(One::Long), "-2147483648", "-2147483648"),
     (Kind::One(One::Long), "2147483647", "2147483647"),
+    (Kind::One(One::ULong), "0", "0"),
     (Kind::One(One::ULong), "4294967295", "4294967295"),
     (
         Kind::One(One::LongLong),
@@ -287,13 +289,18 @@ const NO_NUMBERS: &[(Kind, &'static str)] = &[
     (Kind::One(One::Short), "-32769"),
     (Kind::One(One::Short), "32768"),
     (Kind::One(One::UShort), "65536"),
+    (Kind::One(One::UShort), "-1"),
     (Kind::One(One::Long), "-2147483649"),
     (Kind::One(One::Long), "2147483648"),
     (Kind::One(One::ULong), "4294967296"),
+    (Kind::One(One::ULong), "-1"),
     (Kind::One(One::LongLong), "-9223372036854775809"),
     (Kind::One(One::LongLong), "9223372036854775808"),
     (Kind::One(One::ULongLong), "18446744073709551616"),
     (Kind::One(One::ULongLong), "-1"),
+    (Kind::One(One::ULongLong), "1e2"),
+    (Kind::One(One::LongLong), "-0"),
+    (Kind::One(One::LongLong), "1.0"),
 ];
 
 #[test]
@@ -327,6 +334,7 @@ const NO_PARTS: &[(Kind, &'static str)] = &[
     (Kind::Pair, "{\"x\":7}"),
     (Kind::Pair, "{\"x\":7,\"b\":true,\"c\":1}"),
     (Kind::Pair, "{\"x\":7,\"c\":true}"),
+    (Kind::Pair, "{\"b\":true,\"x\":8,\"x\":300}"),
     (Kind::Pair, "[7,true]"),
     (Kind::Union(One::Long, &[-2]), "{\"case\":1}"),
     (Kind::Union(One::Long, &[-2]), "{\"case\":0,\"value\":true}"),
@@ -344,4 +352,87 @@ const NO_PARTS: &[(Kind, &'static str)] = &[
 #[test]
 fn other_parts_are_refused(rt: HostRuntime) {
     assert!(rt; all_refuse(rt.alloc(), NO_PARTS));
+}
+
+/// The text of a value in so many arrays.
+fn within_arrays(alloc: Global, levels: usize, inside: &str) -> Option<String> {
+    let mut text = String::new(alloc);
+    for _ in 0..levels {
+        text.push_str("[").ok()?;
+    }
+    text.push_str(inside).ok()?;
+    for _ in 0..levels {
+        text.push_str("]").ok()?;
+    }
+    Some(text)
+}
+
+/// A sequence of sequences, so many in all, of an octet.
+fn deep_type(alloc: Global, sequences: usize) -> Option<IdlType> {
+    let mut kind = IdlType::Octet;
+    for _ in 0..sequences {
+        kind = IdlType::Seq(Box::new(alloc, kind).ok()?, 0);
+    }
+    Some(kind)
+}
+
+/// The text that is printed of the value that a text means.
+fn text_again(alloc: Global, kind: &IdlType, text: &str) -> Option<String> {
+    let json = Value::from_str(alloc, text).ok()?;
+    let value = from_json(alloc, kind, &json).ok()?;
+    let json = to_json(alloc, kind, &value).ok()?;
+    json.to_string(alloc).ok()
+}
+
+/// Whether an octet in so many sequences is printed as it is read.
+fn deep_is_printed(alloc: Global, sequences: usize) -> Option<bool> {
+    let kind = deep_type(alloc, sequences)?;
+    let text = within_arrays(alloc, sequences, "7")?;
+    let again = text_again(alloc, &kind, text.as_str())?;
+    Some(again.as_str() == text.as_str())
+}
+
+#[test]
+fn a_type_of_64_levels_is_printed(rt: HostRuntime) {
+    assert!(rt; deep_is_printed(rt.alloc(), 63) == Some(true));
+}
+
+/// Whether arrays that nest so deep are JSON.
+fn is_json(alloc: Global, levels: usize) -> Option<bool> {
+    let text = within_arrays(alloc, levels, "")?;
+    Some(Value::from_str(alloc, text.as_str()).is_ok())
+}
+
+#[test]
+fn json_nests_127_levels_deep(rt: HostRuntime) {
+    assert!(rt; is_json(rt.alloc(), 127) == Some(true));
+    assert!(rt; is_json(rt.alloc(), 128) == Some(false));
+}
+
+/// The text of an array of so many octets.
+fn octets_text(alloc: Global, count: usize) -> Option<String> {
+    let mut text = String::new(alloc);
+    text.push_str("[7").ok()?;
+    for _ in 1..count {
+        text.push_str(",255").ok()?;
+    }
+    text.push_str("]").ok()?;
+    Some(text)
+}
+
+/// Whether an array of this length takes so many octets, and prints them as they are read.
+fn octets_are_printed(alloc: Global, len: u32, count: usize) -> Option<bool> {
+    let kind = IdlType::Array(Box::new(alloc, IdlType::Octet).ok()?, len);
+    let text = octets_text(alloc, count)?;
+    match text_again(alloc, &kind, text.as_str()) {
+        Some(again) => Some(again.as_str() == text.as_str()),
+        None => Some(false),
+    }
+}
+
+#[test]
+fn an_array_of_65536_octets_is_printed(rt: HostRuntime) {
+    assert!(rt; octets_are_printed(rt.alloc(), 65536, 65536) == Some(true));
+    assert!(rt; octets_are_printed(rt.alloc(), 65536, 65535) == Some(false));
+    assert!(rt; octets_are_printed(rt.alloc(), 65536, 65537) == Some(false));
 }

@@ -1,0 +1,195 @@
+//! The arguments and results of operations as JSON, by hand.
+
+use cdr_values::IdlType;
+use idl_types::{Operation, Param, Way};
+use orb_base::{List, Text};
+use std::alloc::Global;
+use std::test::*;
+use value_json::*;
+
+/// The type of a parameter.
+#[derive(Clone, Copy)]
+pub enum One {
+    Long,
+    Boolean,
+    Words,
+    LongLongs,
+}
+
+fn kind(alloc: Global, of: One) -> Option<IdlType> {
+    match of {
+        One::Long => Some(IdlType::Long),
+        One::Boolean => Some(IdlType::Boolean),
+        One::Words => Some(IdlType::Words(0)),
+        One::LongLongs => Some(IdlType::Seq(Box::new(alloc, IdlType::LongLong).ok()?, 0)),
+    }
+}
+
+fn param(alloc: Global, way: Way, of: One) -> Option<Param> {
+    let name = Text::new(alloc, b"p").ok()?;
+    Some(Param {
+        way,
+        name,
+        kind: kind(alloc, of)?,
+    })
+}
+
+fn params(alloc: Global, rows: &[(Way, One)]) -> Option<List<Param>> {
+    let mut list = List::new(alloc);
+    for (way, of) in rows {
+        if list.push(param(alloc, *way, *of)?).is_err() {
+            return None;
+        }
+    }
+    Some(list)
+}
+
+/// An operation of this name with these parameters and a result or none.
+pub fn named_operation(
+    alloc: Global,
+    name: &[u8],
+    rows: &[(Way, One)],
+    gives: Option<One>,
+) -> Option<Operation> {
+    let params = params(alloc, rows)?;
+    let name = Text::new(alloc, name).ok()?;
+    let result = match gives {
+        Some(of) => Some(kind(alloc, of)?),
+        None => None,
+    };
+    Some(Operation {
+        name,
+        oneway: false,
+        result,
+        params,
+        raises: List::new(alloc),
+    })
+}
+
+/// Parameters, the text of their arguments, and how many values it means, or None where it means none.
+type Asked = (&'static [(Way, One)], &'static str, Option<usize>);
+
+fn is_asked(alloc: Global, row: &Asked) -> Option<bool> {
+    let (rows, text, want) = row;
+    let params = params(alloc, rows)?;
+    match (arguments_from(alloc, params.as_slice(), text), want) {
+        (Ok(values), Some(count)) => Some(values.len() == *count),
+        (Err(JsonError::NotOfType), None) => Some(true),
+        _ => Some(false),
+    }
+}
+
+fn all_are_asked(alloc: Global, rows: &[Asked]) -> bool {
+    for row in rows {
+        if is_asked(alloc, row) != Some(true) {
+            return false;
+        }
+    }
+    true
+}
+
+const NO_PARAMS: &[(Way, One)] = &[];
+
+const MIXED: &[(Way, One)] = &[
+    (Way::Output, One::Boolean),
+    (Way::Input, One::Long),
+    (Way::Both, One::Words),
+    (Way::Output, One::LongLongs),
+];
+
+const ASKED: &[Asked] = &[
+    (NO_PARAMS, "[]", Some(0)),
+    (NO_PARAMS, " [ ] ", Some(0)),
+    (MIXED, "[7,\"a\"]", Some(2)),
+    (MIXED, "[ -2147483648 , \"\" ]", Some(2)),
+];
+
+#[test]
+fn a_text_of_one_value_for_each_parameter_is_taken(rt: HostRuntime) {
+    assert!(rt; all_are_asked(rt.alloc(), ASKED));
+}
+
+const REFUSED: &[Asked] = &[
+    (NO_PARAMS, "", None),
+    (NO_PARAMS, "[", None),
+    (NO_PARAMS, "[]]", None),
+    (NO_PARAMS, "{}", None),
+    (NO_PARAMS, "null", None),
+    (NO_PARAMS, "[null]", None),
+    (MIXED, "[]", None),
+    (MIXED, "[7]", None),
+    (MIXED, "[7,\"a\",true]", None),
+    (MIXED, "[\"a\",7]", None),
+    (MIXED, "[2147483648,\"a\"]", None),
+    (MIXED, "{\"0\":7,\"1\":\"a\"}", None),
+    (MIXED, "[[7,\"a\"]]", None),
+];
+
+#[test]
+fn other_texts_are_refused_as_one(rt: HostRuntime) {
+    assert!(rt; all_are_asked(rt.alloc(), REFUSED));
+}
+
+/// The types of the values that come back, the text of them, and the text that is printed.
+type Told = (
+    &'static [(Way, One)],
+    Option<One>,
+    &'static str,
+    &'static str,
+);
+
+/// Parameters that all come back, of a result and of other parameters.
+fn backs(alloc: Global, rows: &[(Way, One)], gives: Option<One>) -> Option<List<Param>> {
+    let mut list = List::new(alloc);
+    if let Some(of) = gives {
+        if list.push(param(alloc, Way::Both, of)?).is_err() {
+            return None;
+        }
+    }
+    for (way, of) in rows {
+        if *way != Way::Input && list.push(param(alloc, Way::Both, *of)?).is_err() {
+            return None;
+        }
+    }
+    Some(list)
+}
+
+fn is_told(alloc: Global, row: &Told) -> Option<bool> {
+    let (rows, gives, text, want) = row;
+    let params = backs(alloc, rows, *gives)?;
+    let values = arguments_from(alloc, params.as_slice(), text).ok()?;
+    let operation = named_operation(alloc, b"op", rows, *gives)?;
+    let printed = results_json(alloc, &operation, values.as_slice()).ok()?;
+    Some(printed.as_str() == *want)
+}
+
+fn all_are_told(alloc: Global, rows: &[Told]) -> bool {
+    for row in rows {
+        if is_told(alloc, row) != Some(true) {
+            return false;
+        }
+    }
+    true
+}
+
+const TOLD: &[Told] = &[
+    (NO_PARAMS, None, "[]", "[]"),
+    (NO_PARAMS, Some(One::Long), "[100]", "[100]"),
+    (
+        MIXED,
+        Some(One::Boolean),
+        "[true, false, \"a\\u00fc\", [9223372036854775807, -9223372036854775808]]",
+        "[true,false,\"aü\",[9223372036854775807,-9223372036854775808]]",
+    ),
+    (
+        MIXED,
+        None,
+        "[true, \"\\u0001\\\"\", []]",
+        "[true,\"\\u0001\\\"\",[]]",
+    ),
+];
+
+#[test]
+fn results_are_one_line(rt: HostRuntime) {
+    assert!(rt; all_are_told(rt.alloc(), TOLD));
+}
