@@ -36,16 +36,16 @@ updated bs m n w h =
     by_bytes (λ cs. get_by (λ k. same_text cs k.items) m) (λ cs. get_by (λ k. same_text cs k.items) n) bs w h.1
     (λ cs e. others _ _ _ _ h.3 _ (λ x y. nat_list_eq_equiv.congr cs x.items y.items) (λ k. apart bs cs k.items e))
 
--- no object stands behind the last one
+-- no object is after the last one
 pub indexed_none : (numbers : Numbers) (objects : List ObjectSpec) (n : ℕ) → IsEmpty numbers → n ≡ length objects → IsIndexed numbers n (drop n objects)
 unfolding IsIndexed
 indexed_none numbers objects n none end = λ key. rw (end, drop_all (length objects) objects (omega arith), none) refl
 
--- all objects stand from the first one on
+-- all objects are from the first one on
 pub indexed_all : (numbers : Numbers) (objects : List ObjectSpec) (n : ℕ) → n ≡ 0 → IsIndexed numbers n (drop n objects) → IsIndexed numbers 0 objects
 indexed_all numbers objects n first all = subst (λ (m : ℕ). IsIndexed numbers m (drop m objects)) first all
 
--- one more object stands before those behind it
+-- one more object is before those after it
 pub indexed_more : (old new : Numbers) (objects : List ObjectSpec) (n : ℕ) (o : ObjectSpec) → n < length objects → o ≡ get_or objects n o
     → IsIndexed old (n + 1) (drop (n + 1) objects) → Keeps o.key n old new → IsIndexed new n (drop n objects)
 unfolding IsIndexed Keeps

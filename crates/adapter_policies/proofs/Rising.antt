@@ -9,18 +9,18 @@ use Rattle.adapter_policies.specs.MapRelations.{rows_rise, row_made}
 use Rattle.adapter_policies.specs.PoolRelations.{is_above}
 use Rattle.adapter_policies.specs.declared.row.RowTable.{RowTable}
 
--- the first row is above what stands before it
+-- the first row is above what is before it
 first_above : (a b c : Bool) → (a && (b && c)) ≡ true → a ≡ true
 first_above true b c h = refl
 first_above false b c h = h
 
--- and the rest rises behind it
+-- and the rest rises after it
 rest_rises : (a b c : Bool) → (a && (b && c)) ≡ true → c ≡ true
 rest_rises true true c h = h
 rest_rises true false c h = absurd (cc)
 rest_rises false b c h = absurd (cc)
 
--- one more element in front
+-- one more element before
 adjacent_cons : {X : Type 0} (R : X → X → Type 0) (x y : X) (xs : List X) → R x y → AllAdjacentBelow R (y ∷ xs) (length (y ∷ xs))
     → AllAdjacentBelow R (x ∷ y ∷ xs) (length (x ∷ y ∷ xs))
 adjacent_cons R x y xs first rest zero d below = first

@@ -32,7 +32,7 @@ no_thread_fault pool =
     first_of (entry_fault (codes "pool.lanes") NoThread (position is_idle pool.lanes))
     (fault_where (not pool.laned && (pool.statics == 0 && pool.dynamics == 0)) (codes "pool") NoThread)
 
--- the threads of the lanes and of the pool itself; of the two only one kind stands
+-- the threads of the lanes and of the pool itself; of the two only one kind is
 abbrev pub pool_threads : PoolSaid → ℕ
 pool_threads pool = sum_by (λ l. l.statics + l.dynamics) pool.lanes + (pool.statics + pool.dynamics)
 

@@ -65,7 +65,7 @@ map_rules =
     ∷ key_of (codes "rows") if_table (entries 0 any_length row_rules)
     ∷ []
 
--- the limits of the buffer stand exactly with buffering; a pool has lanes, or threads and a priority of its own
+-- the limits of the buffer are exactly with buffering; a pool has lanes, or threads and a priority of its own
 abbrev pub if_buffering : Need
 if_buffering = exactly_where (is_on (codes "buffering"))
 
@@ -114,7 +114,7 @@ object_rules =
     ∷ key_of (codes "priority") free (one priority)
     ∷ []
 
--- the tables that are judged behind the document's own keys
+-- the tables that are judged after the document's own keys
 abbrev pub section_rules : List (List ℕ × List (Rule Kind))
 section_rules =
     (codes "map", map_rules)

@@ -1,4 +1,4 @@
--- What the tables of a configuration say, as they stand: own profile.
+-- What the tables of a configuration say, as they are: own profile.
 use Rattle.std.specs.Prelude.{ℕ, ℤ, Bool, List, map, is_some, codes, if◌then◌else◌}
 use Rattle.toml.specs.Data.{Members, get_member}
 use Rattle.orb_base.specs.declared.priority_model.PriorityModel.{PriorityModel}

@@ -14,7 +14,7 @@ use crate::object::ObjectTable;
 pub trait Clashing {
     ghost clash: { Self → Self → Bool };
 
-    /// Whether it clashes with another one behind it.
+    /// Whether it clashes with another one after it.
     fn clashes(&self, other: &Self) -> bool
         ensures { result ≡ clash self.now other.now };
 }

@@ -93,7 +93,7 @@ pub fn read_tables(alloc: Global, document: &Table) -> Result<Document, SetupErr
     })
 }
 
-/// The name of a file, which is due where the key of another file stands.
+/// The name of a file, which is due where the key of another file is.
 fn file_name(
     alloc: Global,
     document: &Table,

@@ -7,7 +7,7 @@ use orb_base::NoMemory;
 use std::alloc::Global;
 use std::collections::HashMap;
 
-/// The number of each object by its key, the first one's where a key stands twice. One pass over the objects, from the last.
+/// The number of each object by its key, the first one's where a key is there twice. One pass over the objects, from the last.
 #[tactic(auto, using(crate::proofs::Keyed::indexed_none, crate::proofs::Keyed::indexed_all))]
 pub fn indexed(alloc: Global, objects: &[ObjectSpec]) -> Result<HashMap<Vec<u8>, u16>, NoMemory>
     requires { length objects.now ≤ 1024 }
@@ -22,7 +22,7 @@ pub fn indexed(alloc: Global, objects: &[ObjectSpec]) -> Result<HashMap<Vec<u8>,
     Ok(numbers)
 }
 
-/// Keeps the number of an object before those behind it.
+/// Keeps the number of an object before those after it.
 fn keep_object(
     alloc: Global,
     numbers: &mut HashMap<Vec<u8>, u16>,

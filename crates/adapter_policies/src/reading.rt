@@ -20,7 +20,7 @@ use toml::Table;
 pub fn read_setup(alloc: Global, bytes: &[u8]) -> Result<Setup, SetupError>
     // The setup of the configuration that the bytes are.
     ensures read { IfOk result (λ setup. Configures bytes.now setup) }
-    // A fault that is told is the first one.
+    // A fault that is given is the first one.
     ensures refused { IfErr result (λ e. Tells e (HasFault bytes.now)) }
 {
     let document = read_document(alloc, bytes)?;

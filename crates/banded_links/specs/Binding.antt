@@ -16,7 +16,7 @@ abbrev pub answer : Pool → Option Span → BindAnswer
 answer pool None = Malformed
 answer pool (Some band) = if serves pool band then Bound else NoLane
 
--- the band that is bound behind a request to bind `asked`, where `before` was bound before it
+-- the band that is bound after a request to bind `asked`, where `before` was bound before it
 abbrev pub band_behind : BindAnswer → Option Span → Option Span → Option Span
 band_behind Bound asked before = asked
 band_behind Malformed asked before = before

@@ -1,4 +1,4 @@
--- Values that a loop reads or puts one behind the other.
+-- Values that a loop reads or puts one after the other.
 use Rattle.std.proofs.Common.{◌≡◌, ℕ, zero, suc, ◌-◌, ◌+◌, ◌≤◌, ◌<◌, List, [], ◌∷◌, ◌++◌, length, take, drop, get_or, Ok, Err, refl, sym, ap, subst, ◌∙◌}
 use Rattle.std.proofs.Common.{append_assoc, add-one, arith}
 use Rattle.std.specs.List.{AllByRecursion, flat_map}
@@ -77,7 +77,7 @@ one_more {X} xs i x h is =
     let whole : take (i + 1) xs ≡ take i xs ++ get_or xs i x ∷ [] = rw add-one (take-suc xs i x h) in
     whole ∙ ap (λ (y : X). take i xs ++ y ∷ []) (sym is)
 
--- what stands in front of an item, and what stands behind it
+-- what is before an item, and what is after it
 pub around : {X : Type 0} (xs : List X) (i : ℕ) (x : X) → i < length xs → x ≡ get_or xs i x
     → xs ≡ take i xs ++ x ∷ drop (i + 1) xs
 around {X} xs i x h is =
@@ -152,7 +152,7 @@ unfolding number_bytes
 order_first Big = refl
 order_first Little = refl
 
--- fields put behind the order byte, on an empty page, are their encapsulation
+-- fields put after the order byte, on an empty page, are their encapsulation
 pub encapsulated : (order : Order) (empty begun new : Page) (fields : List Field) → empty ≡ page order 0 []
     → begun ≡ written empty (number w8 (order_byte order) ∷ []) → new ≡ written begun fields
     → new.bytes ≡ encapsulation order fields

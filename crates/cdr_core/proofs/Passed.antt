@@ -7,7 +7,7 @@ use Rattle.cdr_core.specs.Sequence.{Parsed, ◌>>=◌, times, behind}
 use Rattle.cdr_core.specs.Lists.{Item, item_at, made_at, list_at, read_or_none, listed}
 use Rattle.cdr_core.proofs.Binding.{ok_is}
 
--- a value before what is read leaves the cursor behind it where it is
+-- a value before what is read leaves the cursor after it where it is
 behind_more : {E A : Type 0} (a : A) (reading : Parsed E (List A))
     → behind (reading >>= λ x. Ok (a ∷ x.0, x.1)) ≡ behind reading
 behind_more a (Ok x) = refl
@@ -52,7 +52,7 @@ made_of made first = first >>= λ x. Ok (made x.0, x.1)
 abbrev and_others : {A : Type 0} → (Cursor → Reads A) → ℕ → Reads A → Reads (List A)
 and_others one n first = first >>= λ x. times one n x.1 >>= λ others. Ok (x.0 ∷ others.0, others.1)
 
--- whatever is made of an item, the cursor behind it is the same
+-- whatever is made of an item, the cursor after it is the same
 one_made : {A : Type 0} (made : Item → A) (n : ℕ) (first : Reads Item)
     → ((d : Cursor) → behind (times (made_at made) n d) ≡ behind (times item_at n d))
     → behind (and_others (made_at made) n (made_of made first)) ≡ behind (and_others item_at n first)

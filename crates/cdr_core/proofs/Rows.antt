@@ -1,4 +1,4 @@
--- Basic values in a row: what stands there is read, and what is read stands there.
+-- Basic values in a row: what is there is read, and what is read is there.
 use Rattle.std.proofs.Common.{◌≡◌, ℕ, ◌≤◌, List, [], ◌++◌, length, Ok, refl, sym, ap, subst, ◌∙◌, arith}
 use Rattle.std.specs.Int.{Width, w8, w16, w32, byte_len}
 use Rattle.std.proofs.lemmas.List.{drop_at}
@@ -23,7 +23,7 @@ long_len = omega arith
 
 -- ---- cursors
 
--- what stands behind bytes are bytes
+-- what is after bytes are bytes
 pub bytes_behind : (c d : Cursor) (fields : List Field) → AreBytes c.rest → Spans c d fields → AreBytes d.rest
 bytes_behind c d fields fits p =
     let there : AreBytes (p.spelling ++ d.rest) = subst AreBytes p.parts fits in
@@ -33,7 +33,7 @@ bytes_behind c d fields fits p =
 pub nothing : (c : Cursor) → Spans c c []
 nothing c = record { spelling = []; parts = refl; spelled = refl; order = refl; place = omega arith }
 
--- between no fields one stands where one stood
+-- between no fields one is where one was
 pub same_cursor : (c d : Cursor) → Spans c d [] → c ≡ d
 same_cursor c d p =
     let none : p.spelling ≡ [] = p.spelled in

@@ -1,4 +1,4 @@
--- Values read one behind the other, and lists of them behind their count.
+-- Values read one after the other, and lists of them after their count.
 use Rattle.std.proofs.Common.{◌≡◌, ℕ, zero, suc, ◌+◌, ◌<◌, ◌≤◌, List, [], ◌∷◌, ◌++◌, length, Ok, Err, inl, inr, refl, sym, ap, subst, ◌∙◌, arith, length-append}
 use Rattle.std.specs.Int.{w32}
 use Rattle.std.specs.List.{AllByRecursion, flat_map}
@@ -183,7 +183,7 @@ counted_takes one fields Fits each c n y fits e h =
     let first : Spans c n.1 (number w32 (length y.0) ∷ []) = subst (λ (k : ℕ). Spans c n.1 (number w32 k ∷ [])) (sym u.count) t.spans in
     ((omega (arith, u.count, t.fits), u.fit), spans_then c n.1 y.1 (number w32 (length y.0) ∷ []) (flat_map fields y.0) first u.spans)
 
--- the count and the values of a list that stands there
+-- the count and the values of a list that is there
 pub record Counting {E A : Type 0} (one : Cursor → Parsed E A) (c d : Cursor) (s : List A) : Type 0 where
   pub middle : Cursor
   pub counts : count_at c ≡ Ok (length s, middle)

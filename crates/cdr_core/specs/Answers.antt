@@ -3,7 +3,7 @@ use Rattle.std.specs.Prelude.{◌≡◌, ◌↔◌, Option, Some, None, Result, 
 use Rattle.cdr_core.specs.Cursor.{Cursor}
 use Rattle.cdr_core.specs.Sequence.{Parsed}
 
--- an error that is a fault is that of the reading; one that is none, as want of memory, says nothing of it
+-- an error that is a fault is that of the reading; one that is none, as out of memory, says nothing of it
 abbrev pub FailsWith : {F Y : Type 0} → Option F → Result Y F → Type 0
 FailsWith (Some fault) reading = reading ≡ Err fault
 FailsWith None reading = Unit {0}
@@ -13,7 +13,7 @@ abbrev pub Answers : {E F X Y : Type 0} → (E → Option F) → (X → Y) → R
 Answers fault_of view (Ok x) reading = reading ≡ Ok (view x)
 Answers fault_of view (Err e) reading = FailsWith (fault_of e) reading
 
--- the same with the cursor behind it
+-- the same with the cursor after it
 abbrev pub Gives : {E F X Y : Type 0} → (E → Option F) → (X → Y) → Result X E → Cursor → Parsed F Y → Type 0
 Gives fault_of view (Ok x) new reading = reading ≡ Ok (view x, new)
 Gives fault_of view (Err e) new reading = FailsWith (fault_of e) reading

@@ -27,7 +27,7 @@ TellsOnly {E} one Bad = (c : Cursor) (e : E) → AreBytes c.rest → one c ≡ E
 abbrev pub TellsEach : {E A : Type 0} → (Cursor → Parsed E A) → (Cursor → E → Type 0) → Type 0
 TellsEach {E} one Bad = (c : Cursor) (e : E) → Bad c e → one c ≡ Err e
 
--- a reading gives a value exactly where the bytes in front spell it, and a fault exactly where it is the first
+-- a reading gives a value exactly where the bytes before spell it, and a fault exactly where it is the first
 pub record IsExactFor {E A : Type 0} (one : Cursor → Parsed E A) (fields : A → List Field) (Fits : A → Type 0)
     (Bad : Cursor → E → Type 0) : Type 0 where
   pub found : TakesOnly one fields Fits

@@ -1,4 +1,4 @@
--- Items, as tagged data and service contexts are, and lists of any values behind their count: CORBA 3.0.3, sections
+-- Items, as tagged data and service contexts are, and lists of any values after their count: CORBA 3.0.3, sections
 -- 13.6.2, 13.7 and 15.3.2.
 use Rattle.std.specs.Prelude.{ℕ, ◌^◌, ◌<◌, ◌==◌, List, [], ◌∷◌, length, find, Option, Ok, Err, IsOk}
 use Rattle.std.specs.Int.{w32}
@@ -37,7 +37,7 @@ item_at c = do
 abbrev pub made_at : {A : Type 0} → (Item → A) → Cursor → Reads A
 made_at made c = item_at c >>= λ x. Ok (made x.0, x.1)
 
--- a list: the count of its values, and one behind the other
+-- a list: the count of its values, and one after the other
 abbrev pub list_fields : {A : Type 0} → (A → List Field) → List A → List Field
 list_fields fields list = number w32 (length list) ∷ flat_map fields list
 

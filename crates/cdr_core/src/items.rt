@@ -78,8 +78,8 @@ impl Item for Context {
     ghost again = { λ x. refl };
 }
 
-/// Takes a list behind its count: tagged data or service contexts, whose octets are copied once. Tells the first fault,
-/// of the count or of an item, and leaves the reader where it stood where it answers none. Takes memory as items come,
+/// Takes a list after its count: tagged data or service contexts, whose octets are copied once. Gives the first fault,
+/// of the count or of an item, and leaves the reader where it was where it answers none. Takes memory as items come,
 /// and no more for the count's word. Work grows with the bytes that it takes.
 #[tactic(auto, unfolding(crate::specs::Lists::list_at))]
 pub fn take_list<T: Item>(alloc: Global, reader: &mut Reader<'_>) -> Result<List<T>, CdrError>
@@ -128,8 +128,8 @@ fn take_one<T: Item>(alloc: Global, reader: &mut Reader<'_>) -> Result<T, CdrErr
     }
 }
 
-/// Passes over a list behind its count: tagged data or service contexts. Tells the first fault, of the count or of an
-/// item, as `take_list` does, and leaves the reader where it stood where it tells one. Takes no memory; work grows with
+/// Passes over a list after its count: tagged data or service contexts. Gives the first fault, of the count or of an
+/// item, as `take_list` does, and leaves the reader where it was where it tells one. Takes no memory; work grows with
 /// the number of items.
 #[tactic(auto, unfolding(crate::specs::Lists::list_at))]
 pub fn pass_list(reader: &mut Reader<'_>) -> Result<(), CdrFault>
@@ -153,7 +153,7 @@ fn pass_items(count: u32, reader: &mut Reader<'_>) -> Result<(), CdrFault>
     Ok(())
 }
 
-/// Puts a list behind its count: tagged data or service contexts. Work grows with the bytes that it puts.
+/// Puts a list after its count: tagged data or service contexts. Work grows with the bytes that it puts.
 pub fn put_list<T: Item>(into: &mut Writer, list: &[T]) -> Result<(), NoMemory>
     requires { AreCounted T.item list.now }
     ensures { Puts result into.old into.new (are_spelled_as T.item list.now) }
@@ -162,7 +162,7 @@ pub fn put_list<T: Item>(into: &mut Writer, list: &[T]) -> Result<(), NoMemory>
     put_each(into, list)
 }
 
-/// Puts items one behind the other.
+/// Puts items one after the other.
 fn put_each<T: Item>(into: &mut Writer, list: &[T]) -> Result<(), NoMemory>
     requires { AllByRecursion (λ x. length (T.item x).1 < 2 ^ 32) list.now }
     ensures { Puts result into.old into.new (flat_map (λ x. Spec.item_fields (T.item x)) list.now) }

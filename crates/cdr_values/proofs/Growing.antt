@@ -34,7 +34,7 @@ pub behind_parts : (front : List Field) (o : Option (List Field)) (fs : List Fie
 behind_parts front (Some gs) fs e = (gs, refl, sym (same_Some (front ++ gs) fs e))
 behind_parts front None fs e = absurd cc
 
--- one value's fields and those behind them
+-- one value's fields and those after them
 pub record Halves (a b : Option (List Field)) (fs : List Field) : Type 0 where
   pub front : List Field
   pub back : List Field
@@ -48,7 +48,7 @@ halves (Some x) b fs e = let h = behind_parts x b fs e in record { front = x; ba
 
 -- ---- fields with a byte
 
--- behind the fields one stands further on
+-- after the fields one is further on
 abbrev pub Grows : List Field → Type 0
 Grows fs = (place : ℕ) → place < fields_end place fs
 

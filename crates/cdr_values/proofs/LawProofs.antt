@@ -23,7 +23,7 @@ use Rattle.cdr_values.proofs.Refused.{read_fails}
 use Rattle.cdr_values.proofs.ReadBack.{read_again}
 use Rattle.cdr_values.proofs.Refusing.{read_refuses}
 
--- a spelling with any pads stands between two cursors
+-- a spelling with any pads is between two cursors
 between : (order : Order) (place : ℕ) (k : Kind) (v : Value) (x behind : List ℕ) (c : spelling.Cdr order place k v x)
     → Spans (cursor order place (x ++ behind)) (cursor order (place + length x) behind) c.0
 between order place k v x behind c = record { spelling = x; parts = refl; spelled = c.2; order = refl; place = refl }

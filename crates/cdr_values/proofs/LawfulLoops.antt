@@ -17,7 +17,7 @@ use Rattle.cdr_values.proofs.Choosing.{branches_back, labels_of, default_of}
 
 -- ---- a test of all that are left, and of all
 
--- one that stands behind is the same
+-- one that is after is the same
 stopped : (here total found more : Bool) → here ≡ (not found && more) → found ≡ true → here ≡ total → false ≡ total
 stopped here total found more is there so_far = let none : here ≡ false = is ∙ rw there refl in sym none ∙ so_far
 

@@ -1,4 +1,4 @@
--- Where a count stood, told by where the reader stands behind it.
+-- Where a count was, told by where the reader is after it.
 use Rattle.std.proofs.Common.{◌≡◌, ℕ, ◌+◌, ◌-◌, ◌≤◌, List, ◌∷◌, [], length, sym, ◌∙◌, arith}
 use Rattle.std.specs.Int.{w32}
 use Rattle.std.proofs.lemmas.List.{length_push}

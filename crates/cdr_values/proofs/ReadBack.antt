@@ -211,7 +211,7 @@ values_back (value v vs) = ap (value v) (values_back vs)
 abbrev pub Again : (Cursor → Reads Value) → Kind → Type 0
 Again one k = (v : Value) (fs : List Field) (c d : Cursor) → fields_of v k ≡ Some fs → Spans c d fs → one c ≡ Ok (v, d)
 
--- between no fields one stands where one stood
+-- between no fields one is where one was
 pub no_fields : (fs : List Field) (c d : Cursor) → ◌≡◌ {A = Option (List Field)} (Some []) (Some fs) → Spans c d fs → c ≡ d
 no_fields fs c d e p = same_cursor c d (subst (λ (gs : List Field). Spans c d gs) (sym (same_Some [] fs e)) p)
 

@@ -1,4 +1,4 @@
--- Where a reading is refused no value of the type stands, and its fault is the first one.
+-- Where a reading is refused no value of the type is, and its fault is the first one.
 use Rattle.std.proofs.Common.{◌≡◌, ℕ, zero, suc, pos, ◌+◌, ◌<◌, ◌≤◌, ◌^◌, Bool, true, false, cond, ltb, List, [], ◌∷◌, ◌++◌, length, Option, Some, None, Ok, Err, refl, sym, ap, subst, arith, ◌⊎◌, inl, inr}
 use Rattle.std.specs.Int.{w8, w32, cast_signed, from_bool}
 use Rattle.std.proofs.lemmas.Bool.{ltb-false, lt-ltb}

@@ -1,4 +1,4 @@
--- Where no value of a lawful type stands, for a first fault, the reading is refused with that fault.
+-- Where no value of a lawful type is, for a first fault, the reading is refused with that fault.
 use Rattle.std.proofs.Common.{◌≡◌, ℕ, zero, suc, ◌+◌, ◌<◌, ◌≤◌, ◌^◌, Bool, true, false, not, eqb, ltb, List, [], ◌∷◌, ◌++◌, length, Option, Some, None, Ok, Err, refl, sym, ap, subst, ◌∙◌, arith, inl, inr}
 use Rattle.std.specs.Prelude.{IsTrue}
 use Rattle.std.specs.Int.{w8, w32}

@@ -38,7 +38,7 @@ passed_both a b c p q x y = record { fields = x.fields ++ y.fields; asks = rw (x
 pub spans_none : (a : Cursor) → Spans a a []
 spans_none a = record { spelling = []; parts = refl; spelled = refl; order = refl; place = omega arith }
 
--- every value that a reading gives stands before the cursor behind it
+-- every value that a reading gives is before the cursor after it
 abbrev pub Sound : (Cursor → Reads Value) → Kind → Type 0
 Sound one k = (c : Cursor) (v : Value) (d : Cursor) → AreBytes c.rest → one c ≡ Ok (v, d) → Passed c d (fields_of v k)
 
@@ -82,7 +82,7 @@ text_takes bound c t d fits e =
 
 -- ---- numbers
 
--- a number of the type, and its field in front
+-- a number of the type, and its field before
 pub record Scaled (s : Scalar) (c d : Cursor) (z : ℤ) : Type 0 where
   pub field : Field
   pub asks : number_field s z ≡ Some field

@@ -9,12 +9,12 @@ use Rattle.cdr_values.specs.declared.value.IdlValue.{IdlValue}
 use Rattle.cdr_values.specs.declared.fault.DecodeFault.{DecodeFault}
 use Rattle.cdr_values.specs.declared.fault.DecodeFault.TheVariants.{Cdr, NoMemory}
 
--- a fault is that of the reading; want of memory says nothing
+-- a fault is that of the reading; out of memory says nothing
 abbrev pub Refuses : {Y : Type 0} → DecodeFault → Reads Y → Type 0
 Refuses (Cdr f) reading = reading ≡ Err f
 Refuses NoMemory reading = Unit {0}
 
--- the answer, seen by the view, and where the reader stands then are those of the reading
+-- the answer, seen by the view, and where the reader is then are those of the reading
 abbrev pub Gives : {X Y : Type 0} → (X → Y) → Result X DecodeFault → Cursor → Reads Y → Type 0
 Gives view (Ok x) new reading = reading ≡ Ok (view x, new)
 Gives view (Err e) new reading = Refuses e reading

@@ -21,7 +21,7 @@ abbrev pub all_labels : Cases → List ℤ
 all_labels no_cases = []
 all_labels (case labels is_default name k cs) = labels ++ all_labels cs
 
--- whether labels differ from one another and from those behind them
+-- whether labels differ from one another and from those after them
 abbrev pub are_new : List ℤ → List ℤ → Bool
 are_new [] behind = true
 are_new (x ∷ xs) behind = not (list_any (λ y. int_eq y x) (xs ++ behind)) && are_new xs behind

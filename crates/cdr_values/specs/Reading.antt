@@ -51,11 +51,11 @@ text_at bound c = string_at c >>= λ x. if is_above bound (length x.0) then Err 
 unfoldable pub bounded_count_at : ℕ → Cursor → Reads ℕ
 bounded_count_at bound c = count_at c >>= λ x. if is_above bound x.0 then Err (fault OverBound (aligned 4 c.place)) else Ok x
 
--- with these values in front of what is read
+-- with these values before what is read
 abbrev pub with_front : List Value → Reads (List Value) → Reads (List Value)
 with_front front reading = as_read (λ vs. front ++ vs) reading
 
--- a value, and those that are read behind it
+-- a value, and those that are read after it
 abbrev pub then_values : (Cursor → Reads (List Value)) → Value × Cursor → Reads (List Value)
 then_values more x = with_front (x.0 ∷ []) (more x.1)
 

@@ -26,7 +26,7 @@ lowest char = pos 0
 lowest (unsigned s) = pos 0
 lowest (enumeration name labels) = pos 0
 
--- the number behind the highest one
+-- the number after the highest one
 abbrev pub limit : Scalar → ℤ
 limit boolean = pos 2
 limit char = pos 256
@@ -93,11 +93,11 @@ abbrev pub text_fields : List ℕ → Kind → Option (List Field)
 text_fields bytes (words bound) = if is_text bound bytes then Some (string_fields bytes) else None
 text_fields bytes _ = None
 
--- with these fields in front
+-- with these fields before
 abbrev pub behind : List Field → Option (List Field) → Option (List Field)
 behind front more = option_map (λ fs. front ++ fs) more
 
--- one value's fields and those behind them
+-- one value's fields and those after them
 abbrev pub both : Option (List Field) → Option (List Field) → Option (List Field)
 both first more = option_and_then (λ fs. behind fs more) first
 

@@ -171,7 +171,7 @@ fn decode_words(alloc: Global, bound: u32, reader: &mut Reader<'_>) -> Result<Id
     }
 }
 
-/// Takes a string within its bound; OverBound stands at the place of its length.
+/// Takes a string within its bound; OverBound is at the place of its length.
 #[tactic(auto, using(crate::proofs::Places::behind_text), unfolding(crate::specs::Reading::text_at))]
 fn take_text<'a>(bound: u32, reader: &mut Reader<'a>) -> Result<&'a [u8], DecodeFault>
     ensures { Gives (λ bytes. bytes.now) result reader.new (text_at bound reader.old) }
@@ -186,7 +186,7 @@ fn take_text<'a>(bound: u32, reader: &mut Reader<'a>) -> Result<&'a [u8], Decode
     Ok(bytes)
 }
 
-/// Takes the count of a sequence within its bound; OverBound stands at the place of the count.
+/// Takes the count of a sequence within its bound; OverBound is at the place of the count.
 #[tactic(auto, using(crate::proofs::Places::behind_number), unfolding(crate::specs::Reading::bounded_count_at))]
 fn take_bounded_count(bound: u32, reader: &mut Reader<'_>) -> Result<u32, DecodeFault>
     ensures { Gives (λ n. n) result reader.new (bounded_count_at bound reader.old) }

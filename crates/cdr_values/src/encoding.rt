@@ -18,8 +18,8 @@ use crate::value::IdlValue;
 use cdr_core::Writer;
 use orb_base::{NoMemory, Text};
 
-/// Spells a value of a type at the writer's place and in its order, with pads of 0. After want of memory the writer
-/// holds a front of the spelling. Work grows with the bytes put, the stack with the depth of the type.
+/// Spells a value of a type at the writer's place and in its order, with pads of 0. Once out of memory the writer
+/// holds a prefix of the spelling. Work grows with the bytes put, the stack with the depth of the type.
 pub fn encode(kind: &IdlType, value: &IdlValue, into: &mut Writer) -> Result<(), NoMemory>
     requires fits { IsTrue (is_of (value_of value.now) (kind_of kind.now)) }
     ensures { Wrote result into.old into.new (fields_of (value_of value.now) (kind_of kind.now)) }

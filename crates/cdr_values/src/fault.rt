@@ -9,7 +9,7 @@ use thiserror::Error;
 /// Why bytes give no value.
 #[derive(Clone, Copy, Debug, PartialEq, Eq, Error)]
 pub enum DecodeFault {
-    /// No front of the bytes spells a value of the type, and this is the first fault.
+    /// No prefix of the bytes spells a value of the type, and this is the first fault.
     #[error("{0}")]
     Cdr(CdrFault),
     /// Memory was wanting.

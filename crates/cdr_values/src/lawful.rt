@@ -14,7 +14,7 @@ use orb_base::Text;
 
 /// Whether a type is lawful, in all its parts: a struct has a member and an array an element; the names of a struct's
 /// members differ, and so do an enum's labels; the discriminator of a union is an integer type other than octet, a char,
-/// a boolean or an enum, no label of its cases stands twice, and at most one of them is the default.
+/// a boolean or an enum, no label of its cases is there twice, and at most one of them is the default.
 ///
 /// Work grows with the size of the type, and with the square of the number of names or labels of one of its parts; the
 /// stack grows with its depth. Takes no memory.
@@ -194,7 +194,7 @@ fn labels_differ(cases: &[Case]) -> bool
     true
 }
 
-/// Whether labels differ from one another, and from those of the cases behind them.
+/// Whether labels differ from one another, and from those of the cases after them.
 fn are_fresh(labels: &[i128], behind: &[Case]) -> bool
     ensures { result ≡ law.are_new labels.now (law.all_labels (cases_of (cases_view behind.now))) }
 {

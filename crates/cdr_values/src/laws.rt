@@ -12,7 +12,7 @@ pub fn reads_back()
     ensures { ReadsBack }
 {}
 
-/// In one order, at one place and of one lawful type at most one value and one front of the bytes fit.
+/// In one order, at one place and of one lawful type at most one value and one prefix of the bytes fit.
 pub fn reads_one_way()
     ensures { ReadsOneWay }
 {}

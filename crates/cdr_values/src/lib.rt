@@ -1,6 +1,6 @@
 //! Types and values of IDL, and their spelling by the Common Data Representation: CORBA 3.0.3, section 15.3.
 //!
-//! What a value of a type is spelled as stands once, in `specs/Spelling.antt`, as the fields of `cdr_core`; reading,
+//! What a value of a type is spelled as is there once, in `specs/Spelling.antt`, as the fields of `cdr_core`; reading,
 //! writing and fitting are exact against it.
 #![tactic(auto)]
 

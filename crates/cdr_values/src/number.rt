@@ -102,7 +102,7 @@ fn take_label(labels: &List<Text>, reader: &mut Reader<'_>) -> Result<i128, Deco
     Ok(i128::from(take_enumerator(labels.len(), reader)?))
 }
 
-/// Takes the number of an enumerator, one of so many; BadEnum stands at the place of the number.
+/// Takes the number of an enumerator, one of so many; BadEnum is at the place of the number.
 #[tactic(auto, using(crate::proofs::Places::behind_number), unfolding(crate::specs::Reading::label_at))]
 pub(crate) fn take_enumerator(len: usize, reader: &mut Reader<'_>) -> Result<u32, DecodeFault>
     ensures { Gives (λ n. n) result reader.new (label_at len reader.old) }

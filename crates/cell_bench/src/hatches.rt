@@ -32,7 +32,7 @@ fn take_all<R: Wait>(rt: &R, cell: &TurnCell<Hatch>, mut seat: Seat<Hatch>)
     }
 }
 
-/// How long it takes through a turn cell; None for want of memory.
+/// How long it takes through a turn cell; None when out of memory.
 pub fn time_cell<R: Wait + Clock + Threads + Sync>(
     rt: &R,
     alloc: Global,

@@ -86,7 +86,7 @@ fn put_by_four<R: Wait + Threads + Sync>(
     );
 }
 
-/// How long the puts take through a turn cell, by 1 to 8 threads; None for want of memory.
+/// How long the puts take through a turn cell, by 1 to 8 threads; None when out of memory.
 pub fn time_cell<R: Wait + Clock + Threads + Sync>(
     rt: &R,
     alloc: Global,

@@ -22,7 +22,7 @@ pub record Asked : Type 0 where
   pub priority : Option ℕ
   pub band : Option Span
 
--- what stands in the parts of a call
+-- what is in the parts of a call
 abbrev pub asked_of : Given → Asked
 asked_of a = record {
   remote = a.remote.now;

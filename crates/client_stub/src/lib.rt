@@ -1,7 +1,7 @@
 //! The calling side of the broker: remote objects, the band that a call binds first, and how long its requests are.
 //!
-//! What the text of a reference means stands in `specs/Meaning.antt`, from the definitions by which its parts are printed;
-//! which requests a call takes stands in `specs/Requests.antt`.
+//! What the text of a reference means is in `specs/Meaning.antt`, from the definitions by which its parts are printed;
+//! which requests a call takes is in `specs/Requests.antt`.
 #![tactic(auto)]
 
 mod asked;

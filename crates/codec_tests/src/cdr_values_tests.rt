@@ -278,7 +278,7 @@ fn is_read(alloc: Global, kind: &IdlType, more: &[u8], bytes: &[u8]) -> bool {
     }
 }
 
-/// Whether the bytes in the big order from place 8 on, and one byte behind them, are read and spelled again; so is the
+/// Whether the bytes in the big order from place 8 on, and one byte after them, are read and spelled again; so is the
 /// value from each place on in each order.
 fn again(alloc: Global, kind: &IdlType, bytes: &[u8]) -> bool {
     match and_nine(alloc, bytes) {

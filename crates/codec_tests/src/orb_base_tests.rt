@@ -5,7 +5,7 @@ use orb_base::*;
 use std::alloc::Global;
 use std::test::*;
 
-/// A list of these items, or the empty one for want of memory.
+/// A list of these items, or the empty one when out of memory.
 fn list<T: Copy>(alloc: Global, items: &[T]) -> List<T> {
     match Vec::from_slice(alloc, items) {
         Ok(items) => List::from_vec(items),

@@ -134,7 +134,7 @@ fn octets(alloc: Global, bytes: &[u8]) -> Option<Octets>
     Some(List::from_vec(vec))
 }
 
-/// Puts a context behind those that stand there. False where memory is wanting.
+/// Puts a context after those that are there. False where memory is wanting.
 fn put(alloc: Global, list: &mut List<Context>, id: u32, bytes: &[u8]) -> bool {
     match octets(alloc, bytes) {
         Some(bytes) => list.push(Context { id, bytes }).is_ok(),
@@ -401,7 +401,7 @@ fn is_model(bytes: &[u8], model: PriorityModel, level: i16) -> bool {
     }
 }
 
-/// SERVER_DECLARED with the priority 30, behind a pad of any content, and a byte behind it.
+/// SERVER_DECLARED with the priority 30, after a pad of any content, and a byte after it.
 const LITTLE_MODEL: &[u8] = &[1, 9, 9, 9, 1, 0, 0, 0, 30, 0, 7];
 
 fn are_models_read() -> bool {

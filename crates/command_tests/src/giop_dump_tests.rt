@@ -74,7 +74,7 @@ const NAMES_REPLIES: &[u8] =
 const NAMES_NOT_FOUND: &[u8] =
     b"GIOP\x01\x02\x01\x01\x0d\0\0\0\x02\0\0\0\0\0\0\0\0\0\0\0\x01GIOP\x01\x02\x01\x01^\0\0\0\x04\0\0\0\x01\0\0\0\0\0\0\01\0\0\0IDL:omg.org/CosNaming/NamingContext/NotFound:1.0\0nnn\0\0\0\0\x01\0\0\0\x08\0\0\0nothere\0\x02\0\0\0x\0";
 
-/// What `nameclt bind` wrote before and behind a name of 8,100 times `n`: the request comes in a first piece of 8,192 bytes
+/// What `nameclt bind` wrote before and after a name of 8,100 times `n`: the request comes in a first piece of 8,192 bytes
 /// and a Fragment.
 const BIND_HEAD: &[u8] =
     b"GIOP\x01\x02\x01\0X\0\0\0\x02\0\0\0\x03\0\0\0\0\0\x05\0\x0b\0\0\0NameService\0\x06\0\0\0_is_a\0\0\0\0\0\0\0(\0\0\0IDL:omg.org/CosNaming/NamingContext:1.0\0GIOP\x01\x02\x03\0\xf4\x1f\0\0\x04\0\0\0\x03\0\0\0\0\0\x05\0\x0b\0\0\0NameService\0\x05\0\0\0bind\0\0\0\0\0\0\0\0\x01\0\0\0\xa5\x1f\0\0";
@@ -86,9 +86,9 @@ const BIND_TAIL: &[u8] =
 struct Row {
     name: &'static str,
     input: &'static [u8],
-    /// How many times `n` stands behind the input.
+    /// How many times `n` is after the input.
     times: usize,
-    /// What stands behind that.
+    /// What is after that.
     tail: &'static [u8],
     reads: &'static [usize],
     failed_reads: &'static [u64],
@@ -475,7 +475,7 @@ impl Source for LongMessages {
     }
 }
 
-/// 256 messages of 262,144 bytes are 67,108,864 bytes, behind which nothing is read.
+/// 256 messages of 262,144 bytes are 67,108,864 bytes, after which nothing is read.
 fn ends_at_the_limit(alloc: Global) -> bool {
     let mut input = LongMessages { at: 0 };
     let mut out = CountingSink::new();

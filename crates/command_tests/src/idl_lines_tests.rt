@@ -72,7 +72,7 @@ struct Row {
     name: &'static [u8],
     /// The text of the file `f`.
     text: &'static str,
-    /// How many blanks stand behind it.
+    /// How many blanks are after it.
     blanks: usize,
     /// The reads of files that fail.
     failed_reads: &'static [u64],

@@ -16,13 +16,13 @@ enum Written {
     Bytes(usize),
 }
 
-/// One run over devices whose reads and writes are cut and fail as told, and what comes of it.
+/// One run over devices whose reads and writes are cut and fail as said, and what comes of it.
 struct Row {
     name: &'static str,
     input: &'static [u8],
-    /// How many times `a` stands behind the input.
+    /// How many times `a` is after the input.
     key: usize,
-    /// What stands behind that.
+    /// What is after that.
     behind: &'static [u8],
     reads: &'static [usize],
     failed_reads: &'static [u64],

@@ -16,7 +16,7 @@ enum Came {
     Failed,
 }
 
-/// Whole reads of an input whose reads are cut and fail as told, each of them of so many bytes at most.
+/// Whole reads of an input whose reads are cut and fail as said, each of them of so many bytes at most.
 struct Reads {
     input: &'static [u8],
     cuts: &'static [usize],
@@ -131,7 +131,7 @@ fn one_byte_more_is_taken(rt: HostRuntime) {
     assert!(rt; all_read(rt.alloc(), READ_ON));
 }
 
-/// A whole write to a sink whose writes are cut and fail as told, and what the sink holds then.
+/// A whole write to a sink whose writes are cut and fail as said, and what the sink holds then.
 struct Write {
     bytes: &'static [u8],
     cuts: &'static [usize],

@@ -7,7 +7,7 @@ use Rattle.toml.specs.View.{members_view}
 use Rattle.toml.specs.declared.value.Value.{Value}
 use Rattle.config_tables.specs.Keys.{same_text, is_among, unknown_key}
 
--- a test of some texts behind references
+-- a test of some texts after references
 pub any_known : (ks : List (Bor (List ℕ))) (t : List ℕ) → list_any (λ k. same_text k.now t) ks ≡ is_among (map (λ k. k.now) ks) t
 any_known [] t = refl
 any_known (k ∷ ks) t = ap (λ b. same_text k.now t || b) (any_known ks t)

@@ -13,7 +13,7 @@ use Rattle.toml.specs.declared.value.Value.{Value}
 use Rattle.config_tables.specs.Keys.{is_among, keys_in, unknown_key}
 use Rattle.config_tables.specs.Laws.{AreKnown, IsAtMost, IsLeastUnknown}
 
--- a key that each of some keys comes behind
+-- a key that each of some keys comes after
 behind : (k : String Global) (es : List (String Global × Value)) → AllByRecursion (λ y. string_cmp k y ≡ Less) (keys_of es)
     → (other : List ℕ) → Contains (keys_in (members_view es)) other → is_lt (slice_cmp nat_cmp (string_bytes k) other) ≡ true
 behind k [] after other (i, within, at) = absurd (omega arith)
@@ -60,7 +60,7 @@ least_of known [] k sorted found = absurd (cc)
 least_of known (e ∷ es) k sorted found =
     least_step known e es (is_among known (string_bytes e.0)) k refl sorted.0 (least_of known es k sorted.1) found
 
--- the unknown key that is told is the least
+-- the unknown key that is given is the least
 pub least_unknown : (known : List (List ℕ)) (table : BTreeMap (String Global) Value) (k : List ℕ) → IsOrdered string_cmp table
     → unknown_key known (table_view table) ≡ Some k → IsLeastUnknown known (table_view table) k
 least_unknown known table k sorted found = least_of known table.entries k sorted found
@@ -79,6 +79,6 @@ known_of : (known : List (List ℕ)) (ks : List (List ℕ)) → find (λ k. not 
 known_of known [] none = λ k has. absurd (omega (arith, has.1))
 known_of known (first ∷ ks) none = known_step known first ks (is_among known first) refl (known_of known ks) none
 
--- where no key is told, each is known
+-- where no key is given, each is known
 pub all_known : (known : List (List ℕ)) (ms : Members) → unknown_key known ms ≡ None → AreKnown known ms
 all_known known ms none = known_of known (keys_in ms) none

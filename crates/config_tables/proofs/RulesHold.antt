@@ -139,7 +139,7 @@ tables_of low high (boolean b) none = absurd (cc)
 tables_of low high (datetime t) none = absurd (cc)
 tables_of low high (table ms) none = absurd (cc)
 
--- a key without a cause stands as it has to
+-- a key without a cause is as it has to
 stands_of : (judge : Data → Option ConfigCause) (Is : Data → Type 0) → ((d : Data) → judge d ≡ None → Is d)
     → (st : Standing) (d : Option Data) → key_cause judge st d ≡ None → Stands Is st d
 stands_of judge Is to is_due (Some d) none = to d none

@@ -24,7 +24,7 @@ abbrev pub first_of : Option Fault → Option Fault → Option Fault
 first_of (Some f) later = Some f
 first_of None later = later
 
--- the refusal tells this fault; want of memory tells nothing
+-- the refusal tells this fault; out of memory says nothing
 abbrev pub Refuses : SetupError → Option Fault → Type 0
 Refuses (Refused f) found = found ≡ Some (fault_of f)
 Refuses NoMemory found = Unit {0}

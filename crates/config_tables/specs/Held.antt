@@ -1,5 +1,5 @@
 -- What a key holds, as a reader gives it. Where the key holds nothing of its kind, which no table without a fault has, a value
--- stands in for it.
+-- is in for it.
 use Rattle.std.specs.Prelude.{ℕ, ℤ, pos, Bool, false, List, [], Option, Some, None}
 use Rattle.toml.specs.Data.{Data, string, integer, boolean, table, Members, no_members, get_member}
 

@@ -1,7 +1,7 @@
 -- The words in which the keys of a table are described: own profile.
 use Rattle.std.specs.Prelude.{ℕ, List}
 
--- a condition on another key of the same table: it stands, lacks, says this word, is true
+-- a condition on another key of the same table: it is, lacks, says this word, is true
 pub data Condition : Type 0 where
   stands : List ℕ → Condition
   lacks : List ℕ → Condition
@@ -30,8 +30,8 @@ pub record Rule (K : Type 0) : Type 0 where
   pub need : Need
   pub kind : K
 
--- a scalar; so many tables, judged at this key by rules of their own; a table, or so many of them, judged behind the keys
--- of the table that they stand in
+-- a scalar; so many tables, judged at this key by rules of their own; a table, or so many of them, judged after the keys
+-- of the table that they are in
 pub data Kind : Type 0 where
   one : Scalar → Kind
   entries : ℕ → ℕ → List (Rule Scalar) → Kind

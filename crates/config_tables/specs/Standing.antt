@@ -33,7 +33,7 @@ abbrev pub due_at_least : Bool → Standing
 due_at_least true = is_due
 due_at_least false = is_free
 
--- how a key of such a need stands in a table
+-- how a key of such a need is in a table
 abbrev pub standing : Need → Members → Standing
 standing due ms = is_due
 standing free ms = is_free

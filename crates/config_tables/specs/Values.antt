@@ -24,7 +24,7 @@ abbrev excluded_cause : Option Data → Option ConfigCause
 excluded_cause None = None
 excluded_cause (Some d) = Some WrongKind
 
--- what is wrong at a key that stands so and holds this, where `judge` judges what is there
+-- what is wrong at a key that is so and holds this, where `judge` judges what is there
 abbrev pub key_cause : (Data → Option ConfigCause) → Standing → Option Data → Option ConfigCause
 key_cause judge is_due d = due_cause judge d
 key_cause judge is_free d = free_cause judge d

@@ -46,7 +46,7 @@ pub enum ConfigCause {
     /// A band, or a row of a transform, shares a priority with an earlier one of its adapter.
     #[error("BandOverlap")]
     BandOverlap,
-    /// An adapter's name or an object's key stands twice.
+    /// An adapter's name or an object's key is there twice.
     #[error("Duplicate")]
     Duplicate,
     /// An object names an adapter that isn't there.

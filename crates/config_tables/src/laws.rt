@@ -18,7 +18,7 @@ pub fn the_least_unknown_key_is_told(table: &Table)
     let _ = table.len();
 }
 
-/// Where no unknown key is told, each key is known.
+/// Where no unknown key is given, each key is known.
 #[tactic(auto, using(crate::proofs::LeastKey::all_known))]
 pub fn keys_without_a_fault_are_known()
     ensures { (known : List (List ℕ)) (ms : Members) → unknown_key known ms ≡ None → AreKnown known ms }

@@ -45,7 +45,7 @@ pub fn refuse_at(alloc: Global, path: &str, cause: ConfigCause) -> SetupError
     }
 }
 
-/// The path as a text, which ends where a NUL stands.
+/// The path as a text, which ends where a NUL is.
 fn shown(alloc: Global, path: &str) -> Result<Text, SetupError>
     ensures { MatchResult result (λ t. t ≡ up_to_nul path.now) (λ e. e ≡ SetupError.NoMemory) }
 {

@@ -1,4 +1,4 @@
--- What one piece more comes to, behind the bytes that were fed before it.
+-- What one piece more comes to, after the bytes that were fed before it.
 use Rattle.std.proofs.Common.{◌≡◌, ℕ, ◌+◌, ◌≤◌, ◌<◌, false, List, [], ◌∷◌, ◌++◌, length, Option, Some, None, Result, Ok, Err, refl, sym, ap, ◌∙◌, subst, arith, append_assoc, length-append}
 use Rattle.std.specs.Prelude.{option_to_list, IfOk}
 use Rattle.std.proofs.lemmas.Option.{same_Some}
@@ -27,7 +27,7 @@ use Rattle.conn_engine.specs.Hearers.{Hearer, IsFraming, FramesOn, IsGoing, IsNe
 
 -- ---- messages behind others
 
--- the meaning of later messages stands behind that of the earlier ones, where none of those ended the reading
+-- the meaning of later messages is after that of the earlier ones, where none of those ended the reading
 on_both : (setup : SetupData) (conn : ConnId) (ms new : List Frames.Message) (band : Option Span) (serial at : ℕ) (means : Means) (told later : Told)
     → ((band : Option Span) (n : ℕ) (x : Told) → x.ending ≡ None → Hears setup conn ms band n x → Hears setup conn new x.band (n + length x.calls) later
     → Hears setup conn (ms ++ new) band n (in_front x.calls later))

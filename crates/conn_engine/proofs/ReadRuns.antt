@@ -90,7 +90,7 @@ read_more setup batch outcome h h' count count' s m s' room room1 room2 old mid 
 
 -- ---- the earlier reads
 
--- it was right to read on, with these entries behind
+-- it was right to read on, with these entries after
 went_on : (setup : SetupData) (batch : ℕ) (outcome : Servant) (h : Hearer) (count : ℕ) (s m : State) (room room1 : ℕ) (old mid : SourceState) (log among_log : Option History) (out among : SinkState)
     (x : ReadSoFar setup batch outcome h count s m room room1 old mid log among_log out among) (b all : History) → all ≡ x.fed.entries ++ b
     → ReadsOn setup batch s room h.framer.fed all

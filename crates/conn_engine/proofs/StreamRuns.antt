@@ -56,7 +56,7 @@ module _ (setup : SetupData) (outcome : List ℕ → JobRecord → Outcome) (bat
         (agrees_first (answer_of setup outcome lacking.lacks) a b (subst (Agrees (answer_of setup outcome lacking.lacks)) is lacking.agrees)) [];
   }
 
-  -- whether the calls meet a limit is what the state tells behind them
+  -- whether the calls meet a limit is what the state tells after them
   closes_as : (calls : List LaneCall) (m : State) (room : ℕ) (log among_log : Option History) (out among : SinkState) (fed : Fed batch due first m batch room calls [] log among_log out among) (b : History)
       → (lacking : Lacking setup outcome (fed.entries ++ b)) → closes_by setup outcome batch calls lacking.lacks ≡ m.closing
   closes_as calls m room log among_log out among fed b lacking =
@@ -103,7 +103,7 @@ module _ (setup : SetupData) (outcome : List ℕ → JobRecord → Outcome) (bat
   how_is true end m closes is same = inr (refl, same ∙ is)
   how_is false end m closes is same = inl refl
 
-  -- what was begun of the end, behind the calls
+  -- what was begun of the end, after the calls
   begins_ending : (m : State) (room : ℕ) (bytes : List ℕ) (ended : Bool) (end : ReadEnd) (closing : Bool) (calls : List LaneCall) (log among_log : Option History) (out among : SinkState) (b : History)
       → m.closing ≡ closing → (heard : HearsStream setup pipe_conn bytes ended calls end) → (fed : Fed batch due first m batch room calls [] log among_log out among)
       → Began (finishing (how_by closing end)) due m b → BeginsRun setup outcome batch calls end (fed.entries ++ b)
@@ -215,7 +215,7 @@ module _ (setup : SetupData) (outcome : List ℕ → JobRecord → Outcome) (bat
   faults_later read.Spent old new out among out' same h = (h.0, same ∙ h.1)
   faults_later read.ReadFault old new out among out' same h = (h.0, same ∙ h.1)
 
-  -- how the run comes out behind an end of the reading
+  -- how the run comes out after an end of the reading
   over_comes : (course : Course) (m s' : State) (room : ℕ) (earlier bytes : List ℕ) (ended : Bool) (end : ReadEnd) (old new : SourceState) (log among_log log' : Option History) (out among out' : SinkState)
       → RanReads setup batch due first m batch room earlier bytes ended end log among_log out among → m.closing ≡ false → FaultsAt end old new out among
       → Drives {E = ⊥} (Ok course) (finishing (how_of end)) due m s' among_log log' among out'

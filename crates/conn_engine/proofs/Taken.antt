@@ -1,4 +1,4 @@
--- What reads give, whatever is done with what is heard: a read that gives bytes, and the one behind which none is taken any more.
+-- What reads give, whatever is done with what is heard: a read that gives bytes, and the one after which none is taken any more.
 use Rattle.std.proofs.Common.{◌≡◌, ℕ, ◌+◌, ◌≤◌, ◌<◌, Bool, true, false, List, [], ◌++◌, length, take, Option, None, refl, sym, ap, ◌∙◌, subst, arith, append-nil, length-append, length-take}
 use Rattle.std.specs.Prelude.{◌==◌, if◌then◌else◌, option_map}
 use Rattle.std.proofs.lemmas.Bool.Decides.{nat_tests}
@@ -28,7 +28,7 @@ heard_here setup conn h bytes calls ending setup_is conn_is heard =
 
 -- ---- a read gives bytes
 
--- behind `fed` a read gave the piece, and the count of bytes is theirs
+-- after `fed` a read gave the piece, and the count of bytes is theirs
 pub record TookOn (fed bytes : List ℕ) (piece : List ℕ) (count : ℕ) (from to : SourceState) : Type 0 where
   pub parts : bytes ≡ fed ++ piece
   pub one_read : length piece ≤ READ_LEN

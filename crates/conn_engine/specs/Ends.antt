@@ -23,7 +23,7 @@ abbrev pub read_end : Option Ending → ℕ → Bool → Option ℕ → ReadEnd
 read_end (Some ending) taken ended rest = read.Ended ending
 read_end None taken ended rest = if taken == MAX_TAKEN then read.Spent else if ended then read.Ended (at_end None rest) else read.ReadFault
 
--- the bytes mean these calls, and the reading came out so behind them; `ended` holds where a read has answered the end of the input
+-- the bytes mean these calls, and the reading came out so after them; `ended` holds where a read has answered the end of the input
 pub record HearsStream (setup : SetupData) (conn : ConnId) (bytes : List ℕ) (ended : Bool) (calls : List LaneCall) (end : ReadEnd) : Type 0 where
   pub ending : Option Ending
   pub heard : HeardSoFar setup conn bytes calls ending

@@ -15,7 +15,7 @@ abbrev pub HeardIsOne : Type 0
 HeardIsOne = (setup : SetupData) (conn : ConnId) (bytes : List ℕ) (a b : List LaneCall) (first second : Option Ending)
     → HeardSoFar setup conn bytes a first → HeardSoFar setup conn bytes b second → (a ≡ b) × (first ≡ second)
 
--- what is heard with further bytes, by how the earlier ones ended the reading: the calls of those stand in front; behind an ending
+-- what is heard with further bytes, by how the earlier ones ended the reading: the calls of those come before; after an ending
 -- nothing changes
 abbrev pub GrowsBy : Option Ending → List LaneCall → List LaneCall → Option Ending → Type 0
 GrowsBy None calls all ending = (later : List LaneCall) × (all ≡ calls ++ later)

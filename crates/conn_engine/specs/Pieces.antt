@@ -41,7 +41,7 @@ pub record BegunPiece (batch : ℕ) (outcome : Servant) (h h' : Hearer) (piece :
   pub feeds : FeedsOn h h' piece calls ending
   pub began : BeganWriting (feeding batch room calls) outcome s out out'
 
--- what became of a piece: the reading goes on, or it came out so; at want of memory nothing was written, or what of its calls was made
+-- what became of a piece: the reading goes on, or it came out so; when out of memory nothing was written, or what of its calls was made
 abbrev pub RunsPiece : {E : Type 0} → Result (Option Reading) E → ℕ → Servant → Hearer → Hearer → List ℕ → State → State → ℕ → ℕ
     → Option History → Option History → SinkState → SinkState → Type 0
 RunsPiece (Ok None) batch outcome h h' piece s s' room room' log log' out out' =

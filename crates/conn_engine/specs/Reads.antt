@@ -21,7 +21,7 @@ use Rattle.conn_engine.specs.declared.read_end.TheConstants.{MAX_TAKEN, READ_LEN
 use Rattle.conn_engine.specs.declared.reading.Reading.{Reading}
 use Rattle.conn_engine.specs.declared.reading.Reading.TheVariants.{Over, Closing, Stopped}
 
--- these bytes were taken, those of the last read behind the earlier ones
+-- these bytes were taken, those of the last read after the earlier ones
 pub record Takes (old new : SourceState) (earlier bytes : List ℕ) (ended : Bool) : Type 0 where
   pub last : List ℕ
   pub parts : bytes ≡ earlier ++ last
@@ -30,7 +30,7 @@ pub record Takes (old new : SourceState) (earlier bytes : List ℕ) (ended : Boo
   pub gave : Gave bytes old new
   pub met : MeetsEnd ended old new
 
--- it was right to read on behind the earlier bytes: nothing in them ended the reading, and with the answers of these entries their calls
+-- it was right to read on after the earlier bytes: nothing in them ended the reading, and with the answers of these entries their calls
 -- meet no limit of the run
 pub record ReadsOn (setup : SetupData) (batch : ℕ) (s : State) (room : ℕ) (earlier : List ℕ) (entries : History) : Type 0 where
   pub calls : List LaneCall
@@ -71,7 +71,7 @@ FaultsAt (read.Ended ending) old new out out' = NoneFailed old new out out'
 FaultsAt read.Spent old new out out' = NoneFailed old new out out'
 FaultsAt read.ReadFault old new out out' = ReadFailed old new out out'
 
--- what became of the bytes that were taken; at want of memory nothing was written, or a front
+-- what became of the bytes that were taken; when out of memory nothing was written, or a prefix
 abbrev pub ReadsBytes : Result Reading NoMemory → SetupData → ℕ → Servant → State → State → ℕ → ℕ → List ℕ → List ℕ → Bool
     → SourceState → SourceState → Option History → Option History → SinkState → SinkState → Type 0
 ReadsBytes (Ok (Over end)) setup batch outcome s s' room room' earlier bytes ended old new log log' out out' =

@@ -43,7 +43,7 @@ abbrev pub how_by : Bool → ReadEnd → How
 how_by true end = Shut
 how_by false end = how_of end
 
--- it was right to read on behind these bytes: nothing in them ended the reading, and their calls meet no limit of the run
+-- it was right to read on after these bytes: nothing in them ended the reading, and their calls meet no limit of the run
 pub record GoesOnBehind (setup : SetupData) (outcome : List ℕ → JobRecord → Outcome) (batch : ℕ) (lacks : List ℕ) (earlier : List ℕ) : Type 0 where
   pub calls : List LaneCall
   pub heard : HeardSoFar setup pipe_conn earlier calls None
@@ -61,7 +61,7 @@ pub record IsRunOf (setup : SetupData) (outcome : List ℕ → JobRecord → Out
   pub legal : IsLegal (opening setup.pool setup.slots setup.per_slot) entries
   pub before : GoesOnBehind setup outcome batch lacking.lacks earlier
 
--- these entries stand at the front of the history of the run of these calls, whose reading came out so
+-- these entries are at the front of the history of the run of these calls, whose reading came out so
 pub record BeginsRun (setup : SetupData) (outcome : List ℕ → JobRecord → Outcome) (batch : ℕ) (calls : List LaneCall) (end : ReadEnd) (entries : History) : Type 0 where
   pub lacking : Lacking setup outcome entries
   pub how : How
@@ -69,7 +69,7 @@ pub record BeginsRun (setup : SetupData) (outcome : List ℕ → JobRecord → O
   pub later : History
   pub begins : (piped setup outcome batch calls how lacking.lacks).history ≡ entries ++ later
 
--- these entries stand at the front of the history of the run of the bytes that were taken
+-- these entries are at the front of the history of the run of the bytes that were taken
 pub record BeginsRunOf (setup : SetupData) (outcome : List ℕ → JobRecord → Outcome) (batch : ℕ) (earlier bytes : List ℕ) (ended : Bool) (entries : History) : Type 0 where
   pub calls : List LaneCall
   pub end : ReadEnd
@@ -77,7 +77,7 @@ pub record BeginsRunOf (setup : SetupData) (outcome : List ℕ → JobRecord →
   pub run : BeginsRun setup outcome batch calls end entries
   pub before : GoesOnBehind setup outcome batch run.lacking.lacks earlier
 
--- the stream was run whole: all that the history of its run says was written, and it stands behind the one that is kept, if one is
+-- the stream was run whole: all that the history of its run says was written, and it is after the one that is kept, if one is
 pub record RanWhole (setup : SetupData) (outcome : List ℕ → JobRecord → Outcome) (batch : ℕ) (earlier bytes : List ℕ) (ended : Bool) (end : ReadEnd) (closing : Bool)
     (log log' : Option History) (out out' : SinkState) : Type 0 where
   pub entries : History
@@ -85,8 +85,8 @@ pub record RanWhole (setup : SetupData) (outcome : List ℕ → JobRecord → Ou
   pub logged : log' ≡ option_map (λ h. h ++ entries) log
   pub wrote : WroteText (said pipe_conn entries) out out'
 
--- the run of the stream was begun, up to a call by which a write failed: these entries end with that call, and stand behind the history
--- that is kept, if one is; all that they say was written, but that of what the last one says only a front was
+-- the run of the stream was begun, up to a call by which a write failed: these entries end with that call, and are after the history
+-- that is kept, if one is; all that they say was written, but that of what the last one says only a prefix was
 pub record RanUpToLast (setup : SetupData) (outcome : List ℕ → JobRecord → Outcome) (batch : ℕ) (earlier bytes : List ℕ) (ended : Bool)
     (log log' : Option History) (out out' : SinkState) : Type 0 where
   pub entries : History
@@ -121,7 +121,7 @@ RunsBytes (Ok end.WriteFault) setup outcome batch earlier bytes ended old new lo
 RunsBytes (Err _) setup outcome batch earlier bytes ended old new log log' out out' =
     ((out' ≡ out) ⊎ RanFront setup outcome batch bytes out out') × ((new.faults ≡ old.faults) ⊎ Rose old.faults new.faults)
 
--- some bytes were taken, those of the last read behind the earlier ones, and what was done and written is what they say
+-- some bytes were taken, those of the last read after the earlier ones, and what was done and written is what they say
 pub record RunsStream (answer : Result StreamEnd NoMemory) (setup : SetupData) (outcome : List ℕ → JobRecord → Outcome) (batch : ℕ)
     (old new : SourceState) (log log' : Option History) (out out' : SinkState) : Type 0 where
   pub bytes : List ℕ

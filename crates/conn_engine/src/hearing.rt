@@ -108,8 +108,8 @@ impl<'a> Hearing<'a> {
         })
     }
 
-    /// Hears one more piece: the calls of the messages that it completes, up to the one that ends the reading, if one does. Behind
-    /// such an ending, and behind want of memory, nothing more can be heard. Memory grows with the messages that the piece completes;
+    /// Hears one more piece: the calls of the messages that it completes, up to the one that ends the reading, if one does. After
+    /// such an ending, and once out of memory, nothing more can be heard. Memory grows with the messages that the piece completes;
     /// the work is that of framing and hearing.
     pub fn feed(&mut self, alloc: Global, piece: &[u8]) -> Result<HeardPiece, NoMemory>
         requires going { Hearers.IsGoing self.old }

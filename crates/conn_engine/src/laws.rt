@@ -6,7 +6,7 @@ pub fn heard_so_far_is_one()
     ensures { HeardIsOne }
 {}
 
-/// Further bytes add calls behind those of the earlier ones, and behind an ending they change nothing.
+/// Further bytes add calls after those of the earlier ones, and after an ending they change nothing.
 pub fn further_bytes_are_heard_behind()
     ensures { HearingGrows }
 {}

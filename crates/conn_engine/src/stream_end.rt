@@ -7,9 +7,9 @@ use crate::read_end::ReadEnd;
 pub enum StreamEnd {
     /// Each call of what was read was made and everything owed was written: the reading came out so.
     Ended(ReadEnd),
-    /// A limit of the run was met, behind which nothing was read: the later calls were dropped, and CloseConnection was written at
+    /// A limit of the run was met, after which nothing was read: the later calls were dropped, and CloseConnection was written at
     /// the end.
     Closed,
-    /// A write failed, behind which nothing was read.
+    /// A write failed, after which nothing was read.
     WriteFault,
 }

@@ -56,7 +56,7 @@ module _ (cell : CellView State) where
     counts = n;
   }
 
-  -- the next call stands last
+  -- the next call is last
   turned_next : (left front : List LaneCall) (call : LaneCall) → left ≡ front ++ (call ∷ []) → reverse left ≡ call ∷ reverse front
   turned_next left front call is = ap reverse is ∙ reverse-append front (call ∷ [])
 

@@ -1,4 +1,4 @@
--- The end of a connection behind its calls.
+-- The end of a connection after its calls.
 use Rattle.std.proofs.Common.{◌≡◌, List, [], ◌∷◌, ◌++◌, sym, ap, ◌∙◌, subst}
 use Rattle.turn_cell.specs.declared.entry.Entry.{Entry}
 use Rattle.turn_cell.specs.Seats.{CellView}

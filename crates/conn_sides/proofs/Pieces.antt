@@ -20,7 +20,7 @@ use Rattle.conn_sides.specs.Pieces.{HearsPiece, out_of}
 use Rattle.conn_sides.specs.declared.calling.Called.{Called}
 use Rattle.conn_sides.specs.declared.calling.Called.TheVariants.{Heard, Closing}
 
--- calls behind others
+-- calls after others
 later_heard : (pool : Pool) (conn : ConnId) (xs ys : List LaneCall) → AreHeardCalls pool conn (xs ++ ys) → AreHeardCalls pool conn ys
 later_heard pool conn [] ys h = h
 later_heard pool conn (x ∷ xs) ys h = later_heard pool conn xs ys h.1

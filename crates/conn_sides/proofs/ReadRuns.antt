@@ -118,7 +118,7 @@ read_more cell setup h h' count count' old now new from mid to piece x took went
 
 -- ---- the earlier reads
 
--- it was right to read on, with these entries behind
+-- it was right to read on, with these entries after
 went_on : (cell : CellView State) (setup : SetupData) (h : Hearer) (count : ℕ) (old now : Pass) (from mid : SourceState) (x : ReadSoFar cell setup h count old now from mid)
     (later all : History) → all ≡ x.entries ++ later → WentOnBehind setup (conn_of old) h.framer.fed all
 went_on cell setup h count old now from mid x later all is = record {

@@ -1,4 +1,4 @@
--- Bytes that are written behind others.
+-- Bytes that are written after others.
 use Rattle.std.proofs.Common.{◌≡◌, ℕ, List, ◌++◌, sym, subst}
 use Rattle.orb_base.specs.Outside.{SinkState}
 use Rattle.text_streams.specs.Streams.{WritesAll}
@@ -7,7 +7,7 @@ use Rattle.text_streams.specs.declared.writing.WriteAll.TheVariants.{Whole, Fail
 use Rattle.item_writer.proofs.Saying.{whole_both, failed_first}
 use Rattle.conn_sides.specs.Saying.{SaysOn}
 
--- nothing more is written behind a failed write
+-- nothing more is written after a failed write
 failed_on : (a b : List ℕ) (o m n : SinkState) → WritesAll Failed a o m → n ≡ m → WritesAll Failed (a ++ b) o n
 failed_on a b o m n x same = subst (WritesAll Failed (a ++ b) o) (sym same) (failed_first a b o m x)
 

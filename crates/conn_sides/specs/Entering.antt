@@ -24,7 +24,7 @@ calls_of entries = map (λ (e : Entry State LaneCall LaneReply). e.call) entries
 abbrev pub met_closing : History → Bool
 met_closing entries = list_any (λ e. is_closing e.reply) entries
 
--- by the same pass these calls were made, each once and in this order, behind those that it had made; it has seen no less
+-- by the same pass these calls were made, each once and in this order, after those that it had made; it has seen no less
 pub record Entered (cell : CellView State) (entries : History) (old new : Pass) : Type 0 where
   pub same : IsSame cell old new
   pub mine : new.seat.mine ≡ old.seat.mine ++ entries

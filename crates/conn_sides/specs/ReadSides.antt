@@ -30,7 +30,7 @@ pub record MadeAll (calls : List LaneCall) (entries : History) : Type 0 where
   pub calls_are : calls_of entries ≡ calls
   pub is_open : met_closing entries ≡ false
 
--- a front of the calls was made, in order: up to and including the first that was answered Closing
+-- a prefix of the calls was made, in order: up to and including the first that was answered Closing
 pub record MadeUpToClosing (calls : List LaneCall) (entries : History) : Type 0 where
   pub before : History
   pub last : Entry State LaneCall LaneReply
@@ -40,7 +40,7 @@ pub record MadeUpToClosing (calls : List LaneCall) (entries : History) : Type 0 
   pub is_open : met_closing before ≡ false
   pub closes : is_closing last.reply ≡ true
 
--- it was right to read on behind the earlier bytes: nothing in them ended the reading, and all that they mean was called before
+-- it was right to read on after the earlier bytes: nothing in them ended the reading, and all that they mean was called before
 -- and not answered Closing
 pub record WentOnBehind (setup : SetupData) (conn : ConnId) (earlier : List ℕ) (entries : History) : Type 0 where
   pub calls : List LaneCall
@@ -50,7 +50,7 @@ pub record WentOnBehind (setup : SetupData) (conn : ConnId) (earlier : List ℕ)
   pub parts : entries ≡ first ++ later
   pub made : MadeAll calls first
 
--- the bytes mean these calls, the reading came out so behind them, and all of them were made
+-- the bytes mean these calls, the reading came out so after them, and all of them were made
 pub record HeardWhole (setup : SetupData) (conn : ConnId) (bytes : List ℕ) (ended : Bool) (end : ReadEnd) (entries : History) : Type 0 where
   pub calls : List LaneCall
   pub heard : HearsStream setup conn bytes ended calls end
@@ -76,7 +76,7 @@ FaultsBy read.Spent from to = to.faults ≡ from.faults
 FaultsBy read.ReadFault from to = Rose from.faults to.faults
 
 -- what of the bytes was called, by how the reading side came out: all that they mean; or that up to a call that was answered
--- Closing; or at want of memory what those before the last read mean
+-- Closing; or when out of memory what those before the last read mean
 abbrev pub HearsBy : ReadSideEnd → SetupData → ConnId → List ℕ → List ℕ → Bool → History → SourceState → SourceState → Type 0
 HearsBy (side.Read end) setup conn earlier bytes ended entries from to =
     HeardWhole setup conn bytes ended end entries × FaultsBy end from to
@@ -85,7 +85,7 @@ HearsBy side.RunClosed setup conn earlier bytes ended entries from to =
 HearsBy side.NoMemory setup conn earlier bytes ended entries from to =
     HeardEarlier setup conn earlier entries × (ended ≡ false) × (to.faults ≡ from.faults)
 
--- some bytes were taken, those of the last read behind the earlier ones, and by the pass the calls were made that they mean
+-- some bytes were taken, those of the last read after the earlier ones, and by the pass the calls were made that they mean
 pub record HearsReads (cell : CellView State) (setup : SetupData) (end : ReadSideEnd) (old new : Pass) (from to : SourceState) : Type 0 where
   pub bytes : List ℕ
   pub earlier : List ℕ
@@ -106,7 +106,7 @@ how_by side.NoMemory = Shut
 abbrev pub end_entry : Pass → How → Entry State LaneCall LaneReply
 end_entry pass how = entry pass.seat.number (End (conn_of pass) how) reply.Noted
 
--- the reading side of a connection: some bytes were taken, those of the last read behind the earlier ones; the calls that they mean
+-- the reading side of a connection: some bytes were taken, those of the last read after the earlier ones; the calls that they mean
 -- were made by the pass, in order, and then the connection's End
 pub record ReadsSide (cell : CellView State) (setup : SetupData) (end : ReadSideEnd) (old new : Pass) (from to : SourceState) : Type 0 where
   pub bytes : List ℕ

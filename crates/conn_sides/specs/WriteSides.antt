@@ -48,12 +48,12 @@ course_of write.Closed = all.Whole
 course_of write.Error = all.Whole
 course_of (write.WriteFault answer) = all.Failed
 
--- it came out so behind this last collect, and no write failed
+-- it came out so after this last collect, and no write failed
 abbrev pub IsWhole : LastCollect → WriteEnd → Type 0
 IsWhole answer end = (last_of end ≡ answer) × (course_of end ≡ all.Whole)
 
 -- the writing side of a connection: by the pass items were collected, and at last that nothing comes any more; what these entries say
--- was written, or a front of it up to a failed write
+-- was written, or a prefix of it up to a failed write
 pub record WritesSide (cell : CellView State) (end : WriteEnd) (old new : Pass) (from to : SinkState) : Type 0 where
   pub items : History
   pub handed : AreHandedOver old.seat.number (conn_of old) items

@@ -87,7 +87,7 @@ fn make<R: Wait>(rt: &R, pool: &LanePool, pass: &mut ReaderPass, call: LaneCall)
     }
 }
 
-/// Makes the calls that some bytes of the pass's connection mean, in order, up to one that is answered Closing. The last call stands
+/// Makes the calls that some bytes of the pass's connection mean, in order, up to one that is answered Closing. The last call is
 /// first.
 fn make_turned<R: Wait>(
     rt: &R,

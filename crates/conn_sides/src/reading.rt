@@ -96,7 +96,7 @@ fn hear_all<I: Source, R: Wait>(
 
 /// The reading side of a connection to a server of this setup: reads from its first byte on, `READ_LEN` bytes at a time at most, makes by
 /// the pass the calls that the bytes mean, those of each read before the next one, and ends the connection. It stops where the bytes end
-/// the reading, at the end of the input, behind `MAX_TAKEN` bytes, at a failed read, at a call that is answered Closing, and at want of
+/// the reading, at the end of the input, after `MAX_TAKEN` bytes, at a failed read, at a call that is answered Closing, and at want of
 /// memory. Each read and each call may wait. Memory and work are those of framing and hearing.
 pub fn read_side<I: Source, R: Wait>(
     rt: &R,

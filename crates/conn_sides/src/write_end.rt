@@ -16,9 +16,9 @@ pub enum LastCollect {
 pub enum WriteEnd {
     /// All was written.
     Done,
-    /// All was written, and CloseConnection behind it.
+    /// All was written, and CloseConnection after it.
     Closed,
-    /// All was written, and MessageError behind it.
+    /// All was written, and MessageError after it.
     Error,
     /// A write failed; the last collect was answered so.
     WriteFault(LastCollect),

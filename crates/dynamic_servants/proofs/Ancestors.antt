@@ -1,4 +1,4 @@
--- The test of kin tells what bases lead to, since they stand before what is derived from them.
+-- The test of kin tells what bases lead to, since they are before what is derived from them.
 use Rattle.std.proofs.Common.{◌≡◌, ℕ, ◌≤◌, suc, zero, Bool, true, ◌||◌, List, [], ◌∷◌, length, Option, Some, None, ◌↔◌, inl, inr, refl, sym, ap, ◌∙◌, arith}
 use Rattle.std.specs.Cmp.{both_ways}
 use Rattle.std.specs.Prelude.{IsTrue}

@@ -1,4 +1,4 @@
--- Values of types, spelled one behind the other.
+-- Values of types, spelled one after the other.
 use Rattle.std.proofs.Common.{◌≡◌, ℕ, ◌+◌, ◌<◌, ◌≤◌, ◌^◌, Bool, true, false, ◌&&◌, cond, List, [], ◌∷◌, ◌++◌, map, length, Option, Some, None, Ok, refl, sym, ap, ◌∙◌, subst, append_assoc, arith}
 use Rattle.std.specs.Prelude.{is_some, is_none}
 use Rattle.std.proofs.lemmas.Bool.{lt-ltb, le-ltb}
@@ -68,7 +68,7 @@ pub all_then : (xs ys : List Typed) → all_fields (xs ++ ys) ≡ both (all_fiel
 all_then [] ys = sym (behind_nothing (all_fields ys))
 all_then (x ∷ xs) ys = ap (both (fields_of x.1 x.0)) (all_then xs ys) ∙ sym (both_both (fields_of x.1 x.0) (all_fields xs) (all_fields ys))
 
--- fields were spelled, and those that are left, put behind them, are all
+-- fields were spelled, and those that are left, put after them, are all
 pub record Left (start now : Page) (left all : Option (List Field)) : Type 0 where
   pub fields : List Field
   pub page : now ≡ written start fields

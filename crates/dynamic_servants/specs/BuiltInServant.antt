@@ -16,7 +16,7 @@ returns_at_once ts place o t = record { operation = o; lets = 0; body = step (gi
 abbrev pub does_nothing : ℕ → MethodView
 does_nothing o = record { operation = o; lets = 0; body = no_steps }
 
--- the servant, where the interface stands at a place
+-- the servant, where the interface is at a place
 abbrev pub ping_servant : List Thing → ℕ → ServantView
 ping_servant ts place = record {
   interface = place;

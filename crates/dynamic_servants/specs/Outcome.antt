@@ -50,7 +50,7 @@ target_at s place = both_of (interface_in place (slice_get s.things place)) (ser
 abbrev pub target_of : Served → Name → Option Target
 target_of s id = option_and_then (target_at s) (place_named s.things id)
 
--- what a method runs: how many variables it has behind its parameters, and its statements
+-- what a method runs: how many variables it has after its parameters, and its statements
 abbrev pub Work : Type 0
 Work = ℕ × Steps
 
@@ -70,7 +70,7 @@ abbrev pub carried : List Thing → OperationView → Work → JobRecord → Rea
 carried ts op w job (Ok x) = or_limited (carried_out ts op w job x.0)
 carried ts op w job (Err f) = marshal
 
--- a job's body, which begins where a message has its first multiple of 8 behind its header
+-- a job's body, which begins where a message has its first multiple of 8 after its header
 abbrev pub body_at : JobRecord → Cursor
 body_at job = cursor job.order 24 job.body
 

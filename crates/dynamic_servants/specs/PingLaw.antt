@@ -14,7 +14,7 @@ use Rattle.dynamic_servants.specs.BuiltInServant.{ping_servant}
 use Rattle.dynamic_servants.specs.Outcome.{Served, outcome_of}
 use Rattle.dynamic_servants.specs.Served.{served_by}
 
--- the built-in interface stands at a place that references count, and its servant is the first
+-- the built-in interface is at a place that references count, and its servant is the first
 pub record ServesPing (s : Served) : Type 0 where
   pub place : ℕ
   pub near : place < 2 ^ 32

@@ -1,4 +1,4 @@
--- What putting values of types behind one another answers.
+-- What putting values of types after one another answers.
 use Rattle.std.specs.Prelude.{◌≡◌, List, Option, Some, None, Result, Ok, Err}
 use Rattle.cdr_core.specs.Field.{Field}
 use Rattle.cdr_core.specs.Writing.{Page, written}
@@ -12,7 +12,7 @@ pub record Spelled (old new : Page) (asked : Option (List Field)) : Type 0 where
   pub are : asked ≡ Some fields
   pub page : new ≡ written old fields
 
--- there are no fields, which is a misfit; want of memory says nothing
+-- there are no fields, which is a misfit; out of memory says nothing
 abbrev pub Unsaid : Stop → Option (List Field) → Type 0
 Unsaid (stop.Limit l) asked = (asked ≡ None) × (l ≡ Misfit)
 Unsaid stop.NoMemory asked = Unit {0}

@@ -22,7 +22,7 @@ use Rattle.dynamic_servants.specs.declared.target.Work.{Work}
 abbrev pub served_of : Servants → Spec.Served
 served_of s = record { things = things_of s.repository; servants = map (servant_view (things_of s.repository)) s.servants.items }
 
--- what a script serves over things: the servant of the built-in interface, and behind it the script's
+-- what a script serves over things: the servant of the built-in interface, and after it the script's
 abbrev pub served_by : List Thing → List ServantSaid → Checks Spec.Served
 served_by ts script = checked ts script >>= λ vs. Ok (record { things = ts; servants = built_in ts (place_named ts ping_id) ++ vs })
 

@@ -40,7 +40,7 @@ fn argument(param: &Param, body: &mut Body<'_>, alloc: Global) -> Result<IdlValu
     }
 }
 
-/// What the parameters begin with, in order: `in` and `inout` parameters are taken from a request's body, one behind the other,
+/// What the parameters begin with, in order: `in` and `inout` parameters are taken from a request's body, one after the other,
 /// and an `out` parameter is the zero of its type. Work and memory grow with the bytes taken and the leaves of the zeros.
 pub(crate) fn arguments(
     params: &[Param],

@@ -98,7 +98,7 @@ fn does_nothing(operation: usize, alloc: Global) -> CheckedMethod
     }
 }
 
-/// The servant, whose interface stands at a place.
+/// The servant, whose interface is at a place.
 fn ping_servant(place: usize, alloc: Global) -> Result<CheckedServant, NoMemory>
     ensures { (ts : List Thing) → IfOk result (λ v. servant_view ts v ≡ Spec.ping_servant ts place) }
 {
@@ -112,7 +112,7 @@ fn ping_servant(place: usize, alloc: Global) -> Result<CheckedServant, NoMemory>
     })
 }
 
-/// The servant of the built-in interface, and behind it the others.
+/// The servant of the built-in interface, and after it the others.
 pub(crate) fn with_built_in(
     mut servants: Vec<CheckedServant>,
     repository: &Repository,

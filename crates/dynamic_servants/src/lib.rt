@@ -3,7 +3,7 @@
 //! An object of an interface answers `_is_a` and `_non_existent` by the repository alone. Every other operation of the
 //! interface is a method of its servant: its `in` and `inout` parameters are read from the request's body, the method is
 //! run, and its result and the parameters that come out are spelled into the reply. All of it is one definition, the
-//! outcome of a job, which `invoke` answers, or NO_MEMORY for want of memory.
+//! outcome of a job, which `invoke` answers, or NO_MEMORY when out of memory.
 #![tactic(auto)]
 
 mod arguments;

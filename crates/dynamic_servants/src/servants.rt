@@ -45,7 +45,7 @@ pub struct Servants {
     servants: Vec<CheckedServant>,
 }
 
-/// Values, and behind them so many variables in which nothing was put.
+/// Values, and after them so many variables in which nothing was put.
 fn extended(mut slots: Vec<IdlValue>, n: usize) -> Result<Vec<IdlValue>, NoMemory>
     ensures { IfOk result (λ v. values_view v.items ≡ values_view slots.items ++ replicate n blank) }
 {

@@ -1,4 +1,4 @@
-//! Values of types, put behind one another.
+//! Values of types, put after one another.
 ghost use Rattle.std.specs.Prelude.{◌≡◌, map, slice_get};
 ghost use Rattle.std.specs.Option.{option_copied, option_map};
 ghost use Rattle.cdr_values.specs.Kinds.{kind_of, members_view};

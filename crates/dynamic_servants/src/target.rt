@@ -18,7 +18,7 @@ pub(crate) struct Asked<'a> {
     pub operation: &'a Operation,
 }
 
-/// What a method runs: how many variables it has behind its parameters, and its statements.
+/// What a method runs: how many variables it has after its parameters, and its statements.
 #[derive(Clone, Copy, Drop)]
 pub(crate) struct Work<'a> {
     pub lets: usize,

@@ -20,7 +20,7 @@ first_refusal-append [] b = refl
 first_refusal-append (m ∷ ms) b =
     ap (option_or (refusal_by m (message_at m))) (first_refusal-append ms b) ∙ sym (option_or-assoc (refusal_by m (message_at m)) (first_refusal ms) (first_refusal b))
 
--- lines go on behind messages that have a reading, by whether the next one has
+-- lines go on after messages that have a reading, by whether the next one has
 goes_on : (r : Option Refusal) (line : List ℕ) (rs : Option Refusal) (more lines all : List ℕ) → option_or r rs ≡ None → (rs ≡ None → all ≡ lines ++ more) → cond (is_some r) [] (line ++ all) ≡ cond (is_some r) [] (line ++ lines) ++ more
 goes_on None line rs more lines all h e = ap (λ x. line ++ x) (e h) ∙ sym (append_assoc line lines more)
 goes_on (Some x) line rs more lines all h e = absurd (cc)
@@ -66,12 +66,12 @@ pub so_far_start : (messages : List Message) (text : List ℕ) → text ≡ [] �
 unfolding first_refusal lines_before
 so_far_start messages text h = record { text_is = h; readable = refl }
 
--- what stands at an index
+-- what is at an index
 split_at : (i : ℕ) (messages : List Message) (m : Message) → i < length messages → m ≡ get_or messages i m → messages ≡ take i messages ++ m ∷ drop (i + 1) messages
 split_at i messages m within here =
     sym (take-append-drop i messages) ∙ ap (λ x. take i messages ++ x) (drop_more messages i m within ∙ ap (λ x. x ∷ drop (i + 1) messages) (sym here))
 
--- behind one more message that has a reading
+-- after one more message that has a reading
 pub so_far_more : (i : ℕ) (messages : List Message) (text text' : List ℕ) (m : Message) → LinesSoFar i messages text → i < length messages → m ≡ get_or messages i m → refusal_by m (message_at m) ≡ None → text' ≡ text ++ line_by m (message_at m) → LinesSoFar (i + 1) messages text'
 unfolding first_refusal
 so_far_more i messages text text' m h within here read more =

@@ -99,7 +99,7 @@ took_piece f f' count n into behind s s' s'' o o' h within short few from to fed
       no_end = ends ∙ h.no_end;
     }
 
--- a dump goes on behind it
+-- a dump goes on after it
 pub dump_on : (f f' : Feed) (count count' : ℕ) (s s' s'' : SourceState) (o o' o'' : SinkState) → DumpsSoFar f count s s' o o' → TookOn f f' count' s s'' → DumpsPiece (Ok None) f f' o' o'' → DumpsSoFar f' count' s s'' o o''
 dump_on f f' count count' s s' s'' o o' o'' h took piece = record {
   going = piece.0;
@@ -112,7 +112,7 @@ dump_on f f' count count' s s' s'' o o' o'' h took piece = record {
   writes = piece.2 ∙ h.writes;
 }
 
--- a front of the text, behind all of the text before
+-- a prefix of the text, after all of the text before
 front_on : (f f' : Feed) (o o' o'' : SinkState) → WroteText (dump_text f.fed) o o' → WritesFront f f' o' o'' → WroteOn (dump_text f.fed) (dump_text f'.fed) o o''
 front_on f f' o o' o'' all front =
     let some = front.wrote.1 in
@@ -160,7 +160,7 @@ dump_ends end f f' count count' s s' s'' o o' o'' h took piece = record {
   came = end_came end f f' o o' o'' h.wrote piece;
 }
 
--- want of memory
+-- out of memory
 want_came : (r : Result DumpEnd NoMemory) (earlier bytes : List ℕ) (o o' : SinkState) → IsErr r → WroteText (dump_text earlier) o o' → DumpsBytes r earlier bytes false o o'
 want_came (Ok x) earlier bytes o o' e h = absurd (cc)
 want_came (Err x) earlier bytes o o' e h = h
@@ -169,7 +169,7 @@ want_faults : (r : Result DumpEnd NoMemory) (s s' : SourceState) (o o' : SinkSta
 want_faults (Ok x) s s' o o' e reads writes = absurd (cc)
 want_faults (Err x) s s' o o' e reads writes = (reads, writes)
 
--- what a piece's want of memory leaves
+-- what a piece's out of memory leaves
 piece_wants : (r : Result (Option DumpEnd) NoMemory) (f f' : Feed) (o o' : SinkState) → IsErr r → DumpsPiece r f f' o o' → o' ≡ o
 piece_wants (Ok x) f f' o o' e h = absurd (cc)
 piece_wants (Err x) f f' o o' e h = h

@@ -13,7 +13,7 @@ use Rattle.text_streams.specs.Faults.{NoneFailed, ReadFailed, WriteFailed}
 abbrev pub Ends : Option DumpEnd → List ℕ → Bool → SinkState → SinkState → Type 0
 Ends end bytes ended out out' = (dump_ending bytes ended ≡ end) × WroteText (dump_text bytes) out out'
 
--- the first part of a text was written whole, and of what follows it a front
+-- the first part of a text was written whole, and of what follows it a prefix
 pub record WroteOn (first text : List ℕ) (out out' : SinkState) : Type 0 where
   pub front : List ℕ
   pub rest : List ℕ
@@ -21,7 +21,7 @@ pub record WroteOn (first text : List ℕ) (out out' : SinkState) : Type 0 where
   pub wrote : WroteText (first ++ front) out out'
 
 -- each answer of a dump of these bytes has its cause. `earlier` are those before the last read: at a failed write their text
--- stands there whole, and at want of memory it alone
+-- is there whole, and when out of memory it alone
 abbrev pub DumpsBytes : Result DumpEnd NoMemory → List ℕ → List ℕ → Bool → SinkState → SinkState → Type 0
 DumpsBytes (Ok Done) earlier bytes ended out out' = Ends (Some Done) bytes ended out out'
 DumpsBytes (Ok (Refused r)) earlier bytes ended out out' = Ends (Some (Refused r)) bytes ended out out'
@@ -39,7 +39,7 @@ FaultsOf (Ok ReadFault) old new out out' = ReadFailed old new out out'
 FaultsOf (Ok WriteFault) old new out out' = WriteFailed old new out out'
 FaultsOf (Err _) old new out out' = NoneFailed old new out out'
 
--- a dump took some bytes, those of its last read behind earlier ones of which nothing is refused; and what it answers and
+-- a dump took some bytes, those of its last read after earlier ones of which nothing is refused; and what it answers and
 -- wrote is what those bytes say
 pub record Dumps (answer : Result DumpEnd NoMemory) (old new : SourceState) (out out' : SinkState) : Type 0 where
   pub bytes : List ℕ

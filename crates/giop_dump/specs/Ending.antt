@@ -46,7 +46,7 @@ lines_before (whole ∷ later) =
 abbrev pub broken : FrameFault → Refusal
 broken f = refusal f.offset (Frame f.cause)
 
--- the first refusal of a stream: of a message, or else of a piece, before which the messages stand
+-- the first refusal of a stream: of a message, or else of a piece, before which the messages are
 abbrev pub refusal_of : Said → Option Refusal
 refusal_of said = option_or (first_refusal said.messages) (option_map broken said.bad)
 

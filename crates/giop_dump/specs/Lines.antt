@@ -23,7 +23,7 @@ abbrev pub order_name : Order → List ℕ
 order_name Big = codes "big"
 order_name Little = codes "little"
 
--- the object that a message is for: its key, or else the form in which it stands
+-- the object that a message is for: its key, or else the form in which it is
 abbrev pub target_text : Target → List ℕ
 target_text (key octets) = codes "key " ++ shown octets
 target_text (profile _) = codes "profile"
@@ -45,7 +45,7 @@ fields_text (located l) = codes " id " ++ decimal l.id ++ codes " status " ++ de
 fields_text close = []
 fields_text error = []
 
--- what stands before them: the offset of the piece that completed the message, its kind, its byte order, and how many octets
+-- what is before them: the offset of the piece that completed the message, its kind, its byte order, and how many octets
 -- it has with its header
 abbrev pub head_text : Frames.Message → Message → List ℕ
 head_text whole message =

@@ -40,13 +40,13 @@ pub record WritesOn (f f' : Feed) (out out' : SinkState) : Type 0 where
   pub text_is : dump_text f'.fed ≡ dump_text f.fed ++ text
   pub wrote : WroteText text out out'
 
--- a front of it was written
+-- a prefix of it was written
 pub record WritesFront (f f' : Feed) (out out' : SinkState) : Type 0 where
   pub text : List ℕ
   pub text_is : dump_text f'.fed ≡ dump_text f.fed ++ text
   pub wrote : WroteFrontOf text out out'
 
--- a dump that goes on, or ends; at want of memory nothing was written
+-- a dump that goes on, or ends; when out of memory nothing was written
 abbrev pub DumpsPiece : Result (Option DumpEnd) NoMemory → Feed → Feed → SinkState → SinkState → Type 0
 DumpsPiece (Ok None) f f' out out' = IsGoing f' × WritesOn f f' out out' × (out'.faults ≡ out.faults)
 DumpsPiece (Ok (Some (Refused r))) f f' out out' =

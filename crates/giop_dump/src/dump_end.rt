@@ -19,6 +19,6 @@ pub enum DumpEnd {
     Spent,
     /// The source failed; the messages before that have their lines.
     ReadFault,
-    /// The sink failed. A front of the lines was written.
+    /// The sink failed. A prefix of the lines was written.
     WriteFault,
 }

@@ -45,7 +45,7 @@ follows_start limit le lt =
       steps = refl;
     }
 
--- what a read says of the bytes, the stream says behind the messages so far
+-- what a read says of the bytes, the stream says after the messages so far
 pub fed_more : (limit : ℕ) (fed bytes more : List ℕ) (s : State) → Follows limit fed s
     → stream limit ((fed ++ bytes) ++ more) ≡ with_front (stream limit fed).messages (says s (bytes ++ more))
 fed_more limit fed bytes more s f = ap (stream limit) (append_assoc fed bytes more) ∙ f.on (bytes ++ more)

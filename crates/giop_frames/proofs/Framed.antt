@@ -1,4 +1,4 @@
--- A framer behind a feed, and what the feed tells.
+-- A framer after a feed, and what the feed tells.
 use Rattle.std.proofs.Common.{◌≡◌, ℕ, ◌+◌, ◌*◌, ◌^◌, ◌<◌, ◌≤◌, Bool, false, List, [], ◌++◌, length, drop, Option, Some, None, true, Result, Ok, Err, refl, ap, sym, ◌∙◌, subst, arith, append_assoc}
 use Rattle.std.specs.Prelude.{sum_by}
 use Rattle.std.proofs.lemmas.List.{append-nil}
@@ -103,7 +103,7 @@ follows_new limit fed s le lt hf hs =
 follows_of : (fault : Option FeedFault) (limit : ℕ) (fed : List ℕ) (s : State) (left : Option ℕ) → fault ≡ None → IsFramed limit fed s left fault → Follows limit fed s
 follows_of fault limit fed s left n f = let P : Option FeedFault → Type 0 = λ o. IsFramed limit fed s left o in subst P n f
 
--- what holds of a framer: it follows its stream, and keeps nothing behind a fault
+-- what holds of a framer: it follows its stream, and keeps nothing after a fault
 abbrev pub Holds : ℕ → List ℕ → State → Option ℕ → Option FeedFault → Type 0
 Holds limit fed s left fault = IsFramed limit fed s left fault × IsEmptied s fault
 
@@ -163,7 +163,7 @@ pub rest_now : (v : Feed) (fault : Option FeedFault) (limit : ℕ) (fed : List �
 rest_now v fault limit fed s left k r hv n f e =
     e ∙ sym (rest_is limit fed s (follows_of fault limit fed s left n f.0)) ∙ ap (λ (y : Feed). (said y).rest) hv
 
--- what was told stays told
+-- what was given stays given
 lasts_by : (x : FeedFault) (limit : ℕ) (fed : List ℕ) (s : State) (left : Option ℕ) (k : ℕ) → IsFramed limit fed s left (Some x) → Lasts (Err x) (feed_of limit fed (lacks (Some x)) k)
 lasts_by (Frame e) limit fed s left k f = λ d l h. let t : Some e ≡ Some d = sym f.bad ∙ h in cc
 lasts_by NoMemory limit fed s left k f = λ d l h. absurd (cc)
@@ -205,7 +205,7 @@ kept_by (Some x) limit fed s left f = let e : kept_bytes s ≡ 0 = f.1 in omega 
 pub kept_bound : (fault : Option FeedFault) (limit : ℕ) (fed : List ℕ) (s : State) (left : Option ℕ) → Holds limit fed s left fault → kept_bytes s ≤ 17 * limit
 kept_bound fault limit fed s left f = kept_by fault limit fed s left f
 
--- the bound on the limit stands as long as there is no fault
+-- the bound on the limit is as long as there is no fault
 pub kept_fits : (fault : Option FeedFault) (limit : ℕ) (fed : List ℕ) (s : State) (left : Option ℕ) → Holds limit fed s left fault → kept_bytes s < 2 ^ 63
 kept_fits None limit fed s left f =
     let w : kept_bytes s ≤ 17 * s.limit = kept_within s f.0.resting.part f.0.resting.sound f.0.resting.bounded in omega (arith, f.0.resting.small)

@@ -1,4 +1,4 @@
--- The unfinished messages behind one more piece are those behind the pieces before it, stepped by it.
+-- The unfinished messages after one more piece are those after the pieces before it, stepped by it.
 use Rattle.std.proofs.Common.{◌≡◌, ℕ, Bool, true, false, cond, not, ◌&&◌, ◌||◌, List, [], ◌∷◌, ◌++◌, refl, ap, sym, ◌∙◌, append_assoc, map, filter}
 use Rattle.std.specs.Prelude.{flat_map}
 use Rattle.std.specs.List.{list_any}

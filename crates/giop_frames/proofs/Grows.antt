@@ -15,7 +15,7 @@ pub nothing_said : (limit : ℕ) → stream limit [] ≡ record { messages = [];
 unfolding stream cut said_behind unfinished rest_with tail_rest
 nothing_said limit = refl
 
--- the later saying has all messages of the earlier one, and is the same behind a fault
+-- the later saying has all messages of the earlier one, and is the same after a fault
 pub record Grows (s s' : Said) : Type 0 where
   pub new : List Message
   pub more : s'.messages ≡ s.messages ++ new
@@ -30,7 +30,7 @@ end_grows : (us : List Partial) (tail : Piece) (cause : Option FrameCause) (s' :
 end_grows us tail None s' h = record { new = s'.messages; more = refl; stops = λ f e. absurd (cc) }
 end_grows us tail (Some c) s' h = subst (λ (s : Said). Grows (stopped us tail.at c) s) (sym (h c refl)) (stays (stopped us tail.at c))
 
--- a piece in front of both
+-- a piece before both
 piece_grows : (us : List Partial) (p : Piece) (cause : Option FrameCause) (s s' : Said) → Grows s s' → Grows (or_stopped us p cause s) (or_stopped us p cause s')
 piece_grows us p (Some c) s s' h = stays (stopped us p.at c)
 piece_grows us p None s s' h = record {

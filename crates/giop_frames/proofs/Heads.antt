@@ -55,7 +55,7 @@ kind_there (suc (suc (suc (suc (suc (suc (suc (suc n)))))))) h = absurd (omega a
 abbrev pub head : List ℕ → Kind → Header
 head bytes kind = record { order = order_of bytes; more = has_more bytes; kind = kind; size = size_of bytes }
 
--- what a header that stands there says
+-- what a header that is there says
 pub record IsHead (bytes : List ℕ) (h : Header) : Type 0 where
   pub magic : has_magic bytes ≡ true
   pub version : has_version bytes ≡ true

@@ -97,7 +97,7 @@ stops_piece whole s cause r h = record {
   on = λ more. says_piece s (Some cause) more r h;
 }
 
--- the state behind a whole piece
+-- the state after a whole piece
 abbrev pub behind : State → List Partial → State
 behind s us = record { limit = s.limit; at = s.at + length s.tail; tail = []; partials = us }
 
@@ -173,7 +173,7 @@ put_reads (Ok x) whole whole' s s' bytes m = put_same whole whole' s s' bytes m
 put_reads (Err (Frame f)) whole whole' s s' bytes m = put_stops whole whole' s bytes s'.partials f m
 put_reads (Err NoMemory) whole whole' s s' bytes m = put_lacks whole whole' s bytes m
 
--- a front of the bytes, and then the others
+-- a prefix of the bytes, and then the others
 front_said : (s : State) (n : ℕ) (bytes more : List ℕ) → says s (bytes ++ more) ≡ says s (take n bytes ++ (drop n bytes ++ more))
 front_said s n bytes more =
     ap (says s) (ap (λ (x : List ℕ). x ++ more) (sym (take-append-drop n bytes)) ∙ append_assoc (take n bytes) (drop n bytes) more)
@@ -197,7 +197,7 @@ pub took_fails : (fault : FeedFault) (n : ℕ) (whole whole' : List Message) (s 
 took_fails (Frame f) n whole whole' s s' bytes m = took_stops n whole whole' s bytes s'.partials f m
 took_fails NoMemory n whole whole' s s' bytes m = took_lacks n whole whole' s bytes m
 
--- one read behind another
+-- one read after another
 pub same_same : (whole mid whole' : List Message) (s t s' : State) (a b : List ℕ) → Same whole s a mid t → Same mid t b whole' s' → Same whole s (a ++ b) whole' s'
 same_same whole mid whole' s t s' a b m n = record {
   told = m.told ++ n.told;

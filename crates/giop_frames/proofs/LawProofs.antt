@@ -61,7 +61,7 @@ one_cut n at (q ∷ ps) tail bytes j p h l =
 pub cuts_one_way : CutsOneWay
 cuts_one_way bytes c i = one_cut (length bytes) 0 c.whole c.tail bytes i.joined i.pieces i.ended (omega arith)
 
--- the unfinished messages stand in the order of their offsets
+-- the unfinished messages are in the order of their offsets
 pub record Rises (from upto : ℕ) (us : List Partial) : Type 0 where
   pub begins : BeginFrom from us
   pub first : (r : ℕ) (tail : Piece) → tail.at ≡ upto → rest_with us tail ≡ Some r → BeginFrom r us × (r ≤ upto)

@@ -1,4 +1,4 @@
--- Where the unfinished message of an id stands, and what leaves the other ones alone.
+-- Where the unfinished message of an id is, and what leaves the other ones alone.
 use Rattle.std.proofs.Common.{◌≡◌, ℕ, suc, ◌+◌, ◌<◌, Bool, true, false, cond, not, ◌==◌, List, [], ◌∷◌, ◌++◌, length, Option, Some, None, refl, ap, sym, ◌∙◌, arith, map, filter, nat_lt, subst}
 use Rattle.std.specs.List.{position, position_or_len}
 use Rattle.giop_frames.specs.Messages.{Partial, open_at}
@@ -62,7 +62,7 @@ placed id us o is =
     let P : Option ℕ → Type 0 = λ x. Placed id us x in
     subst P (sym is) (placed_by id us (nat_lt (position_or_len (same id) us) (length us)) refl)
 
--- behind the unfinished message of an id there is no other one of it
+-- after the unfinished message of an id there is no other one of it
 pub after_none : (front : List Partial) (there : Partial) (back : List Partial) → IsDistinct (front ++ there ∷ back) → open_at there.id back ≡ None
 after_none [] there back d = d.0
 after_none (u ∷ front) there back d = after_none front there back d.1
@@ -83,7 +83,7 @@ map_quiet id g q (u ∷ us) h =
     let n : (same id u ≡ false) × (open_at id us ≡ None) = none_first (same id u) u (open_at id us) h in
     ap (λ (v : Partial). v ∷ map g us) (q u n.0) ∙ ap (λ (vs : List Partial). u ∷ vs) (map_quiet id g q us n.1)
 
--- the first of the id stands behind others
+-- the first of the id is after others
 pub open_behind : (id : ℕ) (front : List Partial) (there : Partial) (back : List Partial)
     → open_at id front ≡ None → same id there ≡ true → open_at id (front ++ there ∷ back) ≡ Some there
 open_behind id [] there back h e = ap (λ (b : Bool). cond b (Some there) (open_at id back)) e

@@ -10,7 +10,7 @@ use Rattle.giop_frames.specs.Running.{State, says, with_pieces, cut_from}
 use Rattle.giop_frames.specs.Bounds.{kept_bytes}
 use Rattle.giop_frames.specs.Joining.{IsResting}
 
--- what the stream says of further bytes, the machine says of them behind the messages so far
+-- what the stream says of further bytes, the machine says of them after the messages so far
 pub record Follows (limit : ℕ) (fed : List ℕ) (s : State) : Type 0 where
   pub on : (more : List ℕ) → stream limit (fed ++ more) ≡ with_front (stream limit fed).messages (says s more)
   pub resting : IsResting s
@@ -32,12 +32,12 @@ IsFramed limit fed s left None = Follows limit fed s
 IsFramed limit fed s left (Some (Frame f)) = Ended limit fed left f
 IsFramed limit fed s left (Some NoMemory) = left ≡ None
 
--- what is told as unfinished behind a fault: the first of these messages, and nothing behind want of memory
+-- what is given as unfinished after a fault: the first of these messages, and nothing once out of memory
 abbrev pub left_by : FeedFault → List Partial → Option ℕ
 left_by (Frame f) us = rest_of us
 left_by NoMemory us = None
 
--- behind a fault nothing is kept
+-- after a fault nothing is kept
 abbrev pub IsEmptied : State → Option FeedFault → Type 0
 IsEmptied s None = Unit {0}
 IsEmptied s (Some fault) = kept_bytes s ≡ 0

@@ -24,7 +24,7 @@ pub record Adds (f f' : Feed) (whole whole' : List Message) : Type 0 where
   pub says_new : (said f').messages ≡ (said f).messages ++ new
   pub gives : whole' ≡ whole ++ new
 
--- a front of these messages was appended, whatever follows
+-- a prefix of these messages was appended, whatever follows
 pub record AddsFront (f f' : Feed) (whole whole' : List Message) : Type 0 where
   pub new : List Message
   pub left : List ℕ → List Message
@@ -35,7 +35,7 @@ pub record AddsFront (f f' : Feed) (whole whole' : List Message) : Type 0 where
 abbrev pub IsFinal : Feed → Type 0
 IsFinal f = (more : List ℕ) → stream f.limit (f.fed ++ more) ≡ said f
 
--- the answer of a feed: no fault so far, or the stream's first fault, or want of memory from then on
+-- the answer of a feed: no fault so far, or the stream's first fault, or out of memory from then on
 abbrev pub Tells : Result (Unit {0}) FeedFault → Feed → Feed → List Message → List Message → Type 0
 Tells (Ok x) f f' whole whole' = (f.lacked ≡ false) × (f'.lacked ≡ false) × ((said f').bad ≡ None) × Adds f f' whole whole'
 Tells (Err (Frame e)) f f' whole whole' =
@@ -47,7 +47,7 @@ Tells (Err NoMemory) f f' whole whole' =
 abbrev pub Lasts : Result (Unit {0}) FeedFault → Feed → Type 0
 Lasts result f = (e : FrameFault) → f.lacked ≡ false → (said f).bad ≡ Some e → result ≡ Err (Frame e)
 
--- a front of these messages was appended
+-- a prefix of these messages was appended
 pub record GivesFront (messages whole whole' : List Message) : Type 0 where
   pub new : List Message
   pub left : List Message
@@ -64,7 +64,7 @@ ReadsStream (Err NoMemory) s whole whole' = GivesFront s.messages whole whole'
 abbrev pub joined_feeds : List (Room ℕ) → List ℕ
 joined_feeds pieces = flat_map (λ p. p.items) pieces
 
--- a framer behind the first feeds
+-- a framer after the first feeds
 pub record FedSoFar (limit : ℕ) (fed : List ℕ) (whole : List Message) (f : Feed) (whole' : List Message) : Type 0 where
   pub limit_is : f.limit ≡ limit
   pub fed_is : f.fed ≡ fed

@@ -54,14 +54,14 @@ pub record Stops (whole : List Message) (s : State) (bytes : List ℕ) (whole' :
   pub gives : whole' ≡ whole ++ told
   pub on : (more : List ℕ) → says s (bytes ++ more) ≡ with_front told (stopped us f.offset f.cause)
 
--- a front of the messages was given
+-- a prefix of the messages was given
 pub record Lacks (whole : List Message) (s : State) (bytes : List ℕ) (whole' : List Message) : Type 0 where
   pub told : List Message
   pub left : List ℕ → List Message
   pub gives : whole' ≡ whole ++ told
   pub front : (more : List ℕ) → (says s (bytes ++ more)).messages ≡ told ++ left more
 
--- a call that fails: the stream stops at this fault, or memory was wanting and a front of the messages was told
+-- a call that fails: the stream stops at this fault, or memory was wanting and a prefix of the messages was given
 abbrev pub Fails : FeedFault → List ℕ → State → State → List Message → List Message → Type 0
 Fails (Frame f) bytes s s' whole whole' = Stops whole s bytes whole' s'.partials f
 Fails NoMemory bytes s s' whole whole' = Lacks whole s bytes whole'
@@ -82,7 +82,7 @@ abbrev pub Takes : Result ℕ FeedFault → List ℕ → State → State → Lis
 Takes (Ok n) bytes s s' whole whole' = Took n bytes s s' whole whole'
 Takes (Err fault) bytes s s' whole whole' = Fails fault bytes s s' whole whole'
 
--- want of memory as a fault of a feed
+-- out of memory as a fault of a feed
 abbrev pub lifted : Result (Unit {0}) Lack → Result (Unit {0}) FeedFault
 lifted (Ok x) = Ok x
 lifted (Err e) = Err NoMemory
@@ -97,7 +97,7 @@ pub record Needs (s : State) (n : ℕ) : Type 0 where
   pub header : length s.tail < 12 → length s.tail + n ≡ 12
   pub piece : 12 ≤ length s.tail → length s.tail + n ≡ piece_len s.tail
 
--- a front of the input was read
+-- a prefix of the input was read
 pub record SoFar (n : ℕ) (input : List ℕ) (whole : List Message) (s : State) (whole' : List Message) (s' : State) : Type 0 where
   pub within : n ≤ length input
   pub same : Same whole s (take n input) whole' s'

@@ -4,7 +4,7 @@ use Rattle.giop_frames.specs.Pieces.{Piece, Cut, piece_len, is_whole, cut}
 use Rattle.giop_frames.specs.Messages.{Partial, unfinished}
 use Rattle.giop_frames.specs.Stream.{rest_with}
 
--- each piece begins where the one before it ends, and is as long as its header says; the tail begins behind the last one
+-- each piece begins where the one before it ends, and is as long as its header says; the tail begins after the last one
 abbrev pub ArePieces : ℕ → List Piece → ℕ → Type 0
 ArePieces at [] tail = tail ≡ at
 ArePieces at (p ∷ ps) tail =
@@ -24,7 +24,7 @@ CutsExactly = (bytes : List ℕ) → IsCut 0 bytes (cut (length bytes) 0 bytes)
 abbrev pub CutsOneWay : Type 0
 CutsOneWay = (bytes : List ℕ) (c : Cut) → IsCut 0 bytes c → c ≡ cut (length bytes) 0 bytes
 
--- each of these messages begins at this offset or behind it
+-- each of these messages begins at this offset or after it
 abbrev pub BeginFrom : ℕ → List Partial → Type 0
 BeginFrom at [] = Unit {0}
 BeginFrom at (u ∷ us) = (at ≤ u.at) × BeginFrom at us

@@ -40,7 +40,7 @@ pub record Partial : Type 0 where
 abbrev pub added : Piece → List ℕ
 added p = drop 16 p.bytes
 
--- the message that begins with this piece, and goes on in the Fragments behind it
+-- the message that begins with this piece, and goes on in the Fragments after it
 abbrev pub begun : Piece → List Piece → Partial
 begun p later = record {
   at = p.at;
@@ -71,7 +71,7 @@ unfoldable pub sealed : Order → List ℕ → List ℕ
 sealed order bytes =
     take 6 bytes ++ (slice_index bytes 6 - 2) ∷ slice_index bytes 7 ∷ number_bytes order w32 (length bytes - 12) ++ drop 12 bytes
 
--- a message in fragments, behind its last piece
+-- a message in fragments, after its last piece
 abbrev pub joined : Piece → Partial → Message
 joined p u = record { at = p.at; order = u.order; kind = kind_of u.bytes; bytes = sealed u.order (u.bytes ++ added p) }
 
@@ -79,7 +79,7 @@ joined p u = record { at = p.at; order = u.order; kind = kind_of u.bytes; bytes 
 abbrev pub lone : Piece → Message
 lone p = record { at = p.at; order = order_of p.bytes; kind = kind_of p.bytes; bytes = p.bytes }
 
--- the message that a piece completes, behind these unfinished ones
+-- the message that a piece completes, after these unfinished ones
 unfoldable pub completed : List Partial → Piece → Option Message
 completed us p =
     if has_more p.bytes then None

@@ -23,7 +23,7 @@ has_more bytes = slice_index bytes 6 / 2 % 2 == 1
 unfoldable pub kind_of : List ℕ → ℕ
 kind_of bytes = slice_index bytes 7
 
--- how many bytes stand behind the header
+-- how many bytes are after the header
 abbrev pub size_of : List ℕ → ℕ
 size_of bytes = number_of (order_of bytes) w32 (take 4 (drop 8 bytes))
 
@@ -31,11 +31,11 @@ size_of bytes = number_of (order_of bytes) w32 (take 4 (drop 8 bytes))
 unfoldable pub piece_len : List ℕ → ℕ
 piece_len bytes = 12 + size_of bytes
 
--- the id of a Fragment, or of a message that fragments follow: the 4 bytes behind the header
+-- the id of a Fragment, or of a message that fragments follow: the 4 bytes after the header
 unfoldable pub id_of : List ℕ → ℕ
 id_of bytes = number_of (order_of bytes) w32 (take 4 (drop 12 bytes))
 
--- a whole piece stands at the front
+-- a whole piece is at the front
 unfoldable pub is_whole : List ℕ → Bool
 is_whole bytes = nat_le 12 (length bytes) && nat_le (piece_len bytes) (length bytes)
 
@@ -44,7 +44,7 @@ pub record Cut : Type 0 where
   pub whole : List Piece
   pub tail : Piece
 
--- a cut with one more whole piece in front
+-- a cut with one more whole piece before
 abbrev pub with_piece : Piece → Cut → Cut
 with_piece p c = record { whole = p ∷ c.whole; tail = c.tail }
 

@@ -4,7 +4,7 @@ use Rattle.giop_frames.specs.Pieces.{Piece, Cut, cut}
 use Rattle.giop_frames.specs.Messages.{Partial, opens, continues, ends, added, begun}
 use Rattle.giop_frames.specs.Stream.{Said, at_end, or_stopped, tail_cause, cause_of}
 
--- an unfinished message behind a piece that doesn't end it
+-- an unfinished message after a piece that doesn't end it
 abbrev pub grown : Piece → Partial → Partial
 grown p u = if continues u.id p.bytes then record u { bytes = u.bytes ++ added p } else u
 
@@ -12,7 +12,7 @@ grown p u = if continues u.id p.bytes then record u { bytes = u.bytes ++ added p
 abbrev pub opened : Piece → List Partial
 opened p = if opens p.bytes then begun p [] ∷ [] else []
 
--- the unfinished messages behind one more piece
+-- the unfinished messages after one more piece
 unfoldable pub stepped : Piece → List Partial → List Partial
 stepped p us = map (grown p) (filter (λ u. not (ends u.id p.bytes)) us) ++ opened p
 
@@ -21,7 +21,7 @@ abbrev pub stepped_by : List Piece → List Partial → List Partial
 stepped_by [] us = us
 stepped_by (p ∷ later) us = stepped_by later (stepped p us)
 
--- what pieces and a tail say behind the unfinished messages of the earlier ones
+-- what pieces and a tail say after the unfinished messages of the earlier ones
 unfoldable pub run : ℕ → List Partial → List Piece → Piece → Said
 run limit us [] tail = at_end us tail (tail_cause limit tail.bytes)
 run limit us (p ∷ later) tail = or_stopped us p (cause_of limit us p) (run limit (stepped p us) later tail)
@@ -30,7 +30,7 @@ run limit us (p ∷ later) tail = or_stopped us p (cause_of limit us p) (run lim
 abbrev pub run_cut : ℕ → List Partial → Cut → Said
 run_cut limit us c = run limit us c.whole c.tail
 
--- what bytes from an offset on say behind these unfinished messages
+-- what bytes from an offset on say after these unfinished messages
 unfoldable pub ahead : ℕ → List Partial → ℕ → List ℕ → Said
 ahead limit us at bytes = run_cut limit us (cut (length bytes) at bytes)
 

@@ -16,7 +16,7 @@ pub record Found (id : ℕ) (us : List Partial) (i : ℕ) : Type 0 where
   pub same : (there.id == id) ≡ true
   pub before : open_at id front ≡ None
 
--- where the unfinished message of an id stands, if there is one
+-- where the unfinished message of an id is, if there is one
 abbrev pub Placed : ℕ → List Partial → Option ℕ → Type 0
 Placed id us None = open_at id us ≡ None
 Placed id us (Some i) = Found id us i
@@ -40,7 +40,7 @@ pub record IsSound (us : List Partial) (bytes : List ℕ) : Type 0 where
   pub fits : is_fragment bytes ≡ true → JoinFits (length bytes) (open_at (id_of bytes) us)
   pub distinct : IsDistinct us
 
--- a piece of these bytes steps the unfinished messages, wherever it stands
+-- a piece of these bytes steps the unfinished messages, wherever it is
 abbrev pub StepsBy : List ℕ → List Partial → List Partial → Type 0
 StepsBy bytes us us' = (at : ℕ) → us' ≡ stepped (record { at = at; bytes = bytes }) us
 

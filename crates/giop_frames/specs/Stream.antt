@@ -44,7 +44,7 @@ first_cause us bytes =
     else if nat_le 16 (length us) then Some TooManyPartials
     else None
 
--- the first rule that a whole piece with a header breaks behind these unfinished messages
+-- the first rule that a whole piece with a header breaks after these unfinished messages
 abbrev pub piece_rule : ℕ → List Partial → List ℕ → Result Header FrameCause → Option FrameCause
 piece_rule limit us bytes (Err cause) = Some cause
 piece_rule limit us bytes (Ok h) =
@@ -55,7 +55,7 @@ piece_rule limit us bytes (Ok h) =
     else if h.more then first_cause us bytes
     else None
 
--- the first rule that these bytes, a whole piece, break behind these unfinished messages
+-- the first rule that these bytes, a whole piece, break after these unfinished messages
 unfoldable pub piece_cause : ℕ → List Partial → List ℕ → Option FrameCause
 piece_cause limit us bytes = piece_rule limit us bytes (header_at bytes)
 
@@ -79,11 +79,11 @@ pub record Said : Type 0 where
   pub rest : Option ℕ
   pub bad : Option FrameFault
 
--- what is said, with messages in front
+-- what is said, with messages before
 abbrev pub with_front : List Message → Said → Said
 with_front front said = record { messages = front ++ said.messages; rest = said.rest; bad = said.bad }
 
--- the offset of the first of the unfinished messages, which stand in the order of their first pieces
+-- the offset of the first of the unfinished messages, which are in the order of their first pieces
 unfoldable pub rest_of : List Partial → Option ℕ
 rest_of [] = None
 rest_of (u ∷ us) = Some u.at
@@ -97,7 +97,7 @@ unfoldable pub rest_with : List Partial → Piece → Option ℕ
 rest_with [] tail = tail_rest tail
 rest_with (u ∷ us) tail = Some u.at
 
--- a stream that stops at a fault: what has come behind it doesn't count
+-- a stream that stops at a fault: what has come after it doesn't count
 abbrev pub stopped : List Partial → ℕ → FrameCause → Said
 stopped us at cause = record { messages = []; rest = rest_of us; bad = Some (record { cause = cause; offset = at }) }
 
@@ -111,7 +111,7 @@ abbrev pub or_stopped : List Partial → Piece → Option FrameCause → Said �
 or_stopped us p (Some cause) said = stopped us p.at cause
 or_stopped us p None said = with_front (option_to_list (completed us p)) said
 
--- what pieces and a tail say behind the earlier pieces: the first piece that breaks a rule stops the stream
+-- what pieces and a tail say after the earlier pieces: the first piece that breaks a rule stops the stream
 unfoldable pub said_behind : ℕ → List Piece → List Piece → Piece → Said
 said_behind limit earlier [] tail = at_end (unfinished earlier) tail (tail_cause limit tail.bytes)
 said_behind limit earlier (p ∷ later) tail =

@@ -18,7 +18,7 @@ pub enum FrameCause {
     /// The piece, or the message that it is joined to, is longer than the limit.
     #[error("TooLong")]
     TooLong,
-    /// The piece stands where no such piece may: a CancelRequest, CloseConnection or MessageError with the fragment bit, a
+    /// The piece is where no such piece may: a CancelRequest, CloseConnection or MessageError with the fragment bit, a
     /// piece with that bit whose length isn't a multiple of 8, a Fragment below 16 bytes, of an id that isn't open or of
     /// another order, or a first piece of an id that is open.
     #[error("BadPiece")]

@@ -63,14 +63,14 @@ impl Framer {
 
     /// Takes the next bytes of the stream, and appends the messages that they complete, in the order of their last pieces.
     ///
-    /// A fault of the stream is told as soon as it is there, that of a header once its 12 bytes are: the messages before it
-    /// are appended, and from then on every feed answers it and appends nothing. After want of memory, which may leave
+    /// A fault of the stream is given as soon as it is there, that of a header once its 12 bytes are: the messages before it
+    /// are appended, and from then on every feed answers it and appends nothing. Once out of memory, which may leave
     /// out messages, every feed answers that and appends nothing. Both give back the memory of what was kept.
     pub fn feed(&mut self, piece: &[u8], whole: &mut List<Whole>) -> Result<(), FeedFault>
         requires { length self.old.fed + length piece.now < 2 ^ 64 }
         ensures fed { (self.new.limit ≡ self.old.limit) × (self.new.fed ≡ self.old.fed ++ piece.now) }
         ensures tells { Tells result self.old self.new whole.old.items whole.new.items }
-        // What was told stays told.
+        // What was given stays given.
         ensures lasts { Lasts result self.old }
         ensures kept { self.new.kept ≤ 17 * self.new.limit }
         // What is appended and what is kept came with this piece, or was kept before it.
@@ -93,7 +93,7 @@ impl Framer {
     }
 
     /// The smallest offset at which an unfinished message or piece begins, from the first byte of the stream. After a fault
-    /// only the unfinished messages before it count, and after want of memory none does.
+    /// only the unfinished messages before it count, and once out of memory none does.
     pub fn rest(&self) -> Option<u64>
         ensures rest { self.now.lacked ≡ false → result ≡ (said self.now).rest }
         ensures lacked { self.now.lacked ≡ true → result ≡ None }
@@ -105,7 +105,7 @@ impl Framer {
     }
 
     /// How many bytes it keeps: those that have come of the next piece, and those of the unfinished messages. None after a
-    /// fault or want of memory.
+    /// fault or out of memory.
     pub fn kept(&self) -> u64
         ensures value { result ≡ self.now.kept }
         ensures bound { result ≤ 17 * self.now.limit }

@@ -17,7 +17,7 @@ pub(crate) const HEADER: usize = 12;
 /// What every header begins with.
 const MAGIC: &[u8] = b"GIOP";
 
-/// What a header of 12 bytes says of its piece, behind its magic and its version.
+/// What a header of 12 bytes says of its piece, after its magic and its version.
 #[derive(Clone, Copy)]
 pub(crate) struct Header {
     /// The byte order of the piece, by bit 0 of the flags.
@@ -26,7 +26,7 @@ pub(crate) struct Header {
     pub more: bool,
     /// The kind of message.
     pub kind: Kind,
-    /// How many bytes stand behind the header.
+    /// How many bytes are after the header.
     pub size: u32,
 }
 
@@ -68,7 +68,7 @@ impl Header {
         self.kind.number() == kind.number()
     }
 
-    /// The id of its piece, a Fragment or a message that fragments follow: the 4 bytes behind the header.
+    /// The id of its piece, a Fragment or a message that fragments follow: the 4 bytes after the header.
     #[tactic(auto, unfolding(crate::specs::Pieces::id_of))]
     pub fn id_of(self, bytes: &[u8]) -> u32
         requires header { BeginsWith self bytes.now }
@@ -131,7 +131,7 @@ pub(crate) fn kind_of(bytes: &[u8]) -> u8
     bytes[7]
 }
 
-/// How many bytes stand behind the header.
+/// How many bytes are after the header.
 fn size_of(bytes: &[u8]) -> u32
     requires { 12 ≤ length bytes.now }
     ensures { result ≡ Spec.size_of bytes.now }

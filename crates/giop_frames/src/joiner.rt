@@ -1,4 +1,4 @@
-//! The machine behind a framer: it fills a piece, judges its header, then the whole piece, and takes it.
+//! The machine after a framer: it fills a piece, judges its header, then the whole piece, and takes it.
 ghost use Rattle.std.specs.Prelude.{◌≡◌, ◌≤◌, ◌<◌, ◌+◌, ◌^◌, [], ◌++◌, length, Ok, OnOk, IfOk, IfSome, None};
 ghost use Rattle.giop_frames.specs.Headers.{BeginsWith, header_at};
 ghost use Rattle.giop_frames.specs.Stream.{rest_of, rest_with};
@@ -35,7 +35,7 @@ impl Model for Joiner {
     ghost view = { λ j. record { limit = j.limit; at = j.at; tail = j.tail.items; partials = j.partials.items } };
 }
 
-/// Want of memory as the fault of a feed.
+/// Out of memory as the fault of a feed.
 fn lift(answer: Result<(), NoMemory>) -> Result<(), FeedFault>
     ensures { result ≡ lifted answer }
 {
@@ -213,7 +213,7 @@ impl Joiner {
         }
     }
 
-    /// What is told as unfinished behind this fault.
+    /// What is given as unfinished after this fault.
     pub fn left_by(&self, fault: FeedFault) -> Option<u64>
         ensures { result ≡ left_behind fault self.now.partials }
     {

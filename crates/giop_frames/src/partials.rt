@@ -53,7 +53,7 @@ fn grow_at(partials: &mut Vec<Unfinished>, i: usize, more: &[u8]) -> Result<(), 
     u.bytes.append(more)
 }
 
-/// A middle Fragment joins its message: its bytes behind the id are copied once more.
+/// A middle Fragment joins its message: its bytes after the id are copied once more.
 fn go_on(partials: &mut Vec<Unfinished>, header: Header, bytes: &[u8]) -> Result<(), NoMemory>
     requires header { BeginsWith header bytes.now }
     requires sound { IsSound partials.old.items bytes.now }

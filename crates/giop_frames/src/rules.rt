@@ -75,7 +75,7 @@ fn first_cause(partials: &[Unfinished], header: Header, bytes: &[u8]) -> Option<
     }
 }
 
-/// The first rule that a whole piece with this header breaks behind these unfinished messages.
+/// The first rule that a whole piece with this header breaks after these unfinished messages.
 pub(crate) fn piece_cause(
     limit: usize,
     partials: &[Unfinished],

@@ -41,7 +41,7 @@ fn position_of(id: u32, partials: &[Unfinished]) -> Option<usize>
     partials.iter().position(|u| u.id == id)
 }
 
-/// The index of the unfinished message of an id, with what stands around it.
+/// The index of the unfinished message of an id, with what is around it.
 #[tactic(auto, using(crate::proofs::Places::placed))]
 pub(crate) fn place_of(id: u32, partials: &[Unfinished]) -> Option<usize>
     ensures { Placed id partials.now result }

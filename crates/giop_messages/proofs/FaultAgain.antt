@@ -1,4 +1,4 @@
--- The first fault of a header is told.
+-- The first fault of a header is given.
 use Rattle.std.proofs.Common.{◌≡◌, ℕ, ◌-◌, ◌<◌, ◌≤◌, false, eqb, List, Result, Ok, Err, inl, inr, refl, sym, ap, ◌∙◌, arith}
 use Rattle.std.specs.Int.{Width, w16, w32, byte_len}
 use Rattle.cdr_core.specs.declared.fault.CdrFault.{CdrFault}
@@ -21,7 +21,7 @@ use Rattle.giop_messages.proofs.HeaderFault.{short_place}
 abbrev pub fault_as : {A : Type 0} → MessageFault → Result A MessageFault
 fault_as e = Err e
 
--- why a reading of the representation has no value is told
+-- why a reading of the representation has no value is given
 cdr_told : {A : Type 0} (r : Reads A) (Bad : CdrFault → Type 0) (e : MessageFault) → ((f : CdrFault) → Bad f → r ≡ Err f) → TellsCdr Bad e → basic r ≡ Err e
 cdr_told r Bad e told h = ap basic (told h.0 h.1) ∙ ap Err (sym h.2)
 

@@ -17,7 +17,7 @@ use Rattle.cdr_core.specs.Encapsulation.{order_byte}
 use Rattle.giop_messages.specs.Layout.{header}
 use Rattle.giop_messages.specs.MessageReading.{IsMessage}
 
--- a header in front of what it counts
+-- a header before what it counts
 pub record IsHeaded (m : Frames.Message) : Type 0 where
   pub flags : ℕ
   pub behind : List ℕ
@@ -29,7 +29,7 @@ pub record IsHeaded (m : Frames.Message) : Type 0 where
   pub short : length m.bytes ≤ MAX_MESSAGE
   pub parts : m.bytes ≡ header m.order flags m.kind (length behind) ++ behind
 
--- the first twelve bytes, and those behind them
+-- the first twelve bytes, and those after them
 pub record Twelve (bytes : List ℕ) : Type 0 where
   pub b0 : ℕ
   pub b1 : ℕ
@@ -131,7 +131,7 @@ same_front t kind size m v k s = rw (m.0, m.1, m.2, m.3, v.0, v.1, k, s) refl
 of : {A : Type 0} {bytes : List ℕ} (t : Twelve bytes) (f : List ℕ → A) → f (joined t) ≡ f bytes
 of t f = ap f (sym t.parts)
 
--- octets that are a message have a header that counts what stands behind it
+-- octets that are a message have a header that counts what is after it
 pub headed : (m : Frames.Message) → IsMessage m → AreBytes m.bytes → IsHeaded m
 headed m i fits =
     let t = twelve m.bytes i.long in

@@ -62,7 +62,7 @@ addressing_err c e fits h =
           ]
     ]
 
--- what stands behind a form fails, or the form is above 2
+-- what is after a form fails, or the form is above 2
 form_err : (place form : ℕ) (c : Cursor) (e : MessageFault) → AreBytes c.rest → form_at place form c ≡ Err e → FailsBehind form c e ⊎ ((2 < form) × (e ≡ faults.BadTarget place))
 unfolding form_at
 form_err place form c e fits h =
@@ -79,7 +79,7 @@ form_err place form c e fits h =
           ]
     ]
 
--- the place of a number, by the one behind it
+-- the place of a number, by the one after it
 pub short_place : (n : ℕ) (c d : Cursor) → Spans c d (number w16 n ∷ []) → d.place - 2 ≡ aligned 2 c.place
 short_place n c d p = omega (arith, p.place, length-spelled c.order c.place (number w16 n ∷ []) p.spelling p.spelled)
 
@@ -129,7 +129,7 @@ status_err c e fits h =
           ]
     ]
 
--- behind a part that stands there
+-- after a part that is there
 next : (part : Part) (parts : List Part) (c d : Cursor) (e : MessageFault) → StandsAs part c d → FailsAmong parts d e → FailsAmong (part ∷ parts) c e
 next part parts c d e s f = inr (d, s, f)
 

@@ -27,7 +27,7 @@ form_of (key bytes) = 0
 form_of (profile t) = 1
 form_of (addressing index type_id profiles) = 2
 
--- what stands behind the form
+-- what is after the form
 abbrev pub form_fields : Target → List Field
 form_fields (key bytes) = octets_fields bytes
 form_fields (profile t) = tagged_fields t

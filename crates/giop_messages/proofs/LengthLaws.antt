@@ -26,7 +26,7 @@ held_more a place pa pp n r same from e =
     let below : held place ≤ place = omega arith in
     elim (eq-or-lt_of_le below) [ inl h ↦ let q : pa ≡ pp = same (from ∙ h) in omega arith | inr h ↦ omega arith ]
 
--- bytes behind their pad
+-- bytes after their pad
 pub ends_run : (a size n r : ℕ) (bytes : List ℕ) → length bytes ≡ n → r ≡ held (a + pad_len size a + n) → Ends a (run size bytes ∷ []) r
 ends_run a size n r bytes len e place from = rw len (held_more a place (pad_len size a) (pad_len size place) n r (ap (λ (p : ℕ). pad_len size p)) from e)
 

@@ -19,7 +19,7 @@ done x = Ok x
 
 -- ---- what stands between two cursors
 
--- the bytes between two cursors spell the fields, and those behind are bytes
+-- the bytes between two cursors spell the fields, and those after are bytes
 pub record Passed (c d : Cursor) (fields : List Field) : Type 0 where
   pub spans : Spans c d fields
   pub bytes : AreBytes d.rest

@@ -1,4 +1,4 @@
--- Whole bytes are read as at most one message: part by part from the left, each is spelled by one front alone.
+-- Whole bytes are read as at most one message: part by part from the left, each is spelled by one prefix alone.
 use Rattle.std.proofs.Common.{◌≡◌, ℕ, ◌+◌, ◌*◌, ◌^◌, ◌<◌, ◌≤◌, ◌%◌, List, [], ◌∷◌, ◌++◌, length, drop, refl, sym, ap, subst, ◌∙◌, append_assoc, arith, lit<}
 use Rattle.std.specs.List.{AllByRecursion, flat_map}
 use Rattle.std.specs.Int.{Width, w8, w16, w32, byte_len}
@@ -17,7 +17,7 @@ use Rattle.cdr_core.specs.Encapsulation.{order_byte}
 use Rattle.giop_messages.specs.Layout.{header, target_fields, contexts_fields, named_fields}
 use Rattle.giop_messages.specs.Reading.{ReadsIn, Reads}
 
--- two lists of fields that are spelled from one place on, with what stands behind each, by the same bytes
+-- two lists of fields that are spelled from one place on, with what is after each, by the same bytes
 record Tails (order : Order) (fs gs : List Field) (bx by : List ℕ) : Type 0 where
   pub place : ℕ
   pub x : List ℕ
@@ -100,7 +100,7 @@ text_one a b fs gs fa fb t =
 
 -- ---- items and lists of them
 
--- two items that fit and stand in front of the same bytes are one
+-- two items that fit and are before the same bytes are one
 abbrev One : {A : Type 0} → (A → List Field) → (A → Type 0) → Type 0
 One {A} fields P =
     (order : Order) (a b : A) (fs gs : List Field) (bx by : List ℕ) → P a → P b → Tails order (fields a ++ fs) (fields b ++ gs) bx by → (a ≡ b) × Tails order fs gs bx by
@@ -141,7 +141,7 @@ contexts_one order s r fs gs bx by fs_fit fr_fit t =
 
 -- ---- targets
 
--- a target's form, and its fields behind that number
+-- a target's form, and its fields after that number
 abbrev form_of : Target → ℕ
 form_of (key _) = 0
 form_of (profile _) = 1
@@ -219,7 +219,7 @@ located_one r s fr fs t =
     let status = number_one w32 r.status s.status [] [] (lit< tt) fr.status fs.status id.1 in
     λ i. record { id = id.0 i; status = status.0 i }
 
--- one body behind one spelling
+-- one body after one spelling
 body_one : (a b x y u v : List ℕ) → u ≡ v → x ++ u ≡ y ++ v → a ≡ drop (pad_len 8 (12 + length x)) u → b ≡ drop (pad_len 8 (12 + length y)) v → a ≡ b
 body_one a b x y u v behind all ea eb =
     let front : x ≡ y = append_cancel_right x y v (ap (λ (z : List ℕ). x ++ z) (sym behind) ∙ all) in
@@ -230,7 +230,7 @@ both : {order : Order} {m n : Message} {bytes : List ℕ} (p : ReadsIn order m b
     → Tails order (named_fields p.reserved m) (named_fields q.reserved n) p.rest q.rest
 both p q all = record { place = 12; x = p.named; y = q.named; spelled_x = p.fields; spelled_y = q.fields; same = all }
 
--- in one order, behind headers of one kind
+-- in one order, after headers of one kind
 message_one : (order : Order) (m n : Message) (bytes : List ℕ) (p : ReadsIn order m bytes) (q : ReadsIn order n bytes) → kind_of m ≡ kind_of n
     → p.named ++ p.rest ≡ q.named ++ q.rest → m ≡ n
 message_one order (request r) (request s) bytes p q kinds all =

@@ -1,4 +1,4 @@
--- Parts put one behind the other, and the room that they want.
+-- Parts put one after the other, and the room that they want.
 use Rattle.std.proofs.Common.{◌≡◌, ℕ, suc, ◌+◌, ◌^◌, ◌<◌, ◌≤◌, List, [], ◌∷◌, ◌++◌, length, Result, Ok, Err, OnOk, OnErr, sym, ap, subst, ◌∙◌, ◌-◌, arith, length-append}
 use Rattle.std.specs.List.{All, AllByRecursion, flat_map}
 use Rattle.std.proofs.lemmas.List.Concat.{flat_map-cons}
@@ -28,7 +28,7 @@ end_rises : (place : ℕ) (a : List Field) → place ≤ fields_end place a
 end_rises place [] = omega arith
 end_rises place (f ∷ a) = omega (arith, end_rises (field_end place f) a)
 
--- room for the whole is room for its front, and for what is behind it
+-- room for the whole is room for its prefix, and for what is after it
 pub room_first : (place : ℕ) (a b : List Field) → fields_end place (a ++ b) < 2 ^ 32 → fields_end place a < 2 ^ 32
 room_first place a b h =
     let rises : fields_end place a ≤ fields_end (fields_end place a) b = end_rises (fields_end place a) b in
@@ -44,7 +44,7 @@ room_then old mid a b e h =
 pub puts_nil : (r : Result (Unit {0}) NoMemory) (old new : Page) (a : List Field) → Puts r old new a → Puts r old new (a ++ [])
 puts_nil r old new a puts = let P : List Field → Type 0 = λ fs. Puts r old new fs in subst P (sym (append-nil a)) puts
 
--- each item takes a place at least, so that few stand in little room
+-- each item takes a place at least, so that few are in little room
 pub few_tagged : (place : ℕ) (xs : List Tagged) → length xs + place ≤ fields_end place (flat_map tagged_fields xs)
 few_tagged place [] = omega arith
 few_tagged place (x ∷ xs) =
@@ -57,7 +57,7 @@ few_contexts place (x ∷ xs) =
     let next = fields_end place (context_fields x) in
     omega (arith, few_contexts next xs, fields_end-append place (context_fields x) (flat_map context_fields xs))
 
--- room for the whole is room for what is behind its front
+-- room for the whole is room for what is after its prefix
 pub room_after : (place : ℕ) (a b : List Field) → fields_end place (a ++ b) < 2 ^ 32 → fields_end (fields_end place a) b < 2 ^ 32
 room_after place a b room = subst (λ (n : ℕ). n < 2 ^ 32) (fields_end-append place a b) room
 
@@ -129,7 +129,7 @@ message_room order message old mid kind size e m short =
     ap (λ (n : ℕ). fields_end n (all_fields message)) (empty_end order old mid kind size e m) ∙ sym (length-spelled_message order message) in
     omega arith
 
--- fields put on an empty page are its bytes, or a front of them
+-- fields put on an empty page are its bytes, or a prefix of them
 fields_on_empty : (r : Result (Unit {0}) NoMemory) (order : Order) (old new : Page) (fields : List Field) (whole : List ℕ) → old ≡ page order 0 []
     → fields_bytes order 0 fields ≡ whole → Puts r old new fields → OnOk r (new.bytes ≡ whole) × OnErr r (IsFront new.bytes whole)
 unfolding written
@@ -157,7 +157,7 @@ header_front x order message size old new e len h =
     (fields_on_empty (Err x) order old new (head ++ all_fields message) (spelled order message) e (spelled_is order message size len)
     (puts_first old new head (all_fields message) h)).1
 
--- where nothing was put, that is a front
+-- where nothing was put, that is a prefix
 pub nothing_put : (order : Order) (message : Message) (p : Page) → p ≡ page order 0 [] → IsFront p.bytes (spelled order message)
 nothing_put order message p e =
     record { missing = spelled order message; parts = ap (λ (q : Page). q.bytes ++ spelled order message) (sym e) }

@@ -26,7 +26,7 @@ flag_whole : (order : Order) → order_byte order / 2 % 2 ≡ 0
 flag_whole Big = refl
 flag_whole Little = refl
 
--- the body behind its pad
+-- the body after its pad
 behind_pad : (order : Order) (here place : ℕ) (body : List ℕ) → here ≡ place → body ≡ drop (pad_len 8 here) (fields_bytes order place (body_fields body))
 behind_pad order here place [] same = sym (drop-nil (pad_len 8 here))
 behind_pad order here place (b ∷ body) same =

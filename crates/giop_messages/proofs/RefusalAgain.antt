@@ -1,4 +1,4 @@
--- The first fault of a whole message's header is told.
+-- The first fault of a whole message's header is given.
 use Rattle.std.proofs.Common.{◌≡◌, ℕ, ◌≤◌, Bool, true, false, cond, eqb, ltb, List, [], ◌∷◌, drop, Result, Ok, Err, ◌⊎◌, inl, inr, refl, sym, ap, subst, ◌∙◌}
 use Rattle.std.specs.Int.{Width, w8, w32, byte_len}
 use Rattle.std.proofs.lemmas.Bool.{lt-ltb}
@@ -21,7 +21,7 @@ use Rattle.giop_messages.proofs.WholeAgain.{status_again}
 use Rattle.giop_messages.proofs.HeaderFault.{long_place}
 use Rattle.giop_messages.proofs.FaultAgain.{fault_as, number_told, number_there, text_told, text_there, contexts_told, target_told}
 
--- a reading is refused with the fault, or passes and the fault is behind it
+-- a reading is refused with the fault, or passes and the fault is after it
 abbrev Tried : {A : Type 0} → Parsed MessageFault A → List Part → MessageFault → Type 0
 Tried {A} r parts e = (r ≡ Err e) ⊎ ((x : A × Cursor) × (r ≡ Ok x) × FailsAmong parts x.1 e)
 
@@ -31,7 +31,7 @@ bound_err r f e h = rw h refl
 bound_ok : {A B : Type 0} (r : Result A MessageFault) (f : A → Result B MessageFault) (x : A) → r ≡ Ok x → (r >>= f) ≡ f x
 bound_ok r f x h = rw h refl
 
--- the fault of a reading and those behind it
+-- the fault of a reading and those after it
 ends_so : {A B : Type 0} (r : Parsed MessageFault A) (f : A × Cursor → Result B MessageFault) (parts : List Part) (e : MessageFault) → Tried r parts e
     → ((x : A × Cursor) → FailsAmong parts x.1 e → f x ≡ Err e) → (r >>= f) ≡ Err e
 ends_so r f parts e (inl h) later = bound_err r f e h

@@ -50,7 +50,7 @@ exception_reply : spelled Big (reply_of 1 2 [] (exception_body Big (record { nam
 unfolding number_bytes
 exception_reply = refl
 
--- MessageError stands without a body
+-- MessageError is without a body
 error_alone : spelled Big error ≡ 71 ∷ 73 ∷ 79 ∷ 80 ∷ 1 ∷ 2 ∷ 0 ∷ 6 ∷ 0 ∷ 0 ∷ 0 ∷ 0 ∷ []
 unfolding number_bytes
 error_alone = refl

@@ -66,13 +66,13 @@ kind_found kind bytes c m le fits e =
 header_len : (order : Order) (flags kind size : ℕ) → length (header order flags kind size) ≡ 12
 header_len order flags kind size = omega (arith, length-append (magic ++ 1 ∷ 2 ∷ flags ∷ kind ∷ []) (number_bytes order w32 size), length-number_bytes order w32 size)
 
--- what stands behind the header
+-- what is after the header
 pub behind_header : (w : Frames.Message) (i : IsHeaded w) → drop 12 w.bytes ≡ i.behind
 behind_header w i =
     let front = header w.order i.flags w.kind (length i.behind) in
     ap (drop 12) i.parts ∙ drop_at front i.behind 12 (header_len w.order i.flags w.kind (length i.behind))
 
--- what stands behind the named fields
+-- what is after the named fields
 pub rest_is : (w : Frames.Message) (i : IsHeaded w) (named rest : List ℕ) → i.behind ≡ named ++ rest → drop (12 + length named) w.bytes ≡ rest
 rest_is w i named rest e =
     let front = header w.order i.flags w.kind (length i.behind) in

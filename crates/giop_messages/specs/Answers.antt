@@ -13,7 +13,7 @@ abbrev pub message_error : CdrError → MessageFault
 message_error (cdr.Refused f) = faults.Cdr f
 message_error cdr.NoMemory = faults.NoMemory
 
--- the fault itself, and None for want of memory
+-- the fault itself, and None when out of memory
 abbrev pub fault_of : MessageFault → Option MessageFault
 fault_of (faults.Cdr f) = Some (faults.Cdr f)
 fault_of (faults.BadTarget place) = Some (faults.BadTarget place)
@@ -24,7 +24,7 @@ fault_of faults.NoMemory = None
 abbrev pub Fails : {Y : Type 0} → MessageFault → Result Y MessageFault → Type 0
 Fails e reading = Cdr.FailsWith (fault_of e) reading
 
--- what a call answers, seen by the view, and the cursor behind it are what the reading gives, unless memory was wanting
+-- what a call answers, seen by the view, and the cursor after it are what the reading gives, unless memory was wanting
 abbrev pub Gives : {X Y : Type 0} → (X → Y) → Result X MessageFault → Cursor → Parsed MessageFault Y → Type 0
 Gives = Cdr.Gives fault_of
 

@@ -5,7 +5,7 @@ use Rattle.giop_messages.specs.declared.message_fault.MessageFault.TheVariants a
 use Rattle.giop_messages.specs.declared.refused.Fault.{Fault}
 use Rattle.giop_messages.specs.declared.refused.Fault.TheVariants.{Message, BadTarget, BadStatus}
 
--- the cause without its place; want of memory is no fault of a message
+-- the cause without its place; out of memory is no fault of a message
 abbrev pub cause_of : MessageFault → Option Fault
 cause_of (faults.Cdr f) = Some (Message f.cause)
 cause_of (faults.BadTarget place) = Some BadTarget

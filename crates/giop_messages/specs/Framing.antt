@@ -12,13 +12,13 @@ use Rattle.giop_messages.specs.MessageReading.{IsMessage}
 abbrev pub StreamsMessages : Type 0
 StreamsMessages = (limit : ℕ) (bytes : List ℕ) → limit ≤ MAX_MESSAGE → All IsMessage (stream limit bytes).messages
 
--- where each message so far can be read, each can behind a feed, whatever it answers
+-- where each message so far can be read, each can after a feed, whatever it answers
 abbrev pub FeedsMessages : Type 0
 FeedsMessages =
     (result : Result (Unit {0}) FeedFault) (f f' : Feed) (whole whole' : List Message) → f'.limit ≤ MAX_MESSAGE
     → Tells result f f' whole whole' → All IsMessage whole → All IsMessage whole'
 
--- and behind a whole list of feeds
+-- and after a whole list of feeds
 abbrev pub ReadsMessages : Type 0
 ReadsMessages =
     (result : Result (Option ℕ) FeedFault) (limit : ℕ) (bytes : List ℕ) (whole whole' : List Message) → limit ≤ MAX_MESSAGE

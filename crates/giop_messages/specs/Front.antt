@@ -1,4 +1,4 @@
--- What a writer holds of a message after want of memory.
+-- What a writer holds of a message once out of memory.
 use Rattle.std.specs.Prelude.{◌≡◌, ℕ, List, ◌++◌}
 
 -- bytes that begin the whole

@@ -1,4 +1,4 @@
--- The order in which the parts of a message stand: CORBA 3.0.3, section 15.4.
+-- The order in which the parts of a message are: CORBA 3.0.3, section 15.4.
 use Rattle.std.specs.Prelude.{ℕ, List, [], ◌∷◌, ◌++◌}
 use Rattle.std.specs.Int.{w8, w16, w32}
 use Rattle.orb_base.specs.declared.order.Order.{Order}
@@ -9,7 +9,7 @@ use Rattle.orb_base.specs.Tagged.{Context, Tagged}
 use Rattle.giop_frames.specs.Headers.{magic}
 use Rattle.giop_messages.specs.Message.{Target, key, profile, addressing, Message, request, reply, cancel, locate, located, close, error}
 
--- the header of 12 bytes: version 1.2, the flags, the kind, and how many bytes stand behind it
+-- the header of 12 bytes: version 1.2, the flags, the kind, and how many bytes are after it
 abbrev pub header : Order → ℕ → ℕ → ℕ → List ℕ
 header order flags kind size = magic ++ 1 ∷ 2 ∷ flags ∷ kind ∷ [] ++ number_bytes order w32 size
 
@@ -17,7 +17,7 @@ header order flags kind size = magic ++ 1 ∷ 2 ∷ flags ∷ kind ∷ [] ++ num
 abbrev pub header_fields : Order → ℕ → ℕ → List Field
 header_fields order kind size = run 1 (magic ++ 1 ∷ 2 ∷ order_byte order ∷ kind ∷ []) ∷ number w32 size ∷ []
 
--- profiles behind their number
+-- profiles after their number
 abbrev pub profiles_fields : List Tagged → List Field
 profiles_fields profiles = list_fields tagged_fields profiles
 
@@ -28,7 +28,7 @@ target_fields (profile t) = number w16 1 ∷ tagged_fields t
 target_fields (addressing index type_id profiles) =
     number w16 2 ∷ number w32 index ∷ string_fields type_id ++ profiles_fields profiles
 
--- the service contexts behind their number
+-- the service contexts after their number
 abbrev pub contexts_fields : List Context → List Field
 contexts_fields contexts = list_fields context_fields contexts
 
@@ -43,7 +43,7 @@ named_fields reserved (located l) = number w32 l.id ∷ number w32 l.status ∷ 
 named_fields reserved close = []
 named_fields reserved error = []
 
--- a body stands at the next multiple of 8, and an empty one nowhere
+-- a body is at the next multiple of 8, and an empty one nowhere
 abbrev pub body_fields : List ℕ → List Field
 body_fields [] = []
 body_fields (byte ∷ bytes) = run 8 (byte ∷ bytes) ∷ []

@@ -7,7 +7,7 @@ use Rattle.cdr_core.specs.Field.{Field, fields_end}
 abbrev pub held : ℕ → ℕ
 held place = min place (2 ^ 64 - 1)
 
--- from the held place before the fields to the held place behind them
+-- from the held place before the fields to the held place after them
 abbrev pub Ends : ℕ → List Field → ℕ → Type 0
 Ends from fields to = (place : ℕ) → from ≡ held place → to ≡ held (fields_end place fields)
 

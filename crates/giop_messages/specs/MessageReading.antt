@@ -18,7 +18,7 @@ use Rattle.giop_messages.specs.declared.message_fault.MessageFault.TheVariants a
 use Rattle.orb_base.specs.Tagged.{Context, Tagged}
 use Rattle.giop_messages.specs.Message.{Target, key, profile, addressing, Request, Reply, Locate, Located, Message, request, reply, cancel, locate, located, close, error}
 
--- one unfragmented message, as a framer gives it: its header says so, and counts what stands behind it
+-- one unfragmented message, as a framer gives it: its header says so, and counts what is after it
 pub record IsMessage (m : Frames.Message) : Type 0 where
   pub long : 12 ≤ length m.bytes
   pub magic : has_magic m.bytes ≡ true
@@ -34,11 +34,11 @@ pub record IsMessage (m : Frames.Message) : Type 0 where
 abbrev pub basic : {A : Type 0} → Reads A → Parsed MessageFault A
 basic = told_as faults.Cdr
 
--- profiles behind their number
+-- profiles after their number
 unfoldable pub profiles_at : Cursor → Parsed MessageFault (List Tagged)
 profiles_at c = basic (list_at (made_at tagged_of) c)
 
--- service contexts behind their number
+-- service contexts after their number
 unfoldable pub contexts_at : Cursor → Parsed MessageFault (List Context)
 contexts_at c = basic (list_at (made_at context_of) c)
 
@@ -62,7 +62,7 @@ addressing_at c = do
   profiles ← profiles_at type_id.1
   Ok (addressing index.0 type_id.0 profiles.0, profiles.1)
 
--- the target of a form that stood at the place
+-- the target of a form that was at the place
 unfoldable pub form_at : ℕ → ℕ → Cursor → Parsed MessageFault Target
 form_at place form c =
     if form == 0 then key_at c else if form == 1 then profile_at c else if form == 2 then addressing_at c else Err (faults.BadTarget place)
@@ -86,7 +86,7 @@ status_at c = do
   status ← basic (number_at w32 c)
   if nat_lt 5 status.0 then Err (faults.BadStatus (status.1.place - 4)) else Ok status
 
--- the body is what stands from the next multiple of 8 on behind the place
+-- the body is what is from the next multiple of 8 on after the place
 abbrev pub body_from : ℕ → List ℕ → List ℕ
 body_from place bytes = drop (pad_len 8 place) (drop place bytes)
 
@@ -158,6 +158,6 @@ kind_at kind bytes c =
     else if is_kind kinds.CloseConnection kind then Ok close
     else Ok error
 
--- what stands behind the header of 12 bytes
+-- what is after the header of 12 bytes
 unfoldable pub message_at : Frames.Message → Result Message MessageFault
 message_at m = kind_at m.kind m.bytes (cursor m.order 12 (drop 12 m.bytes))

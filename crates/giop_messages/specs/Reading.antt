@@ -1,5 +1,5 @@
 -- What whole, unfragmented bytes mean as a message, in either order: CORBA 3.0.3, section 15.4. Pads and reserved octets
--- may have any content, reserved flag bits any value, and bytes behind the named fields of a short kind are ignored.
+-- may have any content, reserved flag bits any value, and bytes after the named fields of a short kind are ignored.
 use Rattle.std.specs.Prelude.{◌≡◌, ◌<◌, ◌+◌, ◌/◌, ◌%◌, ◌^◌, ℕ, List, ◌++◌, length, drop}
 use Rattle.orb_base.specs.declared.order.Order.{Order}
 use Rattle.cdr_core.specs.Alignment.{pad_len}
@@ -8,7 +8,7 @@ use Rattle.giop_messages.specs.Message.{Message, Fits, request, reply, cancel, l
 use Rattle.cdr_core.specs.Encapsulation.{order_byte}
 use Rattle.giop_messages.specs.Layout.{header, named_fields}
 
--- the body is what stands from the next multiple of 8 on, or empty where no byte stands there; `place` is that behind
+-- the body is what is from the next multiple of 8 on, or empty where no byte is there; `place` is that after
 -- the named fields, and `rest` the bytes from there on
 abbrev pub HasBody : Message → ℕ → List ℕ → Type 0
 HasBody (request r) place rest = r.body ≡ drop (pad_len 8 place) rest

@@ -22,13 +22,13 @@ use Rattle.giop_messages.specs.Layout.{target_fields, contexts_fields}
 abbrev pub TellsCdr : (CdrFault → Type 0) → MessageFault → Type 0
 TellsCdr Bad fault = (f : CdrFault) × Bad f × (fault ≡ faults.Cdr f)
 
--- no value of the basic type stands there, and this is why
+-- no value of the basic type is there, and this is why
 abbrev pub FailsBasic : BasicType → Cursor → MessageFault → Type 0
 FailsBasic kind c fault = TellsCdr (Fails c kind) fault
 
 -- ---- targets
 
--- a target's form above 2 stands there
+-- a target's form above 2 is there
 pub record HasBadForm (c : Cursor) (fault : MessageFault) : Type 0 where
   pub form : ℕ
   pub behind : Cursor
@@ -43,13 +43,13 @@ FailsReference c fault =
     ⊎ ((d : Cursor) × (e : Cursor) × Stands (integer w32) c d × Stands string d e
     × TellsCdr (FailsList tagged_fields FitsTagged (FailsIn item) e) fault)
 
--- what stands behind a form fails: a key, a profile, or a reference
+-- what is after a form fails: a key, a profile, or a reference
 abbrev pub FailsBehind : ℕ → Cursor → MessageFault → Type 0
 FailsBehind form c fault =
     ((form ≡ 0) × FailsBasic octet_sequence c fault) ⊎ ((form ≡ 1) × TellsCdr (FailsIn item c) fault)
     ⊎ ((form ≡ 2) × FailsReference c fault)
 
--- no target stands there, and this is why
+-- no target is there, and this is why
 abbrev pub FailsTarget : Cursor → MessageFault → Type 0
 FailsTarget c fault =
     FailsBasic (integer w16) c fault ⊎ HasBadForm c fault
@@ -57,7 +57,7 @@ FailsTarget c fault =
 
 -- ---- headers
 
--- a reply's status above 5 stands there
+-- a reply's status above 5 is there
 pub record HasBadStatus (c : Cursor) (fault : MessageFault) : Type 0 where
   pub status : ℕ
   pub behind : Cursor
@@ -70,21 +70,21 @@ pub data Part : Type 0 where
   basic : BasicType → Part
   target status contexts : Part
 
--- such a part stands between two cursors
+-- such a part is between two cursors
 abbrev pub StandsAs : Part → Cursor → Cursor → Type 0
 StandsAs (basic kind) c d = Stands kind c d
 StandsAs target c d = (t : Target) × FitsTarget t × Spans c d (target_fields t)
 StandsAs status c d = (n : ℕ) × (n ≤ 5) × Spans c d (number w32 n ∷ [])
 StandsAs contexts c d = (list : List Context) × FitContexts list × Spans c d (contexts_fields list)
 
--- no such part stands there, and this is why
+-- no such part is there, and this is why
 abbrev pub FailsAs : Part → Cursor → MessageFault → Type 0
 FailsAs (basic kind) c fault = FailsBasic kind c fault
 FailsAs target c fault = FailsTarget c fault
 FailsAs status c fault = FailsBasic (integer w32) c fault ⊎ HasBadStatus c fault
 FailsAs contexts c fault = TellsCdr (FailsList context_fields FitsContext (FailsIn item) c) fault
 
--- parts stand there one behind the other, up to one that fails
+-- parts are there one after the other, up to one that fails
 abbrev pub FailsAmong : List Part → Cursor → MessageFault → Type 0
 FailsAmong [] c fault = ⊥
 FailsAmong (part ∷ parts) c fault = FailsAs part c fault ⊎ ((d : Cursor) × StandsAs part c d × FailsAmong parts d fault)
@@ -101,7 +101,7 @@ long = basic (integer w32)
 abbrev pub request_parts : List Part
 request_parts = long ∷ octet ∷ octet ∷ octet ∷ octet ∷ target ∷ basic string ∷ contexts ∷ []
 
--- the parts of the header of each kind, behind the first 12 bytes
+-- the parts of the header of each kind, after the first 12 bytes
 abbrev pub parts_of : ℕ → List Part
 parts_of kind =
     if is_kind kinds.Request kind then request_parts

@@ -1,4 +1,4 @@
--- Messages that are written one behind the other are read as those messages. The limit is own profile.
+-- Messages that are written one after the other are read as those messages. The limit is own profile.
 use Rattle.std.specs.Prelude.{◌≡◌, ℕ, ◌+◌, ◌≤◌, true, List, [], ◌∷◌, None, Ok, length}
 use Rattle.std.specs.List.{flat_map}
 use Rattle.orb_base.specs.declared.order.Order.{Order}
@@ -11,7 +11,7 @@ use Rattle.giop_messages.specs.Message.{Message, Fits, kind_of}
 use Rattle.giop_messages.specs.Spelling.{spelled}
 use Rattle.giop_messages.specs.MessageReading.{message_at}
 
--- messages, each as it is spelled in its order, one behind the other
+-- messages, each as it is spelled in its order, one after the other
 abbrev pub written_bytes : List (Order × Message) → List ℕ
 written_bytes messages = flat_map (λ m. spelled m.0 m.1) messages
 
@@ -19,7 +19,7 @@ written_bytes messages = flat_map (λ m. spelled m.0 m.1) messages
 abbrev pub whole_at : ℕ → Order → Message → Frames.Message
 whole_at at order message = record { at = at; order = order; kind = kind_of message; bytes = spelled order message }
 
--- those of messages one behind the other, from this offset on: each stands where it begins
+-- those of messages one after the other, from this offset on: each is where it begins
 abbrev pub wholes_from : ℕ → List (Order × Message) → List Frames.Message
 wholes_from at [] = []
 wholes_from at (m ∷ later) = whole_at at m.0 m.1 ∷ wholes_from (at + length (spelled m.0 m.1)) later
@@ -29,7 +29,7 @@ abbrev pub AreWritten : ℕ → List (Order × Message) → Type 0
 AreWritten limit [] = Unit {0}
 AreWritten limit (m ∷ later) = Fits m.1 × (length (spelled m.0 m.1) ≤ limit) × AreWritten limit later
 
--- the stream of messages written one behind the other is those messages and nothing else: no rest and no fault
+-- the stream of messages written one after the other is those messages and nothing else: no rest and no fault
 abbrev pub StreamsWritten : Type 0
 StreamsWritten =
     (limit : ℕ) (messages : List (Order × Message)) → limit ≤ MAX_MESSAGE → AreWritten limit messages

@@ -180,9 +180,9 @@ pub fn read_message(alloc: Global, whole: &Whole) -> Result<Message, MessageFaul
     ensures found { IfOk result (λ m. Reads (message_of m) whole.now.bytes) }
     // What the bytes mean is read, unless memory runs out.
     ensures only { (m : Spec.Message) → Reads m whole.now.bytes → Answers message_of result (Ok m) }
-    // A fault that is told is the header's first fault.
+    // A fault that is given is the header's first fault.
     ensures fails { IfErr result (λ fault. fault ≢ NoMemory → Refuses whole.now fault) }
-    // The header's first fault is told, unless memory runs out.
+    // The header's first fault is given, unless memory runs out.
     ensures told { (fault : Refusal) → Refuses whole.now fault → Answers message_of result (Err fault) }
 {
     copied_whole(alloc, whole)

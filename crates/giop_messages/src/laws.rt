@@ -27,7 +27,7 @@ pub fn framed_is_message()
     ensures whole { ReadsMessages }
 {}
 
-/// Messages that are written one behind the other are what a stream of those bytes holds, and nothing else, under a limit of at
+/// Messages that are written one after the other are what a stream of those bytes holds, and nothing else, under a limit of at
 /// most 262,144 bytes; each is read as it was written, and can be cut into pieces where its kind allows it.
 pub fn written_is_read()
     ensures stream { StreamsWritten }

@@ -18,7 +18,7 @@ use crate::request::Request;
 use crate::target::Target;
 use orb_base::{Context, Tagged};
 
-/// The place behind a field of this alignment and length.
+/// The place after a field of this alignment and length.
 fn behind(place: usize, alignment: usize, len: usize) -> usize
     requires some { 0 < alignment }
     requires few { alignment ≤ 8 }
@@ -141,7 +141,7 @@ fn behind_key(place: usize, len: usize) -> usize
 }
 
 /// The length in bytes of a request for the object of a key, as it is spelled, or usize::MAX where that is greater: by the
-/// key, the operation's name, how many octets the data of each context have, and how many the body has. A pad stands before
+/// key, the operation's name, how many octets the data of each context have, and how many the body has. A pad is before
 /// a body that isn't empty. Takes no memory; one pass over the contexts. CORBA 3.0.3, section 15.4.2.
 pub fn request_len(key: &[u8], operation: &[u8], contexts: &[usize], len: usize) -> usize
     ensures { (order : Order) (id flags : ℕ) (told : List Context) (body : List ℕ) → map data_len told ≡ contexts.now → length body ≡ len

@@ -29,7 +29,7 @@ pub enum MessageFault {
 }
 
 impl MessageFault {
-    /// The cause without its place, as a fault of the connection that the message came over. None for want of memory.
+    /// The cause without its place, as a fault of the connection that the message came over. None when out of memory.
     pub fn cause(self) -> Option<Fault>
         ensures { result ≡ cause_of self }
     {

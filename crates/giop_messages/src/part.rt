@@ -1,4 +1,4 @@
-//! The parts of messages, one behind the other.
+//! The parts of messages, one after the other.
 ghost use Rattle.std.specs.Prelude.{◌<◌, ◌^◌};
 ghost use Rattle.cdr_core.specs.Field.{fields_end};
 ghost use Rattle.cdr_core.specs.Lists.{tagged_fields};
@@ -19,7 +19,7 @@ pub fn put_tagged(into: &mut Writer, tagged: &Tagged) -> Result<(), NoMemory>
     into.put_item(tagged.tag, tagged.bytes.as_slice())
 }
 
-/// Puts profiles behind their number.
+/// Puts profiles after their number.
 fn put_profiles(into: &mut Writer, profiles: &[Tagged]) -> Result<(), NoMemory>
     requires { fields_end into.old.place (profiles_fields profiles.now) < 2 ^ 32 }
     ensures { Puts result into.old into.new (profiles_fields profiles.now) }
@@ -27,7 +27,7 @@ fn put_profiles(into: &mut Writer, profiles: &[Tagged]) -> Result<(), NoMemory>
     put_list(into, profiles)
 }
 
-/// Puts service contexts behind their number.
+/// Puts service contexts after their number.
 pub fn put_contexts(into: &mut Writer, contexts: &[Context]) -> Result<(), NoMemory>
     requires { fields_end into.old.place (contexts_fields contexts.now) < 2 ^ 32 }
     ensures { Puts result into.old into.new (contexts_fields contexts.now) }

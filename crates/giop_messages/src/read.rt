@@ -170,9 +170,9 @@ pub fn read_parts<'a>(whole: &'a Whole) -> Result<Parts<'a>, MessageFault>
     ensures found { IfOk result (λ parts. Reads (parts_message parts) whole.now.bytes) }
     // What the bytes mean is read.
     ensures only { (m : Spec.Message) → Reads m whole.now.bytes → Means parts_message result (Ok m) }
-    // A fault that is told is the header's first fault.
+    // A fault that is given is the header's first fault.
     ensures fails { IfErr result (λ fault. Refuses whole.now fault) }
-    // The header's first fault is told.
+    // The header's first fault is given.
     ensures told { (fault : Refusal) → Refuses whole.now fault → Means parts_message result (Err fault) }
     // No text has a NUL, and each reader is at the count of a list that has a reading.
     ensures sound { IfOk result AreSound }

@@ -53,7 +53,7 @@ pub fn body_in(bytes: &[u8], place: usize) -> &[u8]
     behind(behind(bytes, place), pad)
 }
 
-/// The bytes behind so many.
+/// The bytes after so many.
 fn behind(bytes: &[u8], len: usize) -> &[u8]
     ensures { result.now ≡ drop len bytes.now }
 {

@@ -37,7 +37,7 @@ fn flag(order: Order) -> u8
     }
 }
 
-/// The first eight octets of a header, in front of the size: the magic number, GIOP 1.2, the byte order in bit 0 of the
+/// The first eight octets of a header, before the size: the magic number, GIOP 1.2, the byte order in bit 0 of the
 /// flags, and the number of the message's kind (CORBA 3.0.3, section 15.4.1). Takes no memory.
 pub fn header_start(order: Order, kind: u8) -> [u8; 8]
     ensures { result ≡ magic ++ 1 ∷ 2 ∷ order_byte order ∷ kind ∷ [] }
@@ -86,7 +86,7 @@ fn put_request_head(into: &mut Writer, id: u32, flags: u8) -> Result<(), NoMemor
     into.put_run(1, &[0, 0, 0])
 }
 
-/// Puts a request behind its header.
+/// Puts a request after its header.
 fn put_request(into: &mut Writer, request: &Request) -> Result<(), NoMemory>
     requires { fields_end into.old.place (all_fields (Spec.request request.now)) < 2 ^ 32 }
     ensures { Puts result into.old into.new (all_fields (Spec.request request.now)) }
@@ -98,7 +98,7 @@ fn put_request(into: &mut Writer, request: &Request) -> Result<(), NoMemory>
     put_body(into, request.body.as_slice())
 }
 
-/// Puts the parts of a reply behind its header.
+/// Puts the parts of a reply after its header.
 fn put_reply_parts(
     into: &mut Writer,
     id: u32,
@@ -115,7 +115,7 @@ fn put_reply_parts(
     put_body(into, body)
 }
 
-/// Puts a reply behind its header.
+/// Puts a reply after its header.
 fn put_reply(into: &mut Writer, reply: &Reply) -> Result<(), NoMemory>
     requires { fields_end into.old.place (all_fields (Spec.reply reply.now)) < 2 ^ 32 }
     ensures { Puts result into.old into.new (all_fields (Spec.reply reply.now)) }
@@ -129,7 +129,7 @@ fn put_reply(into: &mut Writer, reply: &Reply) -> Result<(), NoMemory>
     )
 }
 
-/// Puts a question behind its header.
+/// Puts a question after its header.
 fn put_locate(into: &mut Writer, locate: &Locate) -> Result<(), NoMemory>
     requires { fields_end into.old.place (all_fields (Spec.locate locate.now)) < 2 ^ 32 }
     ensures { Puts result into.old into.new (all_fields (Spec.locate locate.now)) }
@@ -138,7 +138,7 @@ fn put_locate(into: &mut Writer, locate: &Locate) -> Result<(), NoMemory>
     put_target(into, &locate.target)
 }
 
-/// Puts an answer behind its header.
+/// Puts an answer after its header.
 fn put_located(into: &mut Writer, located: Located) -> Result<(), NoMemory>
     ensures { Puts result into.old into.new (number w32 located.id ∷ number w32 located.status ∷ []) }
 {
@@ -146,7 +146,7 @@ fn put_located(into: &mut Writer, located: Located) -> Result<(), NoMemory>
     into.put_u32(located.status)
 }
 
-/// Puts a message behind its header.
+/// Puts a message after its header.
 fn put_fields(into: &mut Writer, message: &Message) -> Result<(), NoMemory>
     requires { fields_end into.old.place (all_fields (message_of message.now)) < 2 ^ 32 }
     ensures { Puts result into.old into.new (all_fields (message_of message.now)) }
@@ -163,7 +163,7 @@ fn put_fields(into: &mut Writer, message: &Message) -> Result<(), NoMemory>
 }
 
 /// Writes a message as it is spelled, in this order, into an empty writer at place 0. Pads, the reserved
-/// octets and all flag bits but that of the order are 0. After want of memory the writer holds a front
+/// octets and all flag bits but that of the order are 0. Once out of memory the writer holds a prefix
 /// of it. What it wrote is read as that message. Memory is asked for once, and work grows with the message's length.
 /// CORBA 3.0.3, section 15.4.
 pub fn write_message(order: Order, message: &Message, into: &mut Writer) -> Result<(), NoMemory>

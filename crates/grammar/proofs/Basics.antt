@@ -1,4 +1,4 @@
--- Choices, results and what stands in front.
+-- Choices, results and what comes before.
 use Rattle.std.proofs.Common.{◌≡◌, ◌⊎◌, Bool, true, false, cond, not, List, [], ◌∷◌, ◌++◌, Result, Ok, Err, refl, sym, ap, subst, ◌∙◌, append_assoc, inl, inr}
 use Rattle.std.specs.Prelude.{◌||◌, ◌&&◌}
 use Rattle.grammar.specs.Language.{Placed, Language}
@@ -36,7 +36,7 @@ tokens_append [] y = refl
 tokens_append (took l t ∷ ms) y = ap (λ z. t ∷ z) (tokens_append ms y)
 tokens_append (did l ∷ ms) y = tokens_append ms y
 
--- the stream behind the first of two
+-- the stream after the first of two
 abbrev pub before : {K L : Type 0} → List (Mark K L) → Stream K → Stream K
 before ms t = stream (tokens_of ms ++ t.tokens) t.end
 

@@ -16,7 +16,7 @@ not_both g p such r kind n h = false_unless (begins g r kind) (λ b. let e = fir
 not_next : (g : Language) → IsPlain g → (such : g.Kind → Bool) (r : RuleOf g) (kind : g.Kind) → not (some_next g such r) ≡ true → such kind ≡ true → goes_on g r kind ≡ false
 not_next g p such r kind n h = false_unless (goes_on g r kind) (λ b. let e = next_has g p.same_is such r kind b h in let f = not-true (some_next g such r) n in absurd cc)
 
--- a rule that isn't empty has a first token, which stands in front
+-- a rule that isn't empty has a first token, which comes before
 starts : (g : Language) (r : RuleOf g) (ts zs : List (Placed g.Kind)) (end : Placed g.Kind) → Opens g r ts → may_be_empty g r ≡ false → begins g r (first_or (ts ++ zs) end).kind ≡ true
 starts g r [] zs end o n = absurd cc
 starts g r (t ∷ ts) zs end o n = o
@@ -45,7 +45,7 @@ Complete g read spelled more = (ms : List (MarkOf g)) → spelled ms → (b c : 
 abbrev done : {A E : Type 0} → A → Result A E
 done x = Ok x
 
--- a reading, and what is read behind it
+-- a reading, and what is read after it
 then_ok : {A E : Type 0} (r : Result A E) (f : A → Result A E) (x y : A) → r ≡ Ok x → f x ≡ Ok y → (r >>= f) ≡ Ok y
 then_ok r f x y e h = rw e h
 

@@ -31,7 +31,7 @@ abbrev heads : {X : Type 0} → List X → X → X × Bool
 heads [] end = (end, true)
 heads (t ∷ ts) end = (t, false)
 
--- the same token stands in front of both, or behind all
+-- the same token is before both, or after all
 abbrev pub Alike : {K : Type 0} → Stream K → Stream K → Type 0
 Alike s t = heads s.tokens s.end ≡ heads t.tokens t.end
 
@@ -53,7 +53,7 @@ heads_append : {X : Type 0} (ts xs ys : List X) (d e : X) → heads xs d ≡ hea
 heads_append [] xs ys d e h = h
 heads_append (t ∷ ts) xs ys d e h = refl
 
--- what stands behind the same tokens is alike in front of them
+-- what is after the same tokens is alike before them
 alike_before : {K L : Type 0} (ms : List (Mark K L)) (s t z u : Stream K) → s ≡ before ms t → z ≡ before ms u → Alike t u → Alike s z
 alike_before ms s t z u p q a =
     ap (λ (x : Stream _). heads x.tokens x.end) p ∙ heads_append (tokens_of ms) t.tokens u.tokens t.end u.end a ∙ sym (ap (λ (x : Stream _). heads x.tokens x.end) q)

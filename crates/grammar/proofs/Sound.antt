@@ -6,7 +6,7 @@ use Rattle.grammar.specs.Reading.{Stream, stream, State, Reads, Readers, ◌>>=�
 use Rattle.grammar.specs.Grammar.{Mark, took, did, MarkOf, Parts, Spelled, SpelledInner, Goes, acts_then, acts}
 use Rattle.grammar.proofs.Basics.{bind_ok, ok_is, chosen, Goes-then, acts-then, acts_one}
 
--- from s to t stand marks that are spelled so, and it was done so along them
+-- from s to t are marks that are spelled so, and it was done so along them
 pub record Read (g : Language) (s t : State g) (spelled : List (MarkOf g) → Type 0) : Type 0 where
   pub marks : List (MarkOf g)
   pub is : spelled marks

@@ -11,7 +11,7 @@ Acts (Ok x) new act = act ≡ Ok new
 Acts (Err (Refused fault)) new act = act ≡ Err fault
 Acts (Err NoMemory) new act = Unit {0}
 
--- the refusal is that of this reading; want of memory tells nothing
+-- the refusal is that of this reading; out of memory says nothing
 abbrev pub Refuses : {S F : Type 0} → ReadError F → Result S F → Type 0
 Refuses (Refused f) read = read ≡ Err f
 Refuses NoMemory read = Unit {0}

@@ -22,7 +22,7 @@ abbrev pub Parts : (g : Language) → (List (MarkOf g) → Type 0) → ℕ → L
 Parts g part zero ms = ms ≡ []
 Parts g part (suc n) ms = (x : List (MarkOf g)) × (y : List (MarkOf g)) × part x × Parts g part n y × (ms ≡ x ++ y)
 
--- the marks are those of a text of the rule; what stands in brackets is said by `inner`
+-- the marks are those of a text of the rule; what is in brackets is said by `inner`
 abbrev pub Spelled : (g : Language) → (g.Inner → List (MarkOf g) → Type 0) → RuleOf g → List (MarkOf g) → Type 0
 Spelled g inner (one k l) ms = (t : Placed g.Kind) × (g.same t.kind k ≡ true) × (ms ≡ took l t ∷ [])
 Spelled g inner (does l) ms = ms ≡ did l ∷ []
@@ -50,7 +50,7 @@ tokens_of [] = []
 tokens_of (took l t ∷ ms) = t ∷ tokens_of ms
 tokens_of (did l ∷ ms) = tokens_of ms
 
--- the marks' tokens stand in front of s, and t is behind them
+-- the marks' tokens are before s, and t is after them
 abbrev pub Goes : (g : Language) → List (MarkOf g) → Stream g.Kind → Stream g.Kind → Type 0
 Goes g ms s t = s ≡ stream (tokens_of ms ++ t.tokens) t.end
 

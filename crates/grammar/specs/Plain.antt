@@ -4,7 +4,7 @@ use Rattle.grammar.specs.Rules.{Rule, one, does, ◌then◌, ◌or◌, maybe, ma
 use Rattle.grammar.specs.Language.{Language, RuleOf}
 use Rattle.grammar.specs.Reading.{may_be_empty, begins}
 
--- whether a token of this kind may go on behind what the rule spells
+-- whether a token of this kind may go on after what the rule spells
 abbrev pub goes_on : (g : Language) → RuleOf g → g.Kind → Bool
 goes_on g (one k l) kind = false
 goes_on g (does l) kind = false
@@ -26,7 +26,7 @@ some_first g such (many a) = some_first g such a
 some_first g such (chained a o l) = (may_be_empty g a && ((may_be_empty g o && ((may_be_empty g a && false) || some_first g such a)) || some_first g such o)) || some_first g such a
 some_first g such (nested k o r c l) = such k
 
--- whether some kind that goes on behind the rule is such
+-- whether some kind that goes on after the rule is such
 abbrev pub some_next : (g : Language) → (g.Kind → Bool) → RuleOf g → Bool
 some_next g such (one k l) = false
 some_next g such (does l) = false
@@ -48,7 +48,7 @@ is_plain g (many a) = not (may_be_empty g a) && not (some_next g (begins g a) a)
 is_plain g (chained a o l) = not (some_next g (λ kind. (may_be_empty g o && ((may_be_empty g a && false) || begins g a kind)) || begins g o kind) a) && is_plain g a && (not (may_be_empty g o && (may_be_empty g a && true)) && not (((may_be_empty g a && true) && some_next g (λ kind. (may_be_empty g o && ((may_be_empty g a && false) || begins g a kind)) || begins g o kind) o) || ((true && some_next g (λ kind. (may_be_empty g o && ((may_be_empty g a && false) || begins g a kind)) || begins g o kind) a) || false)) && (not (some_next g (λ kind. (may_be_empty g a && false) || begins g a kind) o) && is_plain g o && (not (some_next g (λ kind. false) a) && is_plain g a && true)))
 is_plain g (nested k o r c l) = not (goes_on g (g.inside r) c)
 
--- kinds that are told the same are one kind, and the rules in brackets are plain
+-- kinds that are given the same are one kind, and the rules in brackets are plain
 pub record IsPlain (g : Language) : Type 0 where
   pub same_is : (a b : g.Kind) → g.same a b ≡ true → a ≡ b
   pub inside_is : (r : g.Inner) → is_plain g (g.inside r) ≡ true

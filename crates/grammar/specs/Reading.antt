@@ -95,6 +95,6 @@ read_rule g depth = by_rule g (read_inner g depth)
 unfoldable pub ended : (g : Language) → g.Kind → State g → Reads g
 ended g end s = if is_empty s.1.tokens && g.same (front s.1).kind end then Ok s else stop g s
 
--- a text is the rule and nothing behind it
+-- a text is the rule and nothing after it
 unfoldable pub read_whole : (g : Language) → ℕ → g.Kind → RuleOf g → State g → Reads g
 read_whole g depth end r s = read_rule g depth r s >>= ended g end

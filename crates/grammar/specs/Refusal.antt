@@ -14,7 +14,7 @@ abbrev pub NoText : (g : Language) → (List (MarkOf g) → Type 0) → g.Kind �
 NoText g sentence end before [] last = g.same last.kind end ≡ true → (y : List (MarkOf g)) → sentence y → tokens_of y ≡ before → ⊥
 NoText g sentence end before (u ∷ us) last = (y : List (MarkOf g)) (z : List (Placed g.Kind)) → sentence y → tokens_of y ≡ before ++ u ∷ z → ⊥
 
--- no text of the rule begins with the tokens of these marks and the next one behind them
+-- no text of the rule begins with the tokens of these marks and the next one after them
 abbrev pub NoneHere : (g : Language) → ℕ → g.Kind → RuleOf g → List (MarkOf g) → Stream g.Kind → Type 0
 NoneHere g depth end r ms t = NoText g (Sentence g depth r) end (tokens_of ms) t.tokens t.end
 

@@ -26,10 +26,10 @@ pub trait Builder {
     /// What is done at a token, or between two.
     type Label: Copy + 'static;
 
-    /// The name of a rule that stands in brackets.
+    /// The name of a rule that is in brackets.
     type Inner: Copy + 'static;
 
-    /// What a token at fault is told as.
+    /// What a token at fault is given as.
     type Fault: Drop;
 
     /// What is built.

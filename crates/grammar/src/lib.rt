@@ -2,7 +2,7 @@
 //!
 //! A grammar is a set of rules over kinds of tokens; each token of a rule, and some places between tokens, carry a
 //! label that says what is done there. What a rule spells is said without reading; reading goes from left to right,
-//! and an alternative is chosen by its first token. The laws tie the two, once for all grammars whose choices are told
+//! and an alternative is chosen by its first token. The laws tie the two, once for all grammars whose choices are given
 //! apart by one token: what is read is a text of the grammar, each text of it is read, and any other one is refused at
 //! its first token at fault.
 #![tactic(auto)]

@@ -20,7 +20,7 @@ fn stop<B: Builder>(tokens: &Tokens<'_>, builder: &B) -> Result<(), ReadError<B:
     Err(ReadError::Refused(B::stop(tokens.front())))
 }
 
-/// Does what a label says at the next token, and goes behind it.
+/// Does what a label says at the next token, and goes after it.
 fn acted<B: Builder>(
     tokens: &mut Tokens<'_>,
     builder: &mut B,
@@ -258,7 +258,7 @@ fn read_chained<B: Builder>(
     read_turns(a, o, label, tokens, builder, depth)
 }
 
-/// Reads by a rule from the front of the tokens, where so many brackets may still open, and builds along it; goes behind what was
+/// Reads by a rule from the front of the tokens, where so many brackets may still open, and builds along it; goes after what was
 /// read. Each token is looked at a constant number of times for each part of a rule that may begin there, and the calls
 /// nest as deep as the rules and the open brackets do.
 #[cycle(reading)]
@@ -298,7 +298,7 @@ fn ended<B: Builder>(
     }
 }
 
-/// Reads a whole text by a rule: nothing may stand behind it but the end, which is of this kind.
+/// Reads a whole text by a rule: nothing may be after it but the end, which is of this kind.
 #[tactic(auto, unfolding(crate::specs::Reading::read_whole))]
 pub fn read_whole<B: Builder>(
     rule: &Rule<'_, B::Label, B::Inner>,

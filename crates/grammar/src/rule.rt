@@ -4,7 +4,7 @@ use idl_tokens::Kind;
 /// The brackets that may be open at once in a text of IDL or of a script.
 pub const MAX_OPEN: u32 = 64;
 
-/// Rules one behind the other.
+/// Rules one after the other.
 #[macro_export]
 macro_rules! seq {
     ($a:expr) => { $a };
@@ -50,7 +50,7 @@ macro_rules! listed {
     };
 }
 
-/// A rule of a grammar, over labels for what is done and names of the rules that stand in brackets. Rules refer to
+/// A rule of a grammar, over labels for what is done and names of the rules that are in brackets. Rules refer to
 /// their parts, so that a grammar is a set of constants.
 #[derive(Drop)]
 pub enum Rule<'a, L, I> {
@@ -66,7 +66,7 @@ pub enum Rule<'a, L, I> {
     Maybe(&'a Rule<'a, L, I>),
     /// Any number of times.
     Many(&'a Rule<'a, L, I>),
-    /// The first, and then any number of times the second, the first again, and what is done behind it.
+    /// The first, and then any number of times the second, the first again, and what is done after it.
     Chained(&'a Rule<'a, L, I>, &'a Rule<'a, L, I>, L),
     /// A rule between two brackets, each with what is done there.
     Nested(Kind, L, I, Kind, L),

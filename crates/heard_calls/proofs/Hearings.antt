@@ -1,4 +1,4 @@
--- How what was heard so far stands to the whole.
+-- How what was heard so far is to the whole.
 use Rattle.std.proofs.Common.{◌≡◌, ℕ, ◌+◌, List, [], ◌∷◌, ◌++◌, length, Option, Some, None, refl, sym, ap, ◌∙◌, subst, arith, append_assoc, append-nil, length-append, drop, get_or, ◌≤◌, ◌<◌}
 use Rattle.std.specs.Prelude.{option_to_list}
 use Rattle.std.proofs.lemmas.List.{drop_more}
@@ -14,7 +14,7 @@ use Rattle.heard_calls.specs.declared.ending.Ending.TheVariants.{Ended, Broken}
 use Rattle.heard_calls.specs.declared.means.Means.{Means}
 use Rattle.heard_calls.specs.declared.means.Means.TheVariants.{Goes, Ends, Breaks}
 
--- behind what was heard so far, what the rest means is what all mean; or the reading has ended, and all mean this
+-- after what was heard so far, what the rest means is what all mean; or the reading has ended, and all mean this
 abbrev StandsBy : Option Ending → SetupData → ConnId → List Frames.Message → List Frames.Message → Option Span → ℕ → Told → Type 0
 StandsBy None setup conn all rest band serial told =
     (later : Told) → Hears setup conn rest told.band (serial + length told.calls) later → Hears setup conn all band serial (in_front told.calls later)
@@ -58,7 +58,7 @@ stands_on setup conn all n m band serial old new next takes h =
     on_by setup conn all m (drop (n + 1) all) band serial old new old.ending refl takes
     (subst (λ (ms : List Frames.Message). StandsBy old.ending setup conn all ms band serial old) next h)
 
--- the next message stands in front of those behind it
+-- the next message is before those after it
 pub next_left : (ms : List Frames.Message) (n : ℕ) (m : Frames.Message) → n < length ms → m ≡ get_or ms n m → drop n ms ≡ m ∷ drop (n + 1) ms
 next_left ms n m lt is = drop_more ms n m lt ∙ ap (λ (x : Frames.Message). x ∷ drop (n + 1) ms) (sym is)
 

@@ -64,7 +64,7 @@ hears_one setup conn (m ∷ ms) band serial a b h k =
 
 -- ---- further messages
 
--- what is heard behind the calls of a message, behind those of the later ones
+-- what is heard after the calls of a message, after those of the later ones
 front_goes : (o : Option Ending) (setup : SetupData) (conn : ConnId) (new : List Frames.Message) (serial : ℕ) (calls : List LaneCall) (told all : Told)
     → GoesOn o setup conn new (serial + length calls) told all → GoesOn o setup conn new serial (in_front calls told) (in_front calls all)
 front_goes None setup conn new serial calls told all h =

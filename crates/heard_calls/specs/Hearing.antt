@@ -11,7 +11,7 @@ use Rattle.heard_calls.specs.declared.ending.Ending.TheVariants.{Ended, Broken}
 use Rattle.heard_calls.specs.declared.means.Means.{Means}
 use Rattle.heard_calls.specs.declared.means.Means.TheVariants.{Goes, Ends, Breaks}
 
--- what messages mean: their calls, the band that is bound behind them, and how one of them ended the reading, if one did
+-- what messages mean: their calls, the band that is bound after them, and how one of them ended the reading, if one did
 pub record Told : Type 0 where
   pub calls : List LaneCall
   pub band : Option Span
@@ -21,7 +21,7 @@ pub record Told : Type 0 where
 abbrev pub nothing : Option Span → Option Ending → Told
 nothing band ending = record { calls = []; band = band; ending = ending }
 
--- the same with calls in front
+-- the same with calls before
 abbrev pub in_front : List LaneCall → Told → Told
 in_front calls told = record { calls = calls ++ told.calls; band = told.band; ending = told.ending }
 
@@ -33,17 +33,17 @@ HearsOn HearsLater band serial at Ends told = told ≡ nothing band (Some Ended)
 HearsOn HearsLater band serial at (Breaks fault) told = told ≡ nothing band (Some (Broken at fault))
 
 -- the messages mean this, where `band` is bound before them and so many calls were made: each means what it means by the band and
--- the number of calls then, and none behind one that ends the reading is looked at
+-- the number of calls then, and none after one that ends the reading is looked at
 abbrev pub Hears : SetupData → ConnId → List Frames.Message → Option Span → ℕ → Told → Type 0
 Hears setup conn [] band serial told = told ≡ nothing band None
 Hears setup conn (m ∷ ms) band serial told =
     (means : Means) × IsMeant setup conn band serial m means × HearsOn (Hears setup conn ms) band serial m.at means told
 
--- what is heard behind a call more, if there is one, where this band is bound then
+-- what is heard after a call more, if there is one, where this band is bound then
 abbrev pub followed : Told → Option LaneCall → Option Span → Told
 followed told call band = record { calls = told.calls ++ option_to_list call; band = band; ending = told.ending }
 
--- what is heard behind a message more of this meaning
+-- what is heard after a message more of this meaning
 abbrev pub behind : Told → ℕ → Means → Told
 behind told at (Goes bound call) = followed told call bound
 behind told at Ends = record told { ending = Some Ended }

@@ -31,7 +31,7 @@ pub record HearsInput (setup : SetupData) (conn : ConnId) (bytes : List ℕ) (ca
   pub calls_are : calls ≡ told.calls
   pub ends : ending ≡ ending_of told.ending (stream MAX_MESSAGE bytes).bad (stream MAX_MESSAGE bytes).rest
 
--- the fault of a feed; want of memory is none
+-- the fault of a feed; out of memory is none
 abbrev pub fault_in : {A : Type 0} → Result A FeedFault → Option (Option FrameFault)
 fault_in (Ok x) = Some None
 fault_in (Err (feed.Frame fault)) = Some (Some fault)

@@ -32,12 +32,12 @@ is_here setup (addressing _ _ _) = false
 abbrev pub where_is : SetupData → ConnId → Order → Locate → LaneCall
 where_is setup conn order l = Post (record { conn = conn; order = order; id = l.id; what = what.Located (is_here setup l.target) })
 
--- the band that is bound behind a request that isn't refused
+-- the band that is bound after a request that isn't refused
 abbrev pub bound_by : Verdict → Option Span → Option Span
 bound_by (Binds bound) band = Some bound
 bound_by (Runs place) band = band
 
--- the band that is bound behind a request of a verdict
+-- the band that is bound after a request of a verdict
 abbrev pub band_behind : Result Verdict Refusal → Option Span → Option Span
 band_behind (Ok verdict) band = bound_by verdict band
 band_behind (Err refusal) band = band

@@ -5,7 +5,7 @@ ghost use Rattle.heard_calls.specs.Input as Spec;
 use giop_frames::FrameFault;
 use giop_messages::Fault;
 
-/// How the reading of a connection ended. What stands behind a message that ends it isn't looked at.
+/// How the reading of a connection ended. What is after a message that ends it isn't looked at.
 #[derive(Clone, Copy, Debug, PartialEq, Eq)]
 pub enum Ending {
     /// By the other side's CloseConnection or MessageError, or at the end of the input where nothing is unfinished.

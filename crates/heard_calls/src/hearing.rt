@@ -19,7 +19,7 @@ use std::marker::Model;
 pub struct Heard {
     /// Their calls, in order.
     pub calls: List<LaneCall>,
-    /// The band that is bound behind them, if one is.
+    /// The band that is bound after them, if one is.
     pub band: Option<Band>,
     /// How one of them ended the reading, if one did.
     pub ending: Option<Ending>,
@@ -45,7 +45,7 @@ impl Heard {
         }
     }
 
-    /// Puts a call behind the others, if there is one, where this band is bound behind it.
+    /// Puts a call after the others, if there is one, where this band is bound after it.
     fn add(&mut self, call: Option<LaneCall>, band: Option<Band>) -> Result<(), NoMemory>
         ensures { IfOk result (λ u. self.new ≡ Spec.followed self.old call band) }
     {

@@ -7,7 +7,7 @@ pub fn messages_mean_one_thing()
     ensures { HearsOneWay }
 {}
 
-/// Later messages add calls behind those of the earlier ones, and nothing behind one that ended the reading.
+/// Later messages add calls after those of the earlier ones, and nothing after one that ended the reading.
 #[tactic(auto, using(crate::proofs::OneMeaning::goes_on))]
 pub fn hearing_goes_on()
     ensures { HearingGoesOn }

@@ -36,7 +36,7 @@ fn located(setup: &Setup, conn: ConnId, order: Order, asked: &Locate) -> LaneCal
     })
 }
 
-/// The band that is bound behind a request that isn't refused.
+/// The band that is bound after a request that isn't refused.
 fn bound_by(verdict: Verdict, band: Option<Band>) -> Option<Band>
     ensures { result ≡ Spec.bound_by verdict band }
 {

@@ -90,6 +90,6 @@ line call answer = call_text call ++ reply_text answer ++ codes "\n"
 abbrev pub entry_line : One → List ℕ
 entry_line entry = line entry.call entry.reply
 
--- one line behind the other
+-- one line after the other
 abbrev pub history_text : History → List ℕ
 history_text history = flat_map entry_line history

@@ -1,4 +1,4 @@
-//! What stands in a line for the call.
+//! What is in a line for the call.
 ghost use Rattle.std.specs.Prelude.{◌≡◌};
 ghost use Rattle.history_lines.specs.Lines as Text;
 

@@ -30,7 +30,7 @@ impl fmt::Display for Line<'_> {
     }
 }
 
-/// Puts the line of a call and its reply behind the text; after want of memory the text may hold a part of the line. The
+/// Puts the line of a call and its reply after the text; once out of memory the text may hold a part of the line. The
 /// work is that of the line.
 pub fn put_line(text: &mut String, entry: &Entry<Lanes>) -> Result<(), NoMemory>
     ensures { OnOk result (string_bytes text.new ≡ string_bytes text.old ++ Text.entry_line entry.now) }
@@ -43,7 +43,7 @@ pub fn put_line(text: &mut String, entry: &Entry<Lanes>) -> Result<(), NoMemory>
 }
 
 /// The lines of a history, one for each of its calls, in their order. A line has the call's kind, its connection as
-/// `c<slot>.<nth>`, the id of its request behind `#`, its priority behind `p` and its lane behind `l`, a thread behind `t`,
+/// `c<slot>.<nth>`, the id of its request after `#`, its priority after `p` and its lane after `l`, a thread after `t`,
 /// and then the reply; it ends with a line feed. Work and memory grow with the text.
 pub fn history_text(alloc: Global, history: &[Entry<Lanes>]) -> Result<String, NoMemory>
     ensures { IfOk result (λ text. string_bytes text ≡ Text.history_text history.now) }

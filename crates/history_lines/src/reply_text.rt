@@ -1,4 +1,4 @@
-//! What stands in a line for the reply.
+//! What is in a line for the reply.
 ghost use Rattle.std.specs.Prelude.{◌≡◌};
 ghost use Rattle.history_lines.specs.Lines as Text;
 

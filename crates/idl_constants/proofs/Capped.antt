@@ -17,7 +17,7 @@ above a b d m lt one =
     let second : min (a * b + d) m ≡ m = omega arith in
     ap (λ n. min (n * b + d) m) e ∙ first ∙ sym second
 
--- one more digit, behind a number that is above the limit, stays above it
+-- one more digit, after a number that is above the limit, stays above it
 cap_step : (a b d m : ℕ) → 1 ≤ b → min (min a m * b + d) m ≡ min (a * b + d) m
 cap_step a b d m one =
     elim (leb_tells a m) [

@@ -9,7 +9,7 @@ pub data Value : Type 0 where
   truth : Bool → Value
   choice : List ℕ → ℕ → Value
 
--- the number by which a case of a union is told
+-- the number by which a case of a union is given
 abbrev pub label_of : Value → ℤ
 label_of (number z) = z
 label_of (character c) = pos c

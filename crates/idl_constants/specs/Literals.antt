@@ -22,7 +22,7 @@ number_behind base n (c ∷ cs) = number_behind base (n * base + digit c) cs
 abbrev pub number : ℕ → List ℕ → ℕ
 number base cs = number_behind base 0 cs
 
--- the number that a literal spells: hexadecimal behind `0x`, octal behind another 0, and else decimal
+-- the number that a literal spells: hexadecimal after `0x`, octal after another 0, and else decimal
 abbrev pub behind_0 : List ℕ → ℕ
 behind_0 [] = 0
 behind_0 (c ∷ cs) = if nat_eq c 120 then number 16 cs else number 8 (c ∷ cs)

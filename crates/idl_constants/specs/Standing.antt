@@ -1,4 +1,4 @@
--- Which types may stand where: CORBA 3.0.3, chapter 3, constant declarations and unions.
+-- Which types may be where: CORBA 3.0.3, chapter 3, constant declarations and unions.
 use Rattle.std.specs.Prelude.{Bool, true, false}
 use Rattle.cdr_values.specs.Lawful.{is_tag}
 use Rattle.cdr_values.specs.Trees.{enumeration, Scalar, Kind, scalar, words}
@@ -12,7 +12,7 @@ abbrev pub may_be_constant_scalar : Scalar → Bool
 may_be_constant_scalar (enumeration id labels) = false
 may_be_constant_scalar k = true
 
--- only such a scalar or a string may stand behind `const`
+-- only such a scalar or a string may be after `const`
 abbrev pub may_be_constant : Kind → Bool
 may_be_constant (scalar k) = may_be_constant_scalar k
 may_be_constant (words bound) = true

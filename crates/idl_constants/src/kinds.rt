@@ -1,4 +1,4 @@
-//! Which types may stand where.
+//! Which types may be where.
 ghost use Rattle.std.specs.Prelude.{◌≡◌};
 ghost use Rattle.cdr_values.specs.Kinds.{kind_of};
 ghost use Rattle.idl_constants.specs.Standing as Spec;

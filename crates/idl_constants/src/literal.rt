@@ -47,7 +47,7 @@ fn number(base: Base, digits: &[u8]) -> u128
     n
 }
 
-/// The number that a literal spells: decimal, octal behind a 0, hexadecimal behind `0x`. One above 64 bits is 2^64, which
+/// The number that a literal spells: decimal, octal after a 0, hexadecimal after `0x`. One above 64 bits is 2^64, which
 /// fits no type. One pass over the literal.
 pub fn integer_of(text: &[u8]) -> u128
     ensures { result ≡ min (Spec.integer_of text.now) (2 ^ 64) }

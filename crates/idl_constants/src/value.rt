@@ -18,7 +18,7 @@ pub enum ConstValue {
 }
 
 impl ConstValue {
-    /// The number by which a case of a union is told: FALSE is 0 and TRUE is 1, a char has its code and an enumerator its
+    /// The number by which a case of a union is given: FALSE is 0 and TRUE is 1, a char has its code and an enumerator its
     /// number. A text tells no case, and has 0.
     pub fn label(&self) -> i128
         ensures { result ≡ label_of (value_of self.now) }

@@ -42,7 +42,7 @@ plain_inside act judge inner.ArrayLength = refl
 pub idl_plain : {B : Type 0} (act : IdlLabel → Placed Kind → B → Result B IdlFault) (judge : IdlLabel → B → Result B IdlFault) → IsPlainIdl act judge
 idl_plain act judge = record { rules = record { same_is = same_is; inside_is = plain_inside act judge }; whole = plain_file act judge; ends = file_ends act judge }
 
--- and a rule that isn't is told as such: a name that may stand once or twice
+-- and a rule that isn't is given as such: a name that may stand once or twice
 not_plain : {B : Type 0} (act : IdlLabel → Placed Kind → B → Result B IdlFault) (judge : IdlLabel → B → Result B IdlFault) → is_plain (idl act judge) (maybe (one token.Name l.Skip) then one token.Name l.Skip) ≡ false
 unfolding same_kind
 not_plain act judge = refl

@@ -1,4 +1,4 @@
--- The grammar of declarations of types and constants: CORBA 3.0.3, chapter 3. Each rule stands below its published line.
+-- The grammar of declarations of types and constants: CORBA 3.0.3, chapter 3. Each rule is below its published line.
 use Rattle.grammar.specs.Rules.{one, does, ◌then◌, ◌or◌, many, nested}
 use Rattle.idl_tokens.specs.declared.kind.Kind.TheVariants as token
 use Rattle.idl_grammar.specs.declared.label.Inner.TheVariants as inner

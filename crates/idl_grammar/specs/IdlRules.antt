@@ -1,4 +1,4 @@
--- The grammar of interfaces, modules and files: CORBA 3.0.3, chapter 3. Each rule stands below its published line.
+-- The grammar of interfaces, modules and files: CORBA 3.0.3, chapter 3. Each rule is below its published line.
 use Rattle.grammar.specs.Rules.{one, does, ◌then◌, ◌or◌, maybe, many, nested}
 use Rattle.idl_tokens.specs.declared.kind.Kind.TheVariants as token
 use Rattle.idl_grammar.specs.declared.fault.IdlCause.TheVariants as cause
@@ -8,7 +8,7 @@ use Rattle.idl_grammar.specs.declared.label.IdlLabel.TheVariants as l
 use Rattle.idl_grammar.specs.ValueRules.{IdlRule, word, listed, scoped, value, plain, element}
 use Rattle.idl_grammar.specs.DeclarationRules.{member, union_case, union_type, type_declaration}
 
--- attribute = [ "readonly" ] "attribute" plain name { "," name }, and raises behind it is refused
+-- attribute = [ "readonly" ] "attribute" plain name { "," name }, and raises after it is refused
 abbrev pub attribute : IdlRule
 attribute =
     maybe (one token.ReadOnly l.ReadOnly) then (word token.Attribute then (plain then (listed (one token.Name l.Attribute)
@@ -22,7 +22,7 @@ parameter = (one token.In l.In or (one token.Out l.Out or one token.InOut l.InOu
 abbrev pub raises : IdlRule
 raises = one token.Raises l.Raises then nested token.LeftParenthesis l.Skip inner.Raised token.RightParenthesis l.Skip
 
--- A result behind "oneway" is refused at its first token, whatever goes on there; of a name the faults of the name itself
+-- A result after "oneway" is refused at its first token, whatever goes on there; of a name the faults of the name itself
 -- go before, where it has one part.
 abbrev pub word_result : IdlRule
 word_result =
@@ -30,7 +30,7 @@ word_result =
     or (one token.Short (l.Refuse cause.BadOneway) or (one token.Long (l.Refuse cause.BadOneway) or (one token.Unsigned (l.Refuse cause.BadOneway)
     or (one token.String (l.Refuse cause.BadOneway) or one token.DoubleColon (l.Refuse cause.BadOneway)))))))
 
--- a result behind "oneway" that begins with a name
+-- a result after "oneway" that begins with a name
 abbrev pub name_result : IdlRule
 name_result = one token.Name l.NamePart then (maybe (one token.DoubleColon l.LongResultName) then does l.ResultName)
 

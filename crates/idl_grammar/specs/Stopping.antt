@@ -1,4 +1,4 @@
--- Tokens that the grammar hasn't got where they stand: own profile.
+-- Tokens that the grammar hasn't got where they are: own profile.
 
 use Rattle.idl_tokens.specs.Placed.{Placed}
 use Rattle.idl_tokens.specs.declared.kind.Kind.{Kind}
@@ -7,7 +7,7 @@ use Rattle.idl_grammar.specs.declared.fault.IdlCause.{IdlCause}
 use Rattle.idl_grammar.specs.declared.fault.IdlCause.TheVariants as cause
 use Rattle.idl_grammar.specs.declared.fault.IdlFault.{IdlFault}
 
--- a token is bad, or isn't in this profile wherever it stands, or else another one is expected
+-- a token is bad, or isn't in this profile wherever it is, or else another one is expected
 abbrev pub cause_of : Kind → IdlCause
 cause_of Bad = cause.BadToken
 cause_of NotInProfile = cause.NotInProfile

@@ -1,4 +1,4 @@
--- The grammar of names, values and types: CORBA 3.0.3, chapter 3. Each rule stands below its published line, where what is
+-- The grammar of names, values and types: CORBA 3.0.3, chapter 3. Each rule is below its published line, where what is
 -- in quotes is a word or a mark, [ ] is once or not at all, and { } any number of times.
 use Rattle.std.specs.Prelude.{true, false}
 use Rattle.grammar.specs.Rules.{Rule, one, does, ◌then◌, ◌or◌, maybe, chained, nested}
@@ -69,7 +69,7 @@ plain = one token.Octet (l.Basic basic.Octet) or (text_type or switch_type)
 abbrev pub any_type : IdlRule
 any_type = plain or (word token.Sequence then nested token.Less l.Skip inner.Element token.Greater l.Sequence)
 
--- the word of a type that may not stand here
+-- the word of a type that may not be here
 abbrev pub refused_type : Kind → IdlRule
 refused_type kind = one kind (l.Refuse cause.WrongKind)
 

@@ -29,7 +29,7 @@ pub enum IdlCause {
     /// A oneway with a result, an out parameter or raises.
     #[error("BadOneway")]
     BadOneway,
-    /// A label of a union that stands twice.
+    /// A label of a union that is there twice.
     #[error("TwiceCase")]
     TwiceCase,
     /// A type of more than 65,536 leaves or 64 levels, or a file of more than 1,048,576 leaves.

@@ -16,7 +16,7 @@ pub enum Basic {
     ULongLong,
 }
 
-/// The rules that stand in brackets.
+/// The rules that are in brackets.
 #[derive(Clone, Copy, Debug, PartialEq, Eq)]
 pub enum Inner {
     ModuleBody,
@@ -38,14 +38,14 @@ pub enum Inner {
 pub enum IdlLabel {
     /// Nothing.
     Skip,
-    /// The token is refused with this cause, whatever stands behind it.
+    /// The token is refused with this cause, whatever is after it.
     Refuse(IdlCause),
     /// A module of this name opens, anew or again.
     Module,
     EndModule,
     /// An interface of this name begins.
     Interface,
-    /// The name behind the colon is a base.
+    /// The name after the colon is a base.
     Base,
     /// The bases are whole, and what they give is counted.
     Inherit,
@@ -96,7 +96,7 @@ pub enum IdlLabel {
     Attribute,
     EndAttribute,
     OneWay,
-    /// The result of a oneway is a name, which goes on behind its first part, or is whole.
+    /// The result of a oneway is a name, which goes on after its first part, or is whole.
     LongResultName,
     ResultName,
     /// The type is the operation's result.
@@ -112,7 +112,7 @@ pub enum IdlLabel {
     EndOperation,
     /// A value begins with a sign.
     Sign,
-    /// A number without a sign, or behind one.
+    /// A number without a sign, or after one.
     Number,
     Plus,
     Minus,

@@ -245,7 +245,7 @@ const RAISES: IdlRule = seq![token!(Raises, Raises), bracketed!(Raised)];
 
 static RAISED_RULE: IdlRule = listed!(seq![SCOPED, does!(Raised)]);
 
-// a result behind "oneway", which is refused
+// a result after "oneway", which is refused
 const WORD_RESULT: IdlRule = alt![
     refused!(Boolean, BadOneway),
     refused!(Octet, BadOneway),
@@ -340,28 +340,28 @@ pub fn file_rule() -> &'static IdlRule
     &FILE_RULE
 }
 
-/// What stands in a module.
+/// What is in a module.
 fn module_body() -> &'static IdlRule
     ensures { rule_of result.now ≡ Spec.inside Inner.ModuleBody }
 {
     &MODULE_BODY_RULE
 }
 
-/// What stands in an interface.
+/// What is in an interface.
 fn interface_body() -> &'static IdlRule
     ensures { rule_of result.now ≡ Spec.inside Inner.InterfaceBody }
 {
     &INTERFACE_BODY_RULE
 }
 
-/// What stands in a union.
+/// What is in a union.
 fn union_body() -> &'static IdlRule
     ensures { rule_of result.now ≡ Spec.inside Inner.UnionBody }
 {
     &UNION_BODY_RULE
 }
 
-/// The rule of this name, which stands in brackets.
+/// The rule of this name, which is in brackets.
 pub fn inside(inner: Inner) -> &'static IdlRule
     ensures { rule_of result.now ≡ Spec.inside inner }
 {

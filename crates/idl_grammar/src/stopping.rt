@@ -6,7 +6,7 @@ ghost use Rattle.idl_grammar.specs.Stopping.{cause_of, stop};
 use crate::{IdlCause, IdlFault};
 use idl_tokens::{Kind, Token};
 
-/// What a token of this kind is told as where the grammar hasn't got it.
+/// What a token of this kind is given as where the grammar hasn't got it.
 fn cause_of(kind: Kind) -> IdlCause
     ensures { result ≡ cause_of kind }
 {
@@ -18,7 +18,7 @@ fn cause_of(kind: Kind) -> IdlCause
     }
 }
 
-/// The fault of a token that the grammar hasn't got where it stands: BadToken, NotInProfile or Expected, by what it is.
+/// The fault of a token that the grammar hasn't got where it is: BadToken, NotInProfile or Expected, by what it is.
 pub fn stop_at(token: Token<'_>) -> IdlFault
     ensures { result ≡ stop (seen token.entry) }
 {

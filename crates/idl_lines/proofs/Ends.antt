@@ -50,7 +50,7 @@ exact_of end read asked out out' e h =
     from_ends TooLong h = absurd h
     from_ends ReadFault h = absurd h
 
--- or its fault is told
+-- or its fault is given
 pub exact_none : (end : IdlEnd) (asked : Result (List Thing) IdlFault) (out out' : SinkState) → ReadsExactly (Err end) asked → ListsExactly end asked out out'
 exact_none Done asked out out' h = absurd h
 exact_none WriteFault asked out out' h = absurd h

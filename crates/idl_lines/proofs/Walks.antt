@@ -22,7 +22,7 @@ next_lines (thing ∷ things) (suc n) there =
     let e : suc (n + 1) ≡ suc n + 1 = omega arith in
     next_lines things n (omega arith) ∙ ap (λ k. lines_at things n ++ listing (drop k (thing ∷ things))) e
 
--- the lines so far with those of the next thing, and the listing of the things behind it
+-- the lines so far with those of the next thing, and the listing of the things after it
 pub more_lines : (things : List Thing) (n : ℕ) (front all : List ℕ) → n < length things
     → front ++ listing (drop n things) ≡ all → (front ++ lines_at things n) ++ listing (drop (n + 1) things) ≡ all
 more_lines things n front all there so_far =

@@ -11,7 +11,7 @@ use Rattle.idl_lines.specs.declared.idl_end.IdlEnd.TheVariants.{Done, Refused, A
 use Rattle.idl_lines.specs.Listing.{listing}
 use Rattle.idl_lines.specs.Texts.{FileDeclares, FileFails}
 
--- the listing of these things was written, or a front of it up to a fault of the sink; nothing where memory was wanting
+-- the listing of these things was written, or a prefix of it up to a fault of the sink; nothing where memory was wanting
 abbrev pub Ends : IdlEnd → List Thing → SinkState → SinkState → Type 0
 Ends Done things out out' = WroteText (listing things) out out' × (out'.faults ≡ out.faults)
 Ends WriteFault things out out' = WroteFrontOf (listing things) out out' × Rose out.faults out'.faults
@@ -43,7 +43,7 @@ OnlyLists ReadFault things out out' = Unit {0}
 OnlyLists NoMemory things out out' = Unit {0}
 OnlyLists _ things out out' = ⊥
 
--- the listing of what reading by the grammar gives was written, or its fault is told, unless the store, the sink or memory failed
+-- the listing of what reading by the grammar gives was written, or its fault is given, unless the store, the sink or memory failed
 abbrev pub ListsExactly : IdlEnd → Result (List Thing) IdlFault → SinkState → SinkState → Type 0
 ListsExactly Done asked out out' = MatchResult asked (λ things. WroteText (listing things) out out') (λ f. ⊥)
 ListsExactly WriteFault asked out out' = MatchResult asked (λ things. WroteFrontOf (listing things) out out') (λ f. ⊥)

@@ -28,11 +28,11 @@ operation_line o =
 abbrev pub lines_of : Thing → List ℕ
 lines_of thing = head_line thing ++ flat_map operation_line (operations_of thing)
 
--- the lines of the thing at an index; there are none behind the last one
+-- the lines of the thing at an index; there are none after the last one
 abbrev pub lines_at : List Thing → ℕ → List ℕ
 lines_at things at = option_map_or lines_of (slice_get things at) []
 
--- the lines of the first thing, and then the listing of the things behind it
+-- the lines of the first thing, and then the listing of the things after it
 abbrev pub listing : List Thing → List ℕ
 listing [] = []
 listing (thing ∷ things) = lines_of thing ++ listing things

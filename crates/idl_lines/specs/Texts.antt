@@ -36,7 +36,7 @@ pub record FileTells (files : FilesState) (name : List ℕ) (things : List Thing
   pub file : IsTold files name bytes
   pub declares : Declares bytes things
 
--- what the bytes of a text give: what they declare, or their first fault; want of memory tells nothing
+-- what the bytes of a text give: what they declare, or their first fault; out of memory says nothing
 abbrev pub ReadsBytes : Result Repository IdlEnd → List ℕ → Type 0
 ReadsBytes (Ok r) bytes = Declares bytes (things_of r)
 ReadsBytes (Err (Refused f)) bytes = IsFirstFault bytes f

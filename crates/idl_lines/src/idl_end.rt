@@ -15,7 +15,7 @@ pub enum IdlEnd {
     TooLong,
     /// The store of files failed. Nothing was written.
     ReadFault,
-    /// The sink failed. A front of the listing was written.
+    /// The sink failed. A prefix of the listing was written.
     WriteFault,
     /// Memory was wanting. Nothing was written.
     NoMemory,

@@ -1,4 +1,4 @@
-//! The listing of what a text of IDL declares: a line for each thing, and behind an interface a line for each of its operations.
+//! The listing of what a text of IDL declares: a line for each thing, and after an interface a line for each of its operations.
 #![tactic(auto)]
 
 mod counts;

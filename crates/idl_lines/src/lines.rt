@@ -22,7 +22,7 @@ fn word_of(declaration: &Declaration) -> &'static str
     }
 }
 
-/// Puts the line of an operation behind the text.
+/// Puts the line of an operation after the text.
 fn put_operation(text: &mut String, operation: &Operation) -> Result<(), NoMemory>
     ensures { OnOk result (string_bytes text.new ≡ string_bytes text.old ++ Spec.operation_line (operation_of operation.now)) }
 {
@@ -34,7 +34,7 @@ fn put_operation(text: &mut String, operation: &Operation) -> Result<(), NoMemor
     Ok(())
 }
 
-/// Puts the line of each operation behind the text.
+/// Puts the line of each operation after the text.
 fn put_operations(text: &mut String, operations: &[Operation]) -> Result<(), NoMemory>
     ensures { OnOk result (string_bytes text.new ≡ string_bytes text.old ++ flat_map Spec.operation_line (map operation_of operations.now)) }
 {
@@ -44,7 +44,7 @@ fn put_operations(text: &mut String, operations: &[Operation]) -> Result<(), NoM
     Ok(())
 }
 
-/// Puts the line of a declaration behind the text, without those of its operations.
+/// Puts the line of a declaration after the text, without those of its operations.
 fn put_head(text: &mut String, declaration: &Declaration) -> Result<(), NoMemory>
     ensures { OnOk result (string_bytes text.new ≡ string_bytes text.old ++ Spec.head_line (thing_of declaration.now)) }
 {
@@ -54,7 +54,7 @@ fn put_head(text: &mut String, declaration: &Declaration) -> Result<(), NoMemory
     Ok(())
 }
 
-/// Puts the lines of a declaration behind the text.
+/// Puts the lines of a declaration after the text.
 pub fn put_lines(text: &mut String, declaration: &Declaration) -> Result<(), NoMemory>
     ensures { OnOk result (string_bytes text.new ≡ string_bytes text.old ++ Spec.lines_of (thing_of declaration.now)) }
 {

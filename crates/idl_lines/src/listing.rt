@@ -10,7 +10,7 @@ use orb_base::{NoMemory, Sink};
 use std::alloc::Global;
 use text_streams::{WriteAll, write_all};
 
-/// Puts the lines of the thing at an index behind the text.
+/// Puts the lines of the thing at an index after the text.
 fn put_nth(text: &mut String, repository: &Repository, at: usize) -> Result<(), NoMemory>
     ensures { OnOk result (string_bytes text.new ≡ string_bytes text.old ++ lines_at (things_of repository.now) at) }
 {
@@ -32,7 +32,7 @@ fn listing_made(alloc: Global, repository: &Repository) -> Result<String, NoMemo
     Ok(text)
 }
 
-/// Writes the listing of a repository: in order of declaration a line for each thing, and behind that of an interface a line for
+/// Writes the listing of a repository: in order of declaration a line for each thing, and after that of an interface a line for
 /// each of its operations, the inherited ones first. Nothing is written where memory is wanting. Work and memory grow with the
 /// listing.
 pub fn write_listing<O: Sink>(
@@ -40,7 +40,7 @@ pub fn write_listing<O: Sink>(
     out: &mut O,
     repository: &Repository,
 ) -> Result<WriteAll, NoMemory>
-    // All of it is written, or a front of it up to a fault of the sink, which its count tells.
+    // All of it is written, or a prefix of it up to a fault of the sink, which its count tells.
     ensures { WritesListing result (listing (things_of repository.now)) (O.state out.old) (O.state out.new) }
 {
     let text = listing_made(alloc, repository)?;

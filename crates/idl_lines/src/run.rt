@@ -26,16 +26,16 @@ fn list<O: Sink>(alloc: Global, out: &mut O, repository: &Repository) -> IdlEnd
 }
 
 /// Writes the listing of what the file of a name declares, a text of IDL of at most 1,048,576 bytes: in order of declaration a line
-/// for each constant, type, exception and interface, and behind an interface a line for each of its operations, the inherited ones
-/// first. Nothing is written where the text is refused, at its first token at fault. Want of memory is told as `read_idl` tells it.
+/// for each constant, type, exception and interface, and after an interface a line for each of its operations, the inherited ones
+/// first. Nothing is written where the text is refused, at its first token at fault. Out of memory is given as `read_idl` tells it.
 /// Work and memory grow with the text, what it declares and the listing.
 pub fn idl_run<F: Files, O: Sink>(alloc: Global, files: &mut F, name: &Text, out: &mut O) -> IdlEnd
     // Each end comes only where its cause is there.
     ensures lists { Lists result name.now (F.state files.old) (F.state files.new) (O.state out.old) (O.state out.new) }
-    // A file that is told and declares things is listed, unless the store, the sink or memory fails.
+    // A file that is given and declares things is listed, unless the store, the sink or memory fails.
     ensures only { (declared : List things.Thing) → FileTells (F.state files.old) name.now declared
         → OnlyLists result declared (O.state out.old) (O.state out.new) }
-    // And one that is told is listed or refused as reading it by the grammar gives.
+    // And one that is given is listed or refused as reading it by the grammar gives.
     ensures exact { (bytes : List ℕ) → IsTold (F.state files.old) name.now bytes
         → ListsExactly result (text_things bytes) (O.state out.old) (O.state out.new) }
 {

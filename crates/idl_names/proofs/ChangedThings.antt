@@ -18,7 +18,7 @@ set_past (y ∷ ys) (suc i) x h = ap (λ zs. y ∷ zs) (set_past ys i x (omega a
 pub becomes : (things : List Thing) (i : ℕ) (thing : Thing) → map thing_of (set things i thing) ≡ set (map thing_of things) i (thing_of thing)
 becomes things i thing = map-set thing_of things i thing
 
--- behind the last one nothing does
+-- after the last one nothing does
 pub stays : (things : List Thing) (i : ℕ) (thing : t.Thing) → length things ≤ i → map thing_of things ≡ set (map thing_of things) i thing
 stays things i thing h =
     let e : length (map thing_of things) ≡ length things = length-map things thing_of in

@@ -36,7 +36,7 @@ clash : told (text_names (codes "typedef long T; typedef T t;")) ≡ Some (cause
 unfolding lex text_len cut same_kind read_whole read_rule read_inner take_one ended repeated outwards within
 clash = refl
 
--- a struct is found behind its end alone
+-- a struct is found after its end alone
 recursive : told (text_names (codes "struct S { sequence<S> x; };")) ≡ Some (cause.Unknown, 21)
 unfolding lex text_len cut same_kind read_whole read_rule read_inner take_one ended repeated outwards within
 recursive = refl
@@ -51,7 +51,7 @@ module_result : told (text_names (codes "module M { interface I { oneway M f(); 
 unfolding lex text_len cut same_kind read_whole read_rule read_inner take_one ended repeated outwards within
 module_result = refl
 
--- a oneway whose result goes on behind a module
+-- a oneway whose result goes on after a module
 long_result : told (text_names (codes "module M { interface I { oneway M::N f(); }; };")) ≡ Some (cause.BadOneway, 33)
 unfolding lex text_len cut same_kind read_whole read_rule read_inner take_one ended repeated outwards within
 long_result = refl
@@ -71,7 +71,7 @@ inherited : told (text_names (codes "interface A { void f(); }; interface B : A 
 unfolding lex text_len cut same_kind read_whole read_rule read_inner take_one ended repeated outwards within
 inherited = refl
 
--- a label that stands twice
+-- a label that is there twice
 twice : told (text_names (codes "enum E { X, Y }; union U switch (E) { case X: long a; case X: long b; };")) ≡ Some (cause.TwiceCase, 60)
 unfolding lex text_len cut same_kind read_whole read_rule read_inner take_one ended repeated outwards within
 twice = refl

@@ -41,7 +41,7 @@ other_case : told (text_names (codes "module M { typedef long T; }; module m { t
 unfolding lex text_len cut same_kind read_whole read_rule read_inner take_one ended repeated outwards within
 other_case = refl
 
--- a default that stands twice
+-- a default that is there twice
 default_twice : told (text_names (codes "union U switch (long) { default: long a; default: long b; };")) ≡ Some (cause.TwiceCase, 42)
 unfolding lex text_len cut same_kind read_whole read_rule read_inner take_one ended repeated outwards within
 default_twice = refl
@@ -56,7 +56,7 @@ sign_of_char : told (text_names (codes "const char c = -5;")) ≡ Some (cause.Wr
 unfolding lex text_len cut same_kind read_whole read_rule read_inner take_one ended repeated outwards within
 sign_of_char = refl
 
--- a number behind a sign is at fault where it stands
+-- a number after a sign is at fault where it is
 plus : told (text_names (codes "const short c = +32768;")) ≡ Some (cause.OutOfRange, 18)
 unfolding lex text_len cut same_kind read_whole read_rule read_inner take_one ended repeated outwards within
 plus = refl
@@ -71,7 +71,7 @@ other_enum : told (text_names (codes "enum E { A }; enum F { B }; union U switch
 unfolding lex text_len cut same_kind read_whole read_rule read_inner take_one ended repeated outwards within
 other_enum = refl
 
--- a base that stands twice
+-- a base that is there twice
 base_twice : told (text_names (codes "interface A { void f(); }; interface B : A, A { };")) ≡ None
 unfolding lex text_len cut same_kind read_whole read_rule read_inner take_one ended repeated outwards within
 base_twice = refl

@@ -30,7 +30,7 @@ declared_type s = arrays_of (inner_lengths s) s.type
 abbrev pub named : Thing → Built → Built
 named thing s = record (become (newest s) other thing s) { lengths = [] }
 
--- its type isn't too large, which is told at its name
+-- its type isn't too large, which is given at its name
 abbrev pub measured_name : Built → Done
 measured_name s = measured (declared_type s) (place_at s (newest s)) s
 
@@ -58,7 +58,7 @@ member_named s = Ok (named nothing (record s { parts = with_member (name_at s (n
 abbrev pub member : Built → Done
 member s = measured_name s >>= member_named
 
--- one more case, with the labels that stand before it
+-- one more case, with the labels that are before it
 abbrev pub with_case : List ℕ → Sized → Parts → Parts
 with_case name k p = with_part k (record p { cases = p.cases ++ (p.labels, p.is_default, name, k.kind) ∷ []; labels = []; is_default = false })
 

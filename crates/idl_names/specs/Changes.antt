@@ -18,7 +18,7 @@ use Rattle.idl_names.specs.State.{Thing, nothing, no_parts, Built}
 abbrev pub Done : Type 0
 Done = Result Built IdlFault
 
--- where a token stands
+-- where a token is
 abbrev pub place_of : Placed Kind → Place
 place_of t = record { line = t.line; column = t.column }
 
@@ -42,7 +42,7 @@ newest s = length s.scopes.declared - 1
 abbrev pub opened : Built → ℕ
 opened s = s.here - 1
 
--- what the declaration at a place stands for, and where its name stands
+-- what the declaration at a place stands for, and where its name is
 abbrev pub thing_in : Option Thing → Thing
 thing_in None = nothing
 thing_in (Some thing) = thing
@@ -51,7 +51,7 @@ thing_in (Some thing) = thing
 abbrev pub thing_at : Built → ℕ → Thing
 thing_at s i = thing_in (slice_get s.things i)
 
--- where its name stands
+-- where its name is
 abbrev pub place_at : Built → ℕ → Place
 place_at s i = scopes.place_at s.scopes i
 

@@ -1,9 +1,9 @@
--- Want of memory, as the reader's.
+-- Out of memory, as the reader's.
 use Rattle.std.specs.Prelude.{◌≡◌, Result, Ok, Err}
 use Rattle.grammar.specs.declared.builder.ReadError.{ReadError}
 use Rattle.grammar.specs.declared.builder.ReadError.TheVariants.{Refused, NoMemory}
 
--- the same answer, and want of memory for want of memory
+-- the same answer, and out of memory when out of memory
 abbrev pub HadMemory : {X M F : Type 0} → Result X M → Result X (ReadError F) → Type 0
 HadMemory (Ok x) result = result ≡ Ok x
 HadMemory (Err e) result = result ≡ Err NoMemory

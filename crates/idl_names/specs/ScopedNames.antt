@@ -13,7 +13,7 @@ use Rattle.idl_names.specs.Sizes.{Sized}
 use Rattle.idl_names.specs.State.{Thing, nothing, interface, type, constant, enumerator, Search, fresh, rooted, found, Built}
 use Rattle.idl_names.specs.Changes.{Done, place_of, fault, refused, declare_in, enter, thing_at}
 
--- a part of a name: the first is looked up here, or behind `::` in the file's scope, and a further one inside what was found
+-- a part of a name: the first is looked up here, or after `::` in the file's scope, and a further one inside what was found
 abbrev pub find_part : List ℕ → Built → Search → Option ℕ
 find_part name s fresh = scopes.looked_up s.scopes name s.here
 find_part name s rooted = scopes.own s.scopes name 0
@@ -46,7 +46,7 @@ meaning s = thing_at s (meant s)
 abbrev pub renewed : Built → Built
 renewed s = record s { search = fresh }
 
--- the name is of the wrong kind, which is told at its last part
+-- the name is of the wrong kind, which is given at its last part
 abbrev pub wrong : Built → Done
 wrong s = refused cause.WrongKind s.last
 

@@ -30,7 +30,7 @@ pub data Search : Type 0 where
   -- what its parts so far have found
   found : ℕ → Search
 
--- A value: where it begins, and its literal, which stands behind a sign. For a name both are its last part.
+-- A value: where it begins, and its literal, which is after a sign. For a name both are its last part.
 pub record Valued : Type 0 where
   pub value : Value
   pub at : Place

@@ -22,11 +22,11 @@ use Rattle.idl_names.specs.Changes.{Done, place_of, fault, unless, newest, place
 abbrev pub literal : Value → Placed Kind → Built → Done
 literal v t s = Ok (record s { value = record { value = v; at = place_of t; literal = place_of t } })
 
--- a number behind a sign, which begins the value
+-- a number after a sign, which begins the value
 abbrev pub behind_sign : ℤ → Placed Kind → Built → Done
 behind_sign z t s = Ok (record s { value = record { value = number z; at = s.value.at; literal = place_of t } })
 
--- the number of a literal; one above 64 bits is told as 2^64, which fits no type
+-- the number of a literal; one above 64 bits is given as 2^64, which fits no type
 abbrev pub number_of : Placed Kind → ℤ
 number_of t = pos (min (integer_of t.text) (2 ^ 64))
 

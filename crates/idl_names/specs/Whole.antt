@@ -23,13 +23,13 @@ Declares text new = Whole idl (Sentence idl 64 file) End (text_tokens Idl text) 
 abbrev pub IsFirstFault : List ℕ → IdlFault → Type 0
 IsFirstFault text f = Refused idl (NoneHere idl 64 End file) (nothing_built, text_tokens Idl text) f
 
--- the names that a text declares, or its first token at fault; want of memory tells nothing
+-- the names that a text declares, or its first token at fault; out of memory says nothing
 abbrev pub TellsNames : Result Names (ReadError IdlFault) → List ℕ → Type 0
 TellsNames (Ok names) text = Declares text (built_of names)
 TellsNames (Err (answer.Refused f)) text = IsFirstFault text f
 TellsNames (Err answer.NoMemory) text = Unit {0}
 
--- where a text declares names, they are what is told, unless memory runs out
+-- where a text declares names, they are what is given, unless memory runs out
 abbrev pub TellsOnly : Result Names (ReadError IdlFault) → Built → Type 0
 TellsOnly (Ok names) new = built_of names ≡ new
 TellsOnly (Err (answer.Refused f)) new = ⊥

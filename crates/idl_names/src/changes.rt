@@ -39,7 +39,7 @@ pub(crate) fn fault(cause: IdlCause, place: Place) -> IdlFault
     }
 }
 
-/// Want of memory as the reader's.
+/// Out of memory as the reader's.
 pub(crate) fn with_memory<T>(done: Result<T, NoMemory>) -> Result<T, ReadError<IdlFault>>
     ensures { HadMemory done result }
 {
@@ -146,14 +146,14 @@ impl Names {
         self.here.saturating_sub(1)
     }
 
-    /// Where the name of the newest declaration stands.
+    /// Where the name of the newest declaration is.
     pub(crate) fn newest_place(&self) -> Place
         ensures { result ≡ Spec.place_at (built_of self.now) (Spec.newest (built_of self.now)) }
     {
         self.scopes.place_at(self.newest())
     }
 
-    /// Where the name of the declaration stands whose body is open.
+    /// Where the name of the declaration is whose body is open.
     pub(crate) fn opened_place(&self) -> Place
         ensures { result ≡ Spec.place_at (built_of self.now) (Spec.opened (built_of self.now)) }
     {

@@ -19,7 +19,7 @@ use orb_base::NoMemory;
 use std::alloc::Global;
 use std::mem;
 
-/// The operations that the declaration at a place gives, behind others.
+/// The operations that the declaration at a place gives, after others.
 fn add_operations_at(found: &mut IndexSet<u32>, things: &[Thing], at: u32) -> Result<(), NoMemory>
     ensures { OnOk result (found.new.keys ≡ and_each found.old.keys (Spec.operations_in (changes.thing_in (slice_get (map thing_of things.now) at)))) }
 {

@@ -46,7 +46,7 @@ pub(crate) fn operation_leaves(thing: &Thing) -> u32
     }
 }
 
-/// The operations that a base gives, behind others.
+/// The operations that a base gives, after others.
 pub(crate) fn add_operations(found: &mut IndexSet<u32>, thing: &Thing) -> Result<(), NoMemory>
     ensures { OnOk result (found.new.keys ≡ each.and_each found.old.keys (Spec.operations_in (thing_of thing.now))) }
 {
@@ -93,7 +93,7 @@ pub(crate) fn operation_of(name: Text, parts: Parts) -> Operation
     }
 }
 
-/// A name behind a prefix.
+/// A name after a prefix.
 fn prefixed(alloc: Global, prefix: &[u8], name: &[u8]) -> Result<Text, NoMemory>
     ensures { IfOk result (λ t. t ≡ prefix.now ++ name.now) }
 {

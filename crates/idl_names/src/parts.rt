@@ -48,7 +48,7 @@ impl Parts {
         Ok(())
     }
 
-    /// One more case, with the labels that stand before it.
+    /// One more case, with the labels that are before it.
     pub(crate) fn add_case(
         &mut self,
         alloc: Global,

@@ -167,7 +167,7 @@ impl Names {
         self.open_found(token, found)
     }
 
-    /// The name of a oneway's result goes on behind its first part.
+    /// The name of a oneway's result goes on after its first part.
     pub(crate) fn long_result_name(&self) -> Done
         ensures { Acts result (built_of self.now) (Spec.long_result_name (built_of self.now)) }
     {

@@ -38,7 +38,7 @@ pub(crate) enum Search {
     Found(u32),
 }
 
-/// A value, where it begins, and its literal, which stands behind a sign. For a name both are its last part.
+/// A value, where it begins, and its literal, which is after a sign. For a name both are its last part.
 #[derive(Drop)]
 pub(crate) struct Valued {
     pub value: ConstValue,

@@ -8,7 +8,7 @@ use crate::state::Names;
 use orb_base::{NoMemory, Text};
 use std::alloc::Global;
 
-/// The text of these bytes. No token has a NUL; one that had would be told as want of memory.
+/// The text of these bytes. No token has a NUL; one that had would be given as out of memory.
 pub(crate) fn text_of(alloc: Global, bytes: &[u8]) -> Result<Text, NoMemory>
     ensures { IfOk result (λ t. t ≡ bytes.now) }
 {

@@ -26,14 +26,14 @@ pub(crate) fn number_of(token: Token<'_>) -> i128
     integer_of(token.text) as i128
 }
 
-/// The same behind a minus.
+/// The same after a minus.
 pub(crate) fn minus_of(token: Token<'_>) -> i128
     ensures { result ≡ neg_ℤ (Spec.number_of (seen token.entry)) }
 {
     -(integer_of(token.text) as i128)
 }
 
-/// A misfit of a value, where it stands.
+/// A misfit of a value, where it is.
 fn misfit_at(misfit: Misfit, value: &Valued) -> IdlFault
     ensures { result ≡ Spec.misfit_at misfit (valued_of value.now) }
 {
@@ -76,7 +76,7 @@ impl Names {
         self.literal(ConstValue::Text(text), token)
     }
 
-    /// A number behind a sign is the value.
+    /// A number after a sign is the value.
     pub(crate) fn behind_sign(&mut self, z: i128, token: Token<'_>) -> Done
         ensures { Acts result (built_of self.new) (Spec.behind_sign z (seen token.entry) (built_of self.old)) }
     {

@@ -78,7 +78,7 @@ module _ (table : Table) (o : InOrder table) (all : List Thing) (based : AreBase
       let d = from 0 v refl in
       first_or_later b h v us d.0 d.1 u is (λ n f. found b h us (λ i w g. from (suc i) w g) n u f is) (has_id (ids.id_of table b) v) refl k e
 
-  -- the interface that stands at the place of a base
+  -- the interface that is at the place of a base
   pub base_named : (i b : ℕ) (us : List things.Thing) → AreFrom i us → b < i → (h : IsBase all b) → interface_named us (ids.id_of table b) ≡ Some (interface_at b h)
   base_named i b us f less h =
       let u = things.interface (interface_at b h) in

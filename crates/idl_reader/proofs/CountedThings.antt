@@ -90,7 +90,7 @@ pub record IsCounted (s : Built) : Type 0 where
   pub within : s.leaves ≤ 1048576
   pub measured : IsMeasured s
 
--- and behind the bases of an interface what it inherits too
+-- and after the bases of an interface what it inherits too
 pub record IsReserved (s : Built) : Type 0 where
   pub all : IsCounted s
   pub inherited_held : AreHeld s.things (inherited s)
@@ -157,7 +157,7 @@ counted_adds s c x e k none free m h =
       measured = m;
     }
 
--- a thing that is set where nothing stood, with its leaves
+-- a thing that is set where nothing was, with its leaves
 counted_set : (n i : ℕ) (s c : Built) (x : Thing) → c.things ≡ set s.things i x → Counts n s c → slice_get s.things i ≡ Some nothing → HasHeld (set s.things i x) x
     → AtMost (declared_leaves (set s.things i x) x) n → IsMeasured c → IsCounted s → IsCounted c
 counted_set n i s c x e k there free few m h =
@@ -179,7 +179,7 @@ type_counted i s c k e n there m h =
     let at : slice_get c.things i ≡ Some (type k) = ap (λ (ts : List Thing). slice_get ts i) e ∙ set_there s.things i (type k) nothing there in
     counted_set k.leaves i s c (type k) e n there tt (m.things i (type k) at).0.leaves m h
 
--- the interface behind its bases
+-- the interface after its bases
 interface_counted : (i : ℕ) (s c : Built) → c.things ≡ set s.things i (interface s.parts.bases (inherited s)) → Counts 0 s c → slice_get s.things i ≡ Some nothing → IsMeasured c → IsReserved s → IsCounted c
 interface_counted i s c e k there m h =
     let x = interface s.parts.bases (inherited s) in

@@ -1,4 +1,4 @@
--- A path of names, each with a `/` behind it, and a name behind them: the last `/` tells them apart.
+-- A path of names, each with a `/` after it, and a name after them: the last `/` tells them apart.
 use Rattle.std.proofs.Common.{◌≡◌, ℕ, Bool, true, false, List, [], ◌∷◌, ◌++◌, refl, ap, ◌∙◌}
 use Rattle.std.specs.Prelude.{◌==◌, if◌then◌else◌}
 use Rattle.std.specs.List.{list_any}
@@ -12,7 +12,7 @@ is_slash b = b == 47
 abbrev pub has_slash : List ℕ → Bool
 has_slash z = list_any is_slash z
 
--- a text up to its last `/`, and what stands behind that
+-- a text up to its last `/`, and what is after that
 abbrev pub cut_last : List ℕ → List ℕ × List ℕ
 cut_last [] = ([], [])
 cut_last (b ∷ z) = if has_slash z then (b ∷ (cut_last z).0, (cut_last z).1) else (if is_slash b then (b ∷ [], z) else ([], b ∷ z))
@@ -29,7 +29,7 @@ slash_there : (x n : List ℕ) → has_slash (x ++ 47 ∷ n) ≡ true
 slash_there [] n = refl
 slash_there (b ∷ x) n = or_right (is_slash b) (has_slash (x ++ 47 ∷ n)) (slash_there x n)
 
--- a name behind a path
+-- a name after a path
 pub cut_path : (x n : List ℕ) → has_slash n ≡ false → cut_last (x ++ 47 ∷ n) ≡ (x ++ 47 ∷ [], n)
 cut_path [] n h = ap (λ (y : Bool). if y then (47 ∷ (cut_last n).0, (cut_last n).1) else (47 ∷ [], n)) h
 cut_path (b ∷ x) n h =
@@ -41,7 +41,7 @@ cut_path (b ∷ x) n h =
 abbrev pub IsOrb : List ℕ → Type 0
 IsOrb z = (tail : List ℕ) × (z ≡ 111 ∷ 114 ∷ 98 ∷ 47 ∷ tail)
 
--- then a name that stands in front, with a byte behind it that is none of them but the last, is `orb`
+-- then a name that comes before, with a byte after it that is none of them but the last, is `orb`
 pub orb_in_front : (n rest : List ℕ) (c : ℕ) → ((c ≡ 111) → ⊥) → ((c ≡ 114) → ⊥) → ((c ≡ 98) → ⊥) → has_slash n ≡ false → IsOrb (n ++ c ∷ rest) → n ≡ 111 ∷ 114 ∷ 98 ∷ []
 orb_in_front [] rest c x y z h o = let e = o.1 in absurd (x cc)
 orb_in_front (a ∷ []) rest c x y z h o = let e = o.1 in absurd (y cc)

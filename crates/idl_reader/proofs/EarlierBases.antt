@@ -3,7 +3,7 @@ use Rattle.std.proofs.Common.{◌≡◌, ℕ, ◌<◌, List, [], ◌∷◌, Some
 use Rattle.std.specs.Prelude.{slice_get}
 use Rattle.idl_names.specs.State.{Thing, interface}
 
--- an interface stands there
+-- an interface is there
 pub record IsBase (ts : List Thing) (i : ℕ) : Type 0 where
   pub bases : List ℕ
   pub operations : List ℕ

@@ -36,7 +36,7 @@ abbrev pub all_leaves : List Thing → List Thing → ℕ
 all_leaves ts [] = 0
 all_leaves ts (x ∷ xs) = declared_leaves ts x + all_leaves ts xs
 
--- an operation or an attribute stands there
+-- an operation or an attribute is there
 pub record IsHeld (ts : List Thing) (i : ℕ) : Type 0 where
   pub os : List OperationView
   pub n : ℕ
@@ -57,7 +57,7 @@ abbrev pub AllHeld : List Thing → List Thing → Type 0
 AllHeld ts [] = Unit {0}
 AllHeld ts (x ∷ xs) = HasHeld ts x × AllHeld ts xs
 
--- where operations stand, the same things stand in both
+-- where operations are, the same things are in both
 abbrev pub HeldSame : List Thing → List Thing → Type 0
 HeldSame ts us = (i : ℕ) → IsHeld ts i → slice_get us i ≡ slice_get ts i
 
@@ -124,7 +124,7 @@ held_at us [] i x h e = absurd (none-some x e)
 held_at us (y ∷ xs) zero x h e = subst (HasHeld us) (same_Some y x e) h.0
 held_at us (y ∷ xs) (suc i) x h e = held_at us xs i x h.1 e
 
--- adding keeps what stands, and so does setting where no operation stands
+-- adding keeps what is, and so does setting where no operation is
 pub added_same : (ts : List Thing) (x : Thing) → HeldSame ts (ts ++ x ∷ [])
 added_same ts x i h = get_before ts x _ i h.there ∙ sym h.there
 
@@ -145,7 +145,7 @@ leaves_added ts x e h = let a = all_more (ts ++ x ∷ []) ts x in let b = all_sa
 pub held_added : (ts : List Thing) (x : Thing) → HasHeld (ts ++ x ∷ []) x → AllHeld ts ts → AllHeld (ts ++ x ∷ []) (ts ++ x ∷ [])
 held_added ts x k h = all_held_more (ts ++ x ∷ []) ts x (all_held_same ts (ts ++ x ∷ []) (added_same ts x) ts h) k
 
--- a thing that is set where nothing stood
+-- a thing that is set where nothing was
 pub leaves_set : (ts : List Thing) (n : ℕ) (y : Thing) → slice_get ts n ≡ Some nothing → AllHeld ts ts → all_leaves (set ts n y) (set ts n y) ≤ all_leaves ts ts + declared_leaves (set ts n y) y
 leaves_set ts n y e h = let a = all_set (set ts n y) ts n y in let b = all_same ts (set ts n y) (set_same ts n nothing y e nothing_free) ts h in omega arith
 
@@ -195,7 +195,7 @@ gained_held_at us at (constant t v) h k = tt
 gained_held_at us at (enumerator id n) h k = tt
 gained_held_at us at (operations os n) h k = tt
 
--- the leaves of a list in which an interface gets the operation at this place, read in any list in which the same operations stand
+-- the leaves of a list in which an interface gets the operation at this place, read in any list in which the same operations are
 pub leaves_gained : (us xs : List Thing) (n at : ℕ) → all_leaves us (gained n at xs) ≤ all_leaves us xs + own_leaves (thing_in (slice_get us at))
 leaves_gained us xs n at =
     let a = all_set us xs n (and_operation at (thing_in (slice_get xs n))) in

@@ -85,7 +85,7 @@ none_there ps (x ∷ ss) s name h n = elim (or_cases (s == x) (list_any (λ y. s
   | inr r ↦ none_there ps ss s name r n.1
 ]
 
--- scopes behind others that don't have it, each once
+-- scopes after others that don't have it, each once
 pub each_behind : (ps : List (ℕ × List ℕ)) (ss more : List ℕ) (name : List ℕ) (o : ℕ) → AreNone ps ss name → IsFirst ps more name o → IsFirst ps (and_each ss more) name o
 each_behind ps ss [] name o n h = absurd h
 each_behind ps ss (s ∷ more) name o n h = elim (cases_Bool (list_any (λ y. s == y) ss)) [
@@ -97,7 +97,7 @@ each_behind ps ss (s ∷ more) name o n h = elim (cases_Bool (list_any (λ y. s 
       (elim h [ inl f ↦ each_front ps (ss ++ s ∷ []) more name o (first_behind ps ss s name o n f) | inr p ↦ each_behind ps (ss ++ s ∷ []) more name o (none_behind ps ss s name n p.0) p.1 ])
 ]
 
--- a key stands at one place alone
+-- a key is at one place alone
 abbrev IsOnly : List (ℕ × List ℕ) → ℕ → List ℕ → ℕ → Type 0
 IsOnly ks scope name o = (slice_get ks o ≡ Some (scope, name)) × ((k : ℕ) → slice_get ks k ≡ Some (scope, name) → k ≡ o)
 

@@ -1,4 +1,4 @@
--- The operations of each interface stand for one name each, and the inherited ones stand first: what declaring names and ending
+-- The operations of each interface stand for one name each, and the inherited ones are first: what declaring names and ending
 -- declarations keep of that.
 use Rattle.std.proofs.Common.{◌≡◌, ◌⊎◌, inl, inr, ℕ, zero, suc, ◌+◌, ◌-◌, ◌<◌, ◌≤◌, arith, Bool, true, false, List, [], ◌∷◌, ◌++◌, append_assoc, append-nil, length, length-append, codes, set, Option, Some, None, refl, sym, ap, subst, ◌∙◌}
 use Rattle.std.specs.Prelude.{slice_get}
@@ -85,7 +85,7 @@ pub record AreInterfaces (t : Table) (ts : List Thing) : Type 0 where
   pub each : (i : ℕ) (bases os : List ℕ) → slice_get ts i ≡ Some (interface bases os) → IsInterface t ts i bases os
   pub placed : (k : ℕ) → is_container (sort_at t k) ≡ true → IsModuleAt t (scope_at t k)
 
--- what stands goes on to stand
+-- what is goes on to be
 pub record Keeps (t : Table) (ts : List Thing) (u : Table) (us : List Thing) : Type 0 where
   pub ops : (k : ℕ) (vs : List OperationView) (n : ℕ) → slice_get ts k ≡ Some (operations vs n) → slice_get us k ≡ Some (operations vs n)
   pub bases : (k : ℕ) → IsBase ts k → IsBase us k
@@ -167,7 +167,7 @@ pub among_scope : (ts : List Thing) (n : ℕ) (ss : List ℕ) → AreScopes ts n
 among_scope ts n [] h s m = absurd m
 among_scope ts n (c ∷ ss) h s m = elim m [ inl e ↦ subst (IsScopeOf ts n) (sym e) h.0 | inr r ↦ among_scope ts n ss h.1 s r ]
 
--- what stands in front of one more
+-- what is before one more
 pub get_front : {X : Type 0} (xs : List X) (x : X) (k : ℕ) → k < length xs → slice_get (xs ++ x ∷ []) k ≡ slice_get xs k
 get_front [] x k less = absurd (omega arith)
 get_front (y ∷ xs) x zero less = refl
@@ -294,7 +294,7 @@ set_base : (ts : List Thing) (i : ℕ) (x : Thing) → slice_get ts i ≡ Some n
 set_base ts i x there b d =
     set_elsewhere ts i b x (λ p. no_interface nothing d.bases d.operations refl (same_Some nothing _ (sym there ∙ ap (λ (j : ℕ). slice_get ts j) p ∙ d.there)))
 
--- an interface that stood before
+-- an interface that was before
 kept_set : (t : Table) (ts : List Thing) (i : ℕ) (sort : Sort) (x : Thing) → slice_get ts i ≡ Some nothing → is_finished (sort_at t i) ≡ false → (j : ℕ) (bs os : List ℕ) → IsInterface t ts j bs os
     → IsInterface (finished t i sort) (set ts i x) j bs os
 kept_set t ts i sort x there un j bs os d =
@@ -408,7 +408,7 @@ pub held_behind : (t : Table) (ts : List Thing) (ss : List ℕ) (o : ℕ) (os : 
 held_behind t ts ss o [] d h = (d, tt)
 held_behind t ts ss o (x ∷ os) d h = (h.0, held_behind t ts ss o os d h.1)
 
--- the interface whose scope is open, behind which none is declared
+-- the interface whose scope is open, after which none is declared
 pub record IsOpenAt (ts : List Thing) (scope : ℕ) : Type 0 where
   pub at : ℕ
   pub is : scope ≡ at + 1

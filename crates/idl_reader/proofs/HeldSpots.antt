@@ -1,4 +1,4 @@
--- Where in a text of IDL a label may stand, and whether in an interface.
+-- Where in a text of IDL a label may be, and whether in an interface.
 use Rattle.std.proofs.Common.{◌≡◌, ℕ, Bool, true, false, List, Option, Some, None, Ok, refl, ap, subst, ◌∙◌}
 use Rattle.std.specs.Prelude.{◌&&◌, if◌then◌else◌}
 use Rattle.std.proofs.lemmas.Bool.{and_parts}
@@ -93,7 +93,7 @@ held_within r m = both (goes_within r m.0) (holds_within r m.1)
 abbrev held_spots : Modes idl
 held_spots = record { Mode = HeldSpot; below = same_held; at = held_at; alone = held_alone; within = held_within }
 
--- what stands in brackets leads there
+-- what is in brackets leads there
 inside_after : (r : Inner) (m n : HeldSpot) → held_within r m ≡ Some n → after idl held_spots (idl.inside r) m ≡ Some n
 inside_after inner.ModuleBody (outside, false) n e = e
 inside_after inner.ModuleBody m n e = absurd (none-some n e)
@@ -178,7 +178,7 @@ module _ (I : HeldSpot → Built → Type 0)
       let b = truth_is m.1 n.1 p.1 in
       subst (λ (x : HeldSpot). I x s) (λ j. (a j, b j)) i
 
-  -- what each label keeps so is so behind a text
+  -- what each label keeps so is so after a text
   pub held_text : I (outside, false) nothing_built → (text : List ℕ) (new : Built) → Declares text new → I (outside, false) new
   held_text i text new w =
       rule_leads idl held_spots IsPlainName I only_same at_kind alone (SpelledInner idl 64) (inner_leads idl held_spots IsPlainName I only_same at_kind alone inside_after 64) file (outside, false) (outside, false) refl

@@ -9,7 +9,7 @@ use Rattle.idl_scopes.specs.Ids.{within, id_of}
 use Rattle.idl_scopes.proofs.Within.{is_not_0, around_file}
 use Rattle.idl_reader.proofs.CutNames.{has_slash, cut_last, cut_name, cut_path}
 
--- the scopes of a text in order: a name has no `/`, a scope's number is at most that of what stands in it, and a scope has no
+-- the scopes of a text in order: a name has no `/`, a scope's number is at most that of what is in it, and a scope has no
 -- two names that differ in case alone
 pub record InOrder (t : Table) : Type 0 where
   pub plain : (i : ℕ) → has_slash (lowered (name_at t i)) ≡ false
@@ -24,7 +24,7 @@ pub one_more : (n : ℕ) (t : Table) (scope : ℕ) → 0 < scope → within (suc
 unfolding within
 one_more n t scope k = ap (λ b. if b then [] else ((within n t (outer t scope) ++ name_at t (scope - 1)) ++ codes "/")) (is_not_0 scope k)
 
--- a path in lower case, with a name behind it, is cut between them
+-- a path in lower case, with a name after it, is cut between them
 cut_empty : (w n : List ℕ) → w ≡ [] → has_slash (lowered n) ≡ false → cut_last (lowered w ++ lowered n) ≡ (lowered w, lowered n)
 cut_empty w n e h = ap (λ (z : List ℕ). cut_last (lowered z ++ lowered n)) e ∙ cut_name (lowered n) h ∙ ap (λ (z : List ℕ). (lowered z, lowered n)) (sym e)
 

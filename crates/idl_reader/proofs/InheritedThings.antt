@@ -33,7 +33,7 @@ use Rattle.idl_reader.proofs.OperationNames.{IsIn, with_all, with_front, with_ea
 use Rattle.idl_reader.proofs.Standing.{orderly_text}
 use Rattle.idl_reader.proofs.Tables.{known_in, AreInOrder, in_order}
 
--- a list begins with its front
+-- a list begins with its prefix
 spelled_alike : (ns : Names) → pointwise bytes_eq ns ns ≡ true
 spelled_alike [] = refl
 spelled_alike (n ∷ ns) = and_from (bytes_eq n n) (pointwise bytes_eq ns ns) ((bytes_eq-Decides n n).1 refl) (spelled_alike ns)
@@ -75,7 +75,7 @@ module _ (us : List things.Thing) where
   pub inherited_is : (bases : List (List ℕ)) → inherited_names us bases ≡ with_names [] (given_names us bases)
   inherited_is bases = sym (one_by_one (given_names us (once bases))) ∙ given_once bases []
 
--- what stands among others stays there
+-- what is among others stays there
 from_left : (all : List Thing) (bs so_far : List ℕ) (o : ℕ) → IsAmong o so_far → IsAmong o (operations_from all so_far bs)
 from_left all [] so_far o m = m
 from_left all (b ∷ bs) so_far o m = from_left all bs (and_each so_far (operations_in (thing_in (slice_get all b)))) o (each_left so_far (operations_in (thing_in (slice_get all b))) o m)

@@ -1,4 +1,4 @@
--- At each spot of a text the operations of each interface stand for one name each, and the inherited ones stand first.
+-- At each spot of a text the operations of each interface stand for one name each, and the inherited ones are first.
 use Rattle.std.proofs.Common.{◌≡◌, ◌⊎◌, inl, inr, ℕ, zero, suc, ◌+◌, ◌-◌, ◌<◌, ◌≤◌, arith, Bool, true, false, not, ◌||◌, List, [], ◌∷◌, ◌++◌, length, length-append, map, set, Option, Some, None, Ok, refl, sym, ap, subst, ◌∙◌}
 use Rattle.std.specs.Prelude.{◌==◌, nat_lt, slice_get}
 use Rattle.std.specs.List.{list_any}
@@ -175,7 +175,7 @@ scope_set true t ts i sort x here there un plain h = record {
   last = λ j bs ks e. elim (get_set ts i j x (interface bs ks) e) [ inl q ↦ absurd (no_interface x bs ks plain q.1) | inr q ↦ h.last j bs ks q.1 ];
 }
 
--- a scope among those of an interface is that of an interface, which isn't behind it
+-- a scope among those of an interface is that of an interface, which isn't after it
 record InsideOf (ts : List Thing) (i scope : ℕ) : Type 0 where
   at : ℕ
   is : scope ≡ at + 1
@@ -238,7 +238,7 @@ clear_free true t ts scope name o keyed free h s i bs os e d n p f op m same =
           both_ways (list_any (is_operation_in t name) (above t scope)) more.1 (ap (λ (zs : List ℕ). list_any (is_operation_in t name) zs) over ∙ among_passes (is_operation_in t name) d.scopes q.0 held one)
     ]
 
--- a name in a body that is open stands in no interface
+-- a name in a body that is open is in no interface
 clear_inside : (t : Table) (ts : List Thing) (scope : ℕ) (name : List ℕ) → 0 < scope → slice_get ts (scope - 1) ≡ Some nothing → IsClear t ts scope name
 clear_inside t ts scope name some there i bs os e d n p f op m same =
     let r = in_interface t ts i bs os scope e d m in

@@ -32,7 +32,7 @@ module _ (g : Language) (d : Modes g) where
   again m None = None
   again m (Some n) = if d.below n m then Some m else None
 
-  -- the mode behind a rule
+  -- the mode after a rule
   abbrev pub after : RuleOf g → d.Mode → Option d.Mode
   after (one k l) m = d.at k l m
   after (does l) m = d.alone l m
@@ -77,13 +77,13 @@ module _ (g : Language) (d : Modes g) where
     goes_again m n None e = absurd (none-some n e)
     goes_again m n (Some k) e = let p = cond_some (d.below k m) m n e in (p.1, record { mode = k; is = refl; says = λ s i. h_below k m p.0 s i })
 
-    -- what is so behind a rule in a stronger mode is so in the weaker one
+    -- what is so after a rule in a stronger mode is so in the weaker one
     weakly : (P Q R : g.Built → Type 0) (spelled : List (MarkOf g) → Type 0) → ((s : g.Built) → Q s → R s) → Leads g T P spelled Q → Leads g T P spelled R
     weakly P Q R spelled f h ms s ts b c p e = f c (h ms s ts b c p e)
 
     module _ (inner : g.Inner → List (MarkOf g) → Type 0)
         (h_inner : (r : g.Inner) (m n : d.Mode) → d.within r m ≡ Some n → Leads g T (I m) (inner r) (I n)) where
-      -- what is so of the mode before a rule gives what is so of the mode behind it
+      -- what is so of the mode before a rule gives what is so of the mode after it
       pub rule_leads : (r : RuleOf g) (m n : d.Mode) → after r m ≡ Some n → Leads g T (I m) (Spelled g inner r) (I n)
       rule_leads (one k l) m n e = one_leads g T inner (I m) (I n) k l (h_at k l m n e)
       rule_leads (does l) m n e = does_leads g T inner (I m) (I n) l (h_alone l m n e)

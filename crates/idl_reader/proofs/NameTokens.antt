@@ -1,4 +1,4 @@
--- The names of a text: letters, digits and `_`, and none in front that is `_`. So no other character stands in a name.
+-- The names of a text: letters, digits and `_`, and none before that is `_`. So no other character is in a name.
 use Rattle.std.proofs.Common.{◌≡◌, inl, inr, ℕ, zero, suc, ◌+◌, ◌-◌, ◌≤◌, arith, Bool, true, false, cond, not, List, [], ◌∷◌, length, take, Option, Some, None, refl, sym, ap, subst, ◌∙◌}
 use Rattle.std.specs.Prelude.{◌==◌, ◌||◌, ◌&&◌, nat_lt, unwrap_or, if◌then◌else◌}
 use Rattle.std.specs.List.{list_all, list_any, starts_with, prefix_len}
@@ -45,7 +45,7 @@ abbrev pub begins_low : List ℕ → Bool
 begins_low [] = false
 begins_low (b ∷ z) = b == 95
 
--- what a name is: letters, digits and `_`, and no `_` in front
+-- what a name is: letters, digits and `_`, and no `_` before
 abbrev pub IsNameText : List ℕ → Type 0
 IsNameText z = (list_all is_name_byte z ≡ true) × (begins_low z ≡ false)
 

@@ -10,7 +10,7 @@ use Rattle.idl_names.specs.Views.{thing_of}
 use Rattle.idl_names.specs.declared.state.Thing.{Thing}
 use Rattle.idl_reader.specs.Declared.{operations_of, declared_at, listed, declared_from}
 
--- where no name stands, no operation is given
+-- where no name is, no operation is given
 pub none_given : (os : List things.OperationView) (ts : List Thing) (i : ℕ) → slice_get ts i ≡ None → os ≡ os ++ operations_of (thing_in (slice_get (map thing_of ts) i))
 none_given os ts i e =
     sym (append-nil os) ∙ ap (λ (o : Option names.Thing). os ++ operations_of (thing_in o)) (sym (slice_get-map thing_of ts i ∙ ap (option_map thing_of) e))
@@ -21,7 +21,7 @@ thing_next ts i x h is =
     drop_more (map thing_of ts) i (thing_of x) (omega arith)
     ∙ ap (λ (t : names.Thing). t ∷ drop (i + 1) (map thing_of ts)) (get_or-map thing_of ts i x (thing_of x) h ∙ ap thing_of (sym is))
 
--- what one name more declares stands behind what those before it do
+-- what one name more declares is after what those before it do
 pub declares_on : (table : Table) (all : List names.Thing) (ts : List Thing) (i : ℕ) (x : Thing) (old new total : List things.Thing) → i < length ts → x ≡ get_or ts i x
     → new ≡ old ++ listed (declared_at table all i (thing_of x)) → old ++ declared_from table all i (drop i (map thing_of ts)) ≡ total
     → new ++ declared_from table all (i + 1) (drop (i + 1) (map thing_of ts)) ≡ total

@@ -65,7 +65,7 @@ distinct_both (x ∷ xs) ys h k f = (
   distinct_both xs ys h.1 k (λ n a b. f n (inr a) b),
 )
 
--- a name is added behind others where it is none of them
+-- a name is added after others where it is none of them
 pub with_none : (ns more : Names) → AreDistinct more → ((n : List ℕ) → IsIn n more → IsIn n ns → ⊥) → with_names ns more ≡ ns ++ more
 with_none ns [] d f = sym (append-nil ns)
 with_none ns (n ∷ more) d f =
@@ -163,7 +163,7 @@ names_differ name ns h = elim h [
   ]
 ]
 
--- the names of what stands at a place, and at several
+-- the names of what is at a place, and at several
 abbrev pub names_at : List Thing → ℕ → Names
 names_at all o = operation_names (operations_of (thing_in (slice_get all o)))
 
@@ -229,7 +229,7 @@ module _ (t : Table) (all : List Thing) (ss : List ℕ) (order : AreInOrder (kno
   among_held [] h o m = absurd m
   among_held (x ∷ os) h o m = elim m [ inl e ↦ subst (IsHeld t all ss) (sym e) h.0 | inr r ↦ among_held os h.1 o r ]
 
-  -- the names of operations, each of which stands once
+  -- the names of operations, each of which is there once
   pub all_distinct : (os : List ℕ) → AreHeld t all ss os → AreOnce os → AreDistinct (all_names all os)
   all_distinct [] h d = tt
   all_distinct (o ∷ os) h d =

@@ -80,7 +80,7 @@ module _ (t : Table) (o : InOrder t) (free : (i : ℕ) → scope_at t i ≡ 0 �
   behind_id : (rest : List ℕ) → lowered (take 8 (codes "IDL:" ++ rest)) ≡ lowered (codes "IDL:Orb/") → lowered (take 4 rest) ≡ 111 ∷ 114 ∷ 98 ∷ 47 ∷ []
   behind_id rest e = let h : 105 ∷ 100 ∷ 108 ∷ 58 ∷ lowered (take 4 rest) ≡ 105 ∷ 100 ∷ 108 ∷ 58 ∷ 111 ∷ 114 ∷ 98 ∷ 47 ∷ [] = e in cc
 
-  -- nor does it stand in it
+  -- nor does it are in it
   pub own_id : (i : ℕ) → i < length t.declared → is_reserved (id_of t i) ≡ false
   own_id i h =
       let n = length t.declared in

@@ -111,7 +111,7 @@ pub keys_behind : (ks : List (ℕ × List ℕ)) (scope : ℕ) (ns : List (List �
 keys_behind ks scope [] n h k = (k, tt)
 keys_behind ks scope (m ∷ ns) n h k = (h.0, keys_behind ks scope ns n h.1 k)
 
--- names are declared behind others, and the parameters are the same
+-- names are declared after others, and the parameters are the same
 record Grows (s c : Built) : Type 0 where
   more : List (ℕ × List ℕ)
   keys : c.scopes.keys ≡ s.scopes.keys ++ more
@@ -188,7 +188,7 @@ counted_same s n p r h = leaves_then s r (counted n p) h (λ x k. leaves_counted
 abbrev Keeps : Built → Done → Type 0
 Keeps s r = Gives (Grows s) r
 
--- behind steps that leave all as it is
+-- after steps that leave all as it is
 keeps_behind : (s : Built) (r : Done) (f : Built → Built) → Gives (Same s) r → ((x : Built) → x.scopes.keys ≡ (f x).scopes.keys) → ((x : Built) → x.parts.params ≡ (f x).parts.params) → Keeps s (r >>= (λ x. Ok (f x)))
 keeps_behind s r f h a b = gives_then (Same s) (Grows s) r (λ x. Ok (f x)) h (λ x k. gives_ok (Grows s) (f x) (grows_as s x (f x) (grows_same s x k) (a x) (b x)))
 

@@ -1,4 +1,4 @@
--- Where in a text of IDL a label may stand, and that each text goes from place to place.
+-- Where in a text of IDL a label may be, and that each text goes from place to place.
 use Rattle.std.proofs.Common.{◌≡◌, ℕ, Bool, true, false, List, Option, Some, None, Ok, refl, ap, subst, ◌∙◌}
 use Rattle.std.specs.Prelude.{if◌then◌else◌}
 use Rattle.std.proofs.lemmas.Option.{none-some}
@@ -21,13 +21,13 @@ use Rattle.idl_reader.proofs.NameTokens.{is_name, IsNameText, IsPlainName, plain
 use Rattle.idl_reader.proofs.KeptLabels.{declares}
 use Rattle.idl_reader.proofs.Modes.{Modes, after, rule_leads, inner_leads}
 
--- where a label stands
+-- where a label is
 pub data Spot : Type 0 where
   -- no declaration is read
   outside : Spot
   -- the head of an interface, whose name is declared
   heading : Spot
-  -- and behind its bases
+  -- and after its bases
   based : Spot
   -- a type, a constant or a parameter whose name is declared
   named : Spot
@@ -58,7 +58,7 @@ spot_is m n e = absurd cc
 abbrev only : Spot → Spot → Spot → Option Spot
 only from to m = if same_spot from m then Some to else None
 
--- behind a name that begins a type or a part of one
+-- after a name that begins a type or a part of one
 abbrev declared_at : Spot → Option Spot
 declared_at outside = Some named
 declared_at inside = Some part
@@ -103,7 +103,7 @@ goes_alone l.EndConst m = only named outside m
 goes_alone l.EndOperation m = only inside outside m
 goes_alone label m = Some m
 
--- where what stands in brackets leads
+-- where what is in brackets leads
 abbrev pub goes_within : Inner → Spot → Option Spot
 goes_within inner.ModuleBody m = only outside outside m
 goes_within inner.InterfaceBody m = only outside outside m
@@ -120,7 +120,7 @@ goes_within r m = Some m
 abbrev pub spots : Modes idl
 spots = record { Mode = Spot; below = same_spot; at = goes_at; alone = goes_alone; within = goes_within }
 
--- what stands in brackets leads there
+-- what is in brackets leads there
 inside_after : (r : Inner) (m n : Spot) → goes_within r m ≡ Some n → after idl spots (idl.inside r) m ≡ Some n
 inside_after inner.ModuleBody outside n e = e
 inside_after inner.ModuleBody m n e = absurd (none-some n e)
@@ -176,7 +176,7 @@ module _ (I : Spot → Built → Type 0)
   only_same : (m n : Spot) → same_spot m n ≡ true → (s : Built) → I m s → I n s
   only_same m n e s i = subst (λ (k : Spot). I k s) (spot_is m n e) i
 
-  -- what each label keeps so is so behind a text
+  -- what each label keeps so is so after a text
   pub text_keeps : I outside nothing_built → (text : List ℕ) (new : Built) → Declares text new → I outside new
   text_keeps i text new w =
       rule_leads idl spots IsPlainName I only_same at_kind h_alone (SpelledInner idl 64) (inner_leads idl spots IsPlainName I only_same at_kind h_alone inside_after 64) file outside outside refl

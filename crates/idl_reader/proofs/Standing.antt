@@ -1,4 +1,4 @@
--- How the scopes and the things of a text stand, at each of the spots where a label may stand.
+-- How the scopes and the things of a text are, at each of the spots where a label may be.
 use Rattle.std.proofs.Common.{◌≡◌, ℕ, ◌+◌, ◌-◌, ◌<◌, arith, true, List, [], ◌∷◌, ◌++◌, length, length-append, set, Some, Ok, refl, sym, ap, subst, ◌∙◌}
 use Rattle.std.specs.Prelude.{slice_get}
 use Rattle.std.proofs.lemmas.Option.{none-some, same_Some}
@@ -181,7 +181,7 @@ nothing_orderly = record { names = no_names_in_order; keyed = refl; inside = ome
 pub orderly_text : (text : List ℕ) (new : Built) → Declares text new → IsOrderly new
 orderly_text text new w = text_keeps Stands stands_at stands_alone nothing_orderly text new w
 
--- and what each label keeps where names and things stand so
+-- and what each label keeps where names and things are so
 module _ (I : Spot → Built → Type 0)
     (h_at : (label : IdlLabel) (m n : Spot) → goes label m ≡ Some n → (t : Placed Kind) → (s c : Built) → Stands m s → I m s → act label t s ≡ Ok c → I n c)
     (h_alone : (label : IdlLabel) (m n : Spot) → goes_alone label m ≡ Some n → (s c : Built) → Stands m s → I m s → judge label s ≡ Ok c → I n c) where

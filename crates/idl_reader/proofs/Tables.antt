@@ -28,13 +28,13 @@ known_in ds = map known ds
 abbrev pub key_of : ℕ × List ℕ → ℕ × List ℕ
 key_of p = (p.0, lowered p.1)
 
--- names in scopes, in order: each is spelled as a name, each stands inside of what was declared before, and no two are one name of one scope
+-- names in scopes, in order: each is spelled as a name, each is inside of what was declared before, and no two are one name of one scope
 pub record AreInOrder (ps : List (ℕ × List ℕ)) : Type 0 where
   pub plain : (i : ℕ) (p : ℕ × List ℕ) → slice_get ps i ≡ Some p → IsNameText p.1
   pub inwards : (i : ℕ) (p : ℕ × List ℕ) → slice_get ps i ≡ Some p → p.0 ≤ i
   pub apart : (i j : ℕ) (p q : ℕ × List ℕ) → slice_get ps i ≡ Some p → slice_get ps j ≡ Some q → p.0 ≡ q.0 → lowered p.1 ≡ lowered q.1 → i ≡ j
 
--- one of the elements, or the one behind them
+-- one of the elements, or the one after them
 pub get_behind : {X : Type 0} (xs : List X) (y x : X) (i : ℕ) → slice_get (xs ++ y ∷ []) i ≡ Some x → (slice_get xs i ≡ Some x) ⊎ ((i ≡ length xs) × (y ≡ x))
 get_behind [] y x zero e = inr (refl, same_Some y x e)
 get_behind [] y x (suc i) e = absurd (none-some x e)
@@ -111,7 +111,7 @@ same_known t i sort = finished_known t.declared i sort (slice_get t.declared i) 
 pub known_added : (scope : ℕ) (name : List ℕ) (place : Place) (sort : Sort) (t : Table) → known_in (added scope name place sort t).declared ≡ known_in t.declared ++ (scope, name) ∷ []
 known_added scope name place sort t = map-append known t.declared (record { scope = scope; name = name; place = place; sort = sort } ∷ [])
 
--- what stands at a place
+-- what is at a place
 scope_from : (ds : List Declared) (i : ℕ) (o : Option Declared) → slice_get ds i ≡ o → AreInOrder (known_in ds) → scope_in o ≤ i
 scope_from ds i None e h = omega arith
 scope_from ds i (Some d) e h = h.inwards i (known d) (slice_get-map known ds i ∙ ap (λ (o : Option Declared). option_map known o) e)

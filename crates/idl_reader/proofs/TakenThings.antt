@@ -1,4 +1,4 @@
--- A repository takes each thing that a text declares, behind those before it.
+-- A repository takes each thing that a text declares, after those before it.
 use Rattle.std.proofs.Common.{◌≡◌, ℕ, ◌+◌, ◌<◌, true, not, ◌&&◌, List, [], ◌∷◌, ◌++◌, append_assoc, append-nil, length, map, drop, get_or, Option, Some, None, refl, sym, ap, subst, ◌∙◌}
 use Rattle.std.specs.Prelude.{nat_le}
 use Rattle.std.specs.List.{list_all}
@@ -96,7 +96,7 @@ repositories_take_texts text ts w =
     each_taken [] ts (texts_give_new_ids text ts w) (texts_give_earlier_bases text ts w) (texts_give_small_types text ts w) (texts_give_apart_names text ts w) (texts_give_lawful_types text ts w) (texts_give_apart_params text ts w)
     (texts_give_apart_operations text ts w) (texts_inherit_first text ts w) (texts_leave_room text ts w)
 
--- the one behind those before it
+-- the one after those before it
 pub each_behind : (P : List Thing → Thing → Type 0) (before old : List Thing) (t : Thing) (rest : List Thing) → Each P before (old ++ t ∷ rest) → P (before ++ old) t
 each_behind P before [] t rest h = subst (λ (us : List Thing). P us t) (sym (append-nil before)) h.0
 each_behind P before (u ∷ old) t rest h = subst (λ (us : List Thing). P us t) (append_assoc before (u ∷ []) old) (each_behind P (before ++ u ∷ []) old t rest h.1)
@@ -105,7 +105,7 @@ taken_of : (old : List Thing) (o : Option Thing) (rest : List Thing) → Each Ma
 taken_of old None rest h = tt
 taken_of old (Some t) rest h = each_behind MayDeclare [] old t rest h
 
--- what the next name declares, behind what those before it do
+-- what the next name declares, after what those before it do
 pub taken_next : (table : Table) (all : List names.Thing) (ts : List names_declared.Thing) (i : ℕ) (x : names_declared.Thing) (old total : List Thing) → i < length ts → x ≡ get_or ts i x
     → old ++ declared_from table all i (drop i (map thing_of ts)) ≡ total → Each MayDeclare [] total → Takes old (declared_at table all i (thing_of x))
 taken_next table all ts i x old total less is so_far h =

@@ -1,4 +1,4 @@
--- What is so before a rule is read, and what is so behind it.
+-- What is so before a rule is read, and what is so after it.
 use Rattle.std.proofs.Common.{◌≡◌, ℕ, zero, suc, true, List, [], ◌∷◌, ◌++◌, Ok, sym, subst, ◌∙◌, inl, inr}
 use Rattle.grammar.specs.Rules.{one, does, ◌then◌, ◌or◌, maybe, many, chained, nested}
 use Rattle.grammar.specs.Language.{Placed, Language, RuleOf}
@@ -14,7 +14,7 @@ pub each_second : {K : Type 0} (T : Placed K → Type 0) (x y : List (Placed K))
 each_second T [] y h = h
 each_second T (t ∷ x) y h = each_second T x y h.1
 
--- what is so before these marks gives what is so behind them, where their tokens are such
+-- what is so before these marks gives what is so after them, where their tokens are such
 abbrev pub Leads : (g : Language) → (Placed g.Kind → Type 0) → (g.Built → Type 0) → (List (MarkOf g) → Type 0) → (g.Built → Type 0) → Type 0
 Leads g T P spelled Q = (ms : List (MarkOf g)) → spelled ms → EachToken T (tokens_of ms) → (b c : g.Built) → P b → acts g ms b ≡ Ok c → Q c
 

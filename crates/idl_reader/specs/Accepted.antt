@@ -13,7 +13,7 @@ use Rattle.idl_types.specs.Names.{operation_names}
 use Rattle.idl_types.specs.Sound.{is_reserved, has_bases_in, counted_leaves, file_leaves, most_leaves, most_levels, most_file_leaves}
 use Rattle.idl_reader.specs.Whole.{Declares}
 
--- so of each thing with those before it, behind these things
+-- so of each thing with those before it, after these things
 abbrev pub Each : (List Thing → Thing → Type 0) → List Thing → List Thing → Type 0
 Each P before [] = Unit {0}
 Each P before (t ∷ ts) = P before t × Each P (before ++ t ∷ []) ts

@@ -26,13 +26,13 @@ pub record Declares (text : List ℕ) (things : List Thing) : Type 0 where
   pub names : names.Declares text new
   pub told : things ≡ declared new
 
--- the things that a text declares, or its first token at fault; want of memory tells nothing
+-- the things that a text declares, or its first token at fault; out of memory says nothing
 abbrev pub TellsThings : Result Repository (ReadError IdlFault) → List ℕ → Type 0
 TellsThings (Ok r) text = Declares text (things_of r)
 TellsThings (Err (answer.Refused f)) text = names.IsFirstFault text f
 TellsThings (Err answer.NoMemory) text = Unit {0}
 
--- where a text declares things, they are what is told, unless memory runs out
+-- where a text declares things, they are what is given, unless memory runs out
 abbrev pub TellsOnly : Result Repository (ReadError IdlFault) → List Thing → Type 0
 TellsOnly (Ok r) things = things_of r ≡ things
 TellsOnly (Err (answer.Refused f)) things = ⊥

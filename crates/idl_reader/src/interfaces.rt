@@ -14,7 +14,7 @@ use idl_types::Operation;
 use orb_base::{List, NoMemory, Text};
 use std::alloc::Global;
 
-/// The repository id of the declaration at a place. No name has a NUL; one that had would be told as want of memory.
+/// The repository id of the declaration at a place. No name has a NUL; one that had would be given as out of memory.
 pub(crate) fn id_text(scopes: &Scopes, at: usize) -> Result<Text, NoMemory>
     ensures { IfOk result (λ t. t ≡ ids.id_of (table_of scopes.now) at) }
 {
@@ -35,7 +35,7 @@ pub(crate) fn ids_of(alloc: Global, scopes: &Scopes, places: &[u32]) -> Result<L
     Ok(List::from_vec(ids))
 }
 
-/// Copies of operations behind others.
+/// Copies of operations after others.
 fn add_copies(
     alloc: Global,
     found: &mut Vec<Operation>,
@@ -49,7 +49,7 @@ fn add_copies(
     Ok(())
 }
 
-/// Copies of the operations that a name stands for, behind others.
+/// Copies of the operations that a name stands for, after others.
 fn add_operations(alloc: Global, found: &mut Vec<Operation>, thing: &Thing) -> Result<(), NoMemory>
     ensures { OnOk result (map operation_of found.new.items ≡ map operation_of found.old.items ++ operations_of (thing_of thing.now)) }
 {
@@ -59,7 +59,7 @@ fn add_operations(alloc: Global, found: &mut Vec<Operation>, thing: &Thing) -> R
     }
 }
 
-/// Copies of the operations of the name at a place, behind others.
+/// Copies of the operations of the name at a place, after others.
 fn add_operations_at(
     alloc: Global,
     found: &mut Vec<Operation>,

@@ -47,7 +47,7 @@ pub fn texts_leave_room()
     ensures { TextsGive HasLeavesLeft }
 {}
 
-/// A repository takes each thing that a text declares behind those before it: all of the above, and nothing else is asked.
+/// A repository takes each thing that a text declares after those before it: all of the above, and nothing else is asked.
 pub fn repositories_take_texts()
     ensures { TextsGive MayDeclare }
 {}

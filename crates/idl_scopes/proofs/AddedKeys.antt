@@ -1,4 +1,4 @@
--- A key that isn't there is added behind the others, and a declaration behind the others.
+-- A key that isn't there is added after the others, and a declaration after the others.
 use Rattle.std.proofs.Common.{◌≡◌, ℕ, Bool, false, List, [], ◌∷◌, ◌++◌, map, sym, ap, ◌∙◌}
 use Rattle.std.specs.Prelude.{if◌then◌else◌}
 use Rattle.std.specs.List.{list_any}

@@ -15,7 +15,7 @@ use Rattle.idl_scopes.specs.Declarations.{declared_of}
 use Rattle.idl_scopes.specs.Groups.{clashes_in, clashes_here, clashes_at}
 use Rattle.idl_scopes.specs.declared.declared.Declared.{Declared}
 
--- one that passes stands somewhere
+-- one that passes is somewhere
 passes : {X : Type 0} (p : X → Bool) (xs : List X) → list_any p xs ≡ true → (i : ℕ) × (x : X) × (slice_get xs i ≡ Some x) × (p x ≡ true)
 passes p [] any = absurd cc
 passes p (x ∷ xs) any = elim (or_cases (p x) (list_any p xs) any) [

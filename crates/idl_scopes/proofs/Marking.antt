@@ -64,7 +64,7 @@ marked_twice m xs x n new are there set = set ∙ by (n == x) refl ∙ are n
     by false e = ap (λ b. b || m n) e
 
 module _ (before several : List ℕ) where
-  -- one number behind the new ones
+  -- one number after the new ones
   pub each_new : (items next : List ℕ) (i x : ℕ) (m b : Bool) (total : List ℕ) → i < length several → slice_index_or several i 0 ≡ x → m ≡ has (before ++ items) x → b ≡ not m → b ≡ true → next ≡ items ++ x ∷ []
       → and_each (before ++ items) (drop i several) ≡ total → and_each (before ++ next) (drop (i + 1) several) ≡ total
   each_new items next i x m b total lt is has said new put reached =
@@ -75,7 +75,7 @@ module _ (before several : List ℕ) where
       ∙ sym (at_drop_more (and_each (before ++ items)) several i 0 lt)
       ∙ reached
 
-  -- one that stands there already
+  -- one that is there already
   pub each_old : (items : List ℕ) (i x : ℕ) (m b : Bool) (total : List ℕ) → i < length several → slice_index_or several i 0 ≡ x → m ≡ has (before ++ items) x → b ≡ not m → b ≡ false
       → and_each (before ++ items) (drop i several) ≡ total → and_each (before ++ items) (drop (i + 1) several) ≡ total
   each_old items i x m b total lt is has said old reached =

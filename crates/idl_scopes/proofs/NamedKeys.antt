@@ -18,7 +18,7 @@ use Rattle.idl_scopes.specs.Groups.{listed, numbers_of, same_name, named_in}
 use Rattle.idl_scopes.specs.declared.groups.Groups.{Groups}
 use Rattle.idl_scopes.specs.declared.known.Known.{Known}
 
--- what stands at a place that was looked up
+-- what is at a place that was looked up
 pub placed : {X : Type 0} (p : X → Bool) (xs : List X) (i : ℕ) → position p xs ≡ Some i → (x : X) × (slice_get xs i ≡ Some x) × (p x ≡ true)
 placed {X} p xs i e =
     let h = cond_some (ltb (position_or_len p xs) (length xs)) (position_or_len p xs) i e in

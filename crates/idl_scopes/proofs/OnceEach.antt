@@ -1,4 +1,4 @@
--- Numbers of which each stands once.
+-- Numbers of which each is there once.
 use Rattle.std.proofs.Common.{◌≡◌, ◌≤◌, ◌<◌, ℕ, Bool, true, false, ◌||◌, List, [], ◌∷◌, ◌++◌, inl, inr, refl, sym, ap, subst, ◌∙◌, eqb-true, eq-eqb, arith}
 use Rattle.std.specs.Prelude.{◌==◌, if◌then◌else◌}
 use Rattle.std.proofs.lemmas.Bool.{or_cases, or_left, or_right}
@@ -86,7 +86,7 @@ above l m xs n within lt = by (has xs n) refl
     by true is = let e = (within n is).1 in absurd (omega (arith, lt, e))
     by false is = refl
 
--- a list whose scopes all are above those before it, and below the one in front of it
+-- a list whose scopes all are above those before it, and below the one before it
 pub all_above : (l m l' m' s : ℕ) (xs ys : List ℕ) → IsWithin l m xs → IsWithin l' m' ys → IsOnce ys → m < s → m < l' → m' < s → and_each xs (s ∷ ys) ≡ xs ++ s ∷ ys
 all_above l m l' m' s xs ys front back once own low high =
     ap (λ (zs : List ℕ). and_each zs (s ∷ ys)) (sym (append-nil xs))

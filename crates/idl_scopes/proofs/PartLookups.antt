@@ -1,4 +1,4 @@
--- Looking up in scopes that stand in parts, as far as a loop has come.
+-- Looking up in scopes that are in parts, as far as a loop has come.
 use Rattle.std.proofs.Common.{◌≡◌, ◌≤◌, ◌+◌, ◌<◌, ◌||◌, ℕ, Bool, true, false, List, ◌++◌, length, drop, Option, Some, None, sym, ap, ◌∙◌}
 use Rattle.std.specs.Prelude.{Vec}
 use Rattle.std.specs.declared.alloc.Global.{Global}

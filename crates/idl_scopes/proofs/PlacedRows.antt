@@ -20,7 +20,7 @@ placed_kept g g' n (d ∷ ds) kept all =
     and_from (Placed g' d n) (placed_in g' (n + 1) ds) (kept d.scope n p.0) (placed_kept g g' (n + 1) ds kept p.1)
 
 module _ (g : Groups ℕ) where
-  -- what stands at a place is there
+  -- what is at a place is there
   at : (n : ℕ) (ds : List Declared) (i : ℕ) (d : Declared) → placed_in g n ds ≡ true → slice_get ds i ≡ Some d → Placed g d (n + i) ≡ true
   at n [] i d all is = absurd (none-some d is)
   at n (x ∷ xs) zero d all is =

@@ -1,4 +1,4 @@
--- Lists in parts, one part behind the other.
+-- Lists in parts, one part after the other.
 use Rattle.std.proofs.Common.{◌≡◌, ◌≤◌, ◌+◌, ◌<◌, ℕ, List, [], ◌∷◌, ◌++◌, length, drop, append_assoc, refl, sym, ap, ◌∙◌}
 use Rattle.std.specs.Prelude.{Vec}
 use Rattle.std.specs.declared.alloc.Global.{Global}
@@ -32,6 +32,6 @@ parts_next parts n d items so_far next behind total lt is added reached =
 pub parts_end : (parts : List (Vec ℕ Global)) (n : ℕ) (so_far behind total : List ℕ) → length parts ≤ n → so_far ++ (in_parts (drop n parts) ++ behind) ≡ total → so_far ++ behind ≡ total
 parts_end parts n so_far behind total le reached = ap (λ (zs : List (Vec ℕ Global)). so_far ++ (in_parts zs ++ behind)) (sym (drop_all n parts le)) ∙ reached
 
--- the first scopes of a list, put behind others
+-- the first scopes of a list, put after others
 pub put_first : (old front behind next : List ℕ) → next ≡ old ++ front → next ++ behind ≡ old ++ (front ++ behind)
 put_first old front behind next is = ap (λ (zs : List ℕ). zs ++ behind) is ∙ joins old front behind

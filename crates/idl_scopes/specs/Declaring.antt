@@ -19,7 +19,7 @@ finished_in ds i sort (Some d) = set ds i (record d { sort = sort })
 abbrev pub finished : Table → ℕ → Sort → Table
 finished t i sort = record t { declared = finished_in t.declared i sort (slice_get t.declared i) }
 
--- a name that isn't taken is declared, a name that is taken clashes, and after want of memory nothing is said
+-- a name that isn't taken is declared, a name that is taken clashes, and once out of memory nothing is said
 abbrev pub Declares : Result (Unit {0}) DeclareFault → Table → Bool → Table → Type 0
 Declares (Ok x) new taken with_it = (taken ≡ false) × (new ≡ with_it)
 Declares (Err Clash) new taken with_it = taken ≡ true

@@ -1,4 +1,4 @@
--- Numbers of which each stands once.
+-- Numbers of which each is there once.
 use Rattle.std.specs.Prelude.{◌≡◌, ◌≤◌, ℕ, ◌==◌, Bool, true, List, [], ◌∷◌, ◌++◌, if◌then◌else◌}
 use Rattle.std.specs.List.{list_any}
 
@@ -6,7 +6,7 @@ use Rattle.std.specs.List.{list_any}
 abbrev pub has : List ℕ → ℕ → Bool
 has xs x = list_any (λ y. x == y) xs
 
--- a number behind others, unless it is among them
+-- a number after others, unless it is among them
 abbrev pub and_new : List ℕ → ℕ → List ℕ
 and_new xs x = if has xs x then xs else xs ++ x ∷ []
 
@@ -15,7 +15,7 @@ abbrev pub and_each : List ℕ → List ℕ → List ℕ
 and_each xs [] = xs
 and_each xs (y ∷ ys) = and_each (and_new xs y) ys
 
--- each stands once
+-- each is there once
 abbrev pub IsOnce : List ℕ → Type 0
 IsOnce xs = and_each [] xs ≡ xs
 

@@ -9,22 +9,22 @@ use Rattle.idl_scopes.specs.Table.{Sort, unfinished, module_, interface, operati
 abbrev pub lowered : List ℕ → List ℕ
 lowered name = map to_ascii_lowercase name
 
--- what stands at a place: behind the last declaration nothing that is found
+-- what is at a place: after the last declaration nothing that is found
 abbrev pub sort_in : Option Declared → Sort
 sort_in None = unfinished
 sort_in (Some d) = d.sort
 
--- the scope that it is declared in, and the file's where nothing stands
+-- the scope that it is declared in, and the file's where nothing is
 abbrev pub scope_in : Option Declared → ℕ
 scope_in None = 0
 scope_in (Some d) = d.scope
 
--- its name, and none where nothing stands
+-- its name, and none where nothing is
 abbrev pub name_in : Option Declared → List ℕ
 name_in None = []
 name_in (Some d) = d.name
 
--- where its name stands in the text
+-- where its name is in the text
 abbrev pub place_of : Option Declared → Place
 place_of None = record { line = 0; column = 0 }
 place_of (Some d) = d.place
@@ -41,7 +41,7 @@ scope_at t i = scope_in (slice_get t.declared i)
 abbrev pub name_at : Table → ℕ → List ℕ
 name_at t i = name_in (slice_get t.declared i)
 
--- where its name stands
+-- where its name is
 abbrev pub place_at : Table → ℕ → Place
 place_at t i = place_of (slice_get t.declared i)
 
@@ -81,7 +81,7 @@ place_in t name scope = position (is_at scope (lowered name)) t.keys
 abbrev pub is_spelled : List ℕ → Declared → Bool
 is_spelled name d = bytes_eq d.name name && is_finished d.sort
 
--- something stands there, spelled so and found
+-- something is there, spelled so and found
 abbrev pub is_spelled_in : List ℕ → Option Declared → Bool
 is_spelled_in name None = false
 is_spelled_in name (Some d) = is_spelled name d

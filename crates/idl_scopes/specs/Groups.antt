@@ -40,7 +40,7 @@ abbrev pub placed_in : Groups ℕ → ℕ → List Declared → Bool
 placed_in g n [] = true
 placed_in g n (d ∷ ds) = holds (numbers_of nat_eq g d.scope) n && placed_in g (n + 1) ds
 
--- the scope of a key, in front of others
+-- the scope of a key, before others
 abbrev pub with_scope : Option (ℕ × List ℕ) → List ℕ → List ℕ
 with_scope None scopes = scopes
 with_scope (Some k) scopes = k.0 ∷ scopes
@@ -62,7 +62,7 @@ AreOwners t name scopes = (scope : ℕ) → is_operation_in t name scope ≡ tru
 abbrev pub clashes_in : Table → List ℕ → List ℕ → ℕ → t.Declared → Bool
 clashes_in t earlier later scope d = (scope == d.scope) && differs (among t d.name earlier) (among t d.name later)
 
--- what stands at a place is one
+-- what is at a place is one
 abbrev pub clashes_here : Table → List ℕ → List ℕ → ℕ → Option t.Declared → Bool
 clashes_here t earlier later scope None = false
 clashes_here t earlier later scope (Some d) = clashes_in t earlier later scope d

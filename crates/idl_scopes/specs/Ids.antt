@@ -3,7 +3,7 @@ use Rattle.std.specs.Prelude.{ℕ, zero, suc, ◌-◌, ◌==◌, List, [], ◌++
 use Rattle.idl_scopes.specs.Table.{Table}
 use Rattle.idl_scopes.specs.Finding.{scope_at, name_at, outer}
 
--- the names of a scope and of those around it, up to so many, each with a `/` behind it
+-- the names of a scope and of those around it, up to so many, each with a `/` after it
 unfoldable pub within : ℕ → Table → ℕ → List ℕ
 within zero t scope = []
 within (suc n) t scope = if scope == 0 then [] else ((within n t (outer t scope) ++ name_at t (scope - 1)) ++ codes "/")

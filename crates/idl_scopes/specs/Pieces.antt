@@ -3,7 +3,7 @@ use Rattle.std.specs.Prelude.{ℕ, List, [], ◌∷◌, ◌++◌, Vec}
 use Rattle.std.specs.declared.alloc.Global.{Global}
 use Rattle.idl_scopes.specs.declared.pieces.Pieces.{Pieces}
 
--- one part behind the other
+-- one part after the other
 abbrev pub in_parts : List (Vec ℕ Global) → List ℕ
 in_parts [] = []
 in_parts (part ∷ parts) = part.items ++ in_parts parts

@@ -14,7 +14,7 @@ pub data Sort : Type 0 where
   operation : Sort
   other : Sort
 
--- a declaration: the scope in which it stands, its name as it is spelled, where the name stands, and what it is
+-- a declaration: the scope in which it is, its name as it is spelled, where the name is, and what it is
 pub record Declared : Type 0 where
   pub scope : ℕ
   pub name : List ℕ

@@ -18,7 +18,7 @@ is_taken_part t name scope = is_keyword (lowered name) || is_in t name scope
 abbrev pub is_named : List ℕ → Declared → Bool
 is_named name d = str_eq_ignore_ascii_case d.name name
 
--- something stands there, and has this name
+-- something is there, and has this name
 abbrev pub is_named_in : List ℕ → Option Declared → Bool
 is_named_in name None = false
 is_named_in name (Some d) = is_named name d

@@ -32,7 +32,7 @@ fn differs(a: Option<usize>, b: Option<usize>) -> bool
     }
 }
 
-/// Puts the scopes that such a declaration inherits behind others.
+/// Puts the scopes that such a declaration inherits after others.
 fn put_inherited(sort: &Sort, scopes: &mut Vec<usize>) -> Result<(), NoMemory>
     ensures { OnOk result (scopes.new.items ≡ scopes.old.items ++ inherited (sort_of sort.now)) }
 {
@@ -59,7 +59,7 @@ fn inherit_from(
 }
 
 impl Scopes {
-    /// Puts the scopes that the declaration at a place inherits behind others.
+    /// Puts the scopes that the declaration at a place inherits after others.
     fn put_inherited_at(&self, at: usize, scopes: &mut Vec<usize>) -> Result<(), NoMemory>
         ensures { OnOk result (scopes.new.items ≡ scopes.old.items ++ inherited (sort_at (table_of self.now) at)) }
     {
@@ -79,10 +79,10 @@ impl Scopes {
         Ok(scopes)
     }
 
-    /// Gives the scopes of a base to an interface: those that aren't among its scopes stand behind them. After NoMemory it
+    /// Gives the scopes of a base to an interface: those that aren't among its scopes are after them. After NoMemory it
     /// has those that it had. A step for each 128 scopes where those of the base are all above the scopes there, as for a
     /// first base, and else a few steps for each scope of both; a base's long list is shared and not copied, where none of
-    /// its scopes stands there before.
+    /// its scopes is there before.
     pub fn inherit(&self, base: u32, given: &mut Inherited) -> Result<(), NoMemory>
         ensures put { OnOk result (list_of given.new ≡ and_each (list_of given.old) (scopes_of (table_of self.now) base)) }
         ensures kept { IfErr result (λ e. list_of given.new ≡ list_of given.old) }

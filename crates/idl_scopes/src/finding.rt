@@ -212,7 +212,7 @@ impl Scopes {
         }
     }
 
-    /// The place of what a name means behind `::` and the declaration at a place; an operation has no names outside of it.
+    /// The place of what a name means after `::` and the declaration at a place; an operation has no names outside of it.
     pub fn find_inside(&self, name: &[u8], at: u32) -> Result<Option<usize>, NoMemory>
         ensures { IfOk result (λ o. o ≡ inside_of (table_of self.now) name.now at) }
     {

@@ -18,7 +18,7 @@ pub(crate) struct Groups<K: Eq + Hash + Drop> {
     lists: Vec<Vec<usize>>,
 }
 
-/// The list at a place; behind the last one none.
+/// The list at a place; after the last one none.
 fn list_at(lists: &[Vec<usize>], at: usize) -> &[usize]
     ensures { result.now ≡ listed lists.now (Some at) }
 {
@@ -47,7 +47,7 @@ impl<K: Eq + Hash + Drop> Groups<K> {
         }
     }
 
-    /// The place of a key's list; behind the last list where it has none. Costs a hash.
+    /// The place of a key's list; after the last list where it has none. Costs a hash.
     fn place_of(&self, key: &K) -> usize
         ensures found { result < length self.now.lists.items → get K.eq self.now.numbered key.now ≡ Some result }
         ensures none { length self.now.lists.items ≤ result → numbers_of K.eq self.now key.now ≡ [] }

@@ -37,7 +37,7 @@ impl Holders {
 }
 
 impl Scopes {
-    /// Puts the scope of the declaration at a place behind others, or that of an operation or attribute.
+    /// Puts the scope of the declaration at a place after others, or that of an operation or attribute.
     fn put_scope(
         &self,
         at: usize,

@@ -7,7 +7,7 @@ use crate::Scopes;
 use orb_base::NoMemory;
 
 impl Scopes {
-    /// Appends the names of a scope and of those around it, up to so many, each with a `/` behind it.
+    /// Appends the names of a scope and of those around it, up to so many, each with a `/` after it.
     fn write_within(&self, n: usize, scope: usize, out: &mut Vec<u8>) -> Result<(), NoMemory>
         ensures { OnOk result (out.new.items ≡ out.old.items ++ within n (table_of self.now) scope) }
     {

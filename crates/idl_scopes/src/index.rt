@@ -65,7 +65,7 @@ impl Index {
         self.by_name.of(low)
     }
 
-    /// One more key behind the others.
+    /// One more key after the others.
     pub(crate) fn add(&mut self, alloc: Global, key: Known) -> Result<(), NoMemory>
         requires { list_any (is_at key.scope key.name.items) (map known_of self.old.known.keys) ≡ false }
         ensures { OnOk result (map known_of self.new.known.keys ≡ map known_of self.old.known.keys ++ known_of key ∷ []) }

@@ -52,7 +52,7 @@ impl Inherited {
         self.most < scope && self.most < other.least && other.most < scope
     }
 
-    /// These scopes, and behind them all others, which aren't among these.
+    /// These scopes, and after them all others, which aren't among these.
     fn with_all(&self, alloc: Global, scope: usize, other: &Inherited) -> Result<Pieces, NoMemory>
         ensures { IfOk result (λ p. whole_of p ≡ list_of self.now ++ scope ∷ list_of other.now) }
     {
@@ -61,7 +61,7 @@ impl Inherited {
         Ok(pieces)
     }
 
-    /// These scopes, and behind them those news. Where they are all, the other list is shared.
+    /// These scopes, and after them those news. Where they are all, the other list is shared.
     fn with_news(
         &self,
         alloc: Global,
@@ -81,7 +81,7 @@ impl Inherited {
         Ok(pieces)
     }
 
-    /// These scopes, and behind them those of a base that aren't among these.
+    /// These scopes, and after them those of a base that aren't among these.
     fn gathered(&self, alloc: Global, scope: usize, other: &Inherited) -> Result<Pieces, NoMemory>
         ensures { IfOk result (λ p. whole_of p ≡ and_each (list_of self.now) (scope ∷ list_of other.now)) }
     {

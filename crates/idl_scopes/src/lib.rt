@@ -1,6 +1,6 @@
 //! The scopes of a text of IDL, and the names that are declared in them: CORBA 3.0.3, chapter 3, names and scoping.
 //!
-//! All declarations stand in one list, in the order of their names, and an index finds them by their scope and their
+//! All declarations are in one list, in the order of their names, and an index finds them by their scope and their
 //! name without regard to case, since a scope has no two names that differ in case alone. Scopes are numbers: the file
 //! is 0, and the scope of a declaration is one more than its place in the list. What a name stands for beside its scope
 //! is kept above, by the same places.

@@ -7,7 +7,7 @@ ghost use Rattle.idl_scopes.specs.Marks.{is_marked};
 use orb_base::NoMemory;
 use std::alloc::Global;
 
-/// Numbers that are new behind others.
+/// Numbers that are new after others.
 #[derive(Drop)]
 pub(crate) struct News {
     /// Each of them once.
@@ -43,7 +43,7 @@ fn marks_of(alloc: Global, numbers: &[usize]) -> Result<Vec<bool>, NoMemory>
     Ok(marks)
 }
 
-/// Those of several numbers that are new behind others. A few steps for each number, and an octet for each number up to
+/// Those of several numbers that are new after others. A few steps for each number, and an octet for each number up to
 /// the greatest.
 pub(crate) fn news_of(alloc: Global, before: &[usize], several: &[usize]) -> Result<News, NoMemory>
     ensures items { IfOk result (λ n. and_each before.now several.now ≡ before.now ++ n.items.items) }

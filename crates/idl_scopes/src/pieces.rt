@@ -18,7 +18,7 @@ pub(crate) struct Pieces {
     pub back: Vec<usize>,
 }
 
-/// Puts shares of these parts behind others.
+/// Puts shares of these parts after others.
 fn share_parts(into: &mut Vec<Arc<Vec<usize>>>, parts: &[Arc<Vec<usize>>]) -> Result<(), NoMemory>
     ensures { OnOk result (in_parts into.new.items ≡ in_parts into.old.items ++ in_parts parts.now) }
 {
@@ -28,7 +28,7 @@ fn share_parts(into: &mut Vec<Arc<Vec<usize>>>, parts: &[Arc<Vec<usize>>]) -> Re
     Ok(())
 }
 
-/// Makes scopes that are a list's own a part behind others.
+/// Makes scopes that are a list's own a part after others.
 fn seal(
     alloc: Global,
     own: &mut Vec<usize>,
@@ -74,7 +74,7 @@ impl Pieces {
         Ok(Pieces { front, parts, back })
     }
 
-    /// Puts them behind others.
+    /// Puts them after others.
     pub(crate) fn put_behind(&self, scopes: &mut Vec<usize>) -> Result<(), NoMemory>
         ensures { OnOk result (scopes.new.items ≡ scopes.old.items ++ whole_of self.now) }
     {
@@ -86,7 +86,7 @@ impl Pieces {
         Ok(())
     }
 
-    /// A scope and those of another list, in front of which there is no part.
+    /// A scope and those of another list, before which there is no part.
     fn join_front(&mut self, alloc: Global, scope: usize, other: &Pieces) -> Result<(), NoMemory>
         requires { length self.old.parts.items ≡ 0 }
         ensures { OnOk result (whole_of self.new ≡ whole_of self.old ++ scope ∷ whole_of other.now) }
@@ -102,7 +102,7 @@ impl Pieces {
         Ok(())
     }
 
-    /// The same behind parts.
+    /// The same after parts.
     fn join_back(&mut self, alloc: Global, scope: usize, other: &Pieces) -> Result<(), NoMemory>
         ensures { OnOk result (whole_of self.new ≡ whole_of self.old ++ scope ∷ whole_of other.now) }
     {
@@ -116,7 +116,7 @@ impl Pieces {
         Ok(())
     }
 
-    /// A scope and those of another list, all of them behind these.
+    /// A scope and those of another list, all of them after these.
     pub(crate) fn join(
         &mut self,
         alloc: Global,
@@ -131,7 +131,7 @@ impl Pieces {
         self.join_back(alloc, scope, other)
     }
 
-    /// These scopes behind them.
+    /// These scopes after them.
     pub(crate) fn add(&mut self, alloc: Global, scopes: &[usize]) -> Result<(), NoMemory>
         ensures { OnOk result (whole_of self.new ≡ whole_of self.old ++ scopes.now) }
     {

@@ -38,7 +38,7 @@ impl Rows {
         self.by_scope.of(&scope)
     }
 
-    /// One more declaration behind the others.
+    /// One more declaration after the others.
     pub(crate) fn add(&mut self, alloc: Global, declared: Declared) -> Result<(), NoMemory>
         ensures { OnOk result (self.new.declared.items ≡ self.old.declared.items ++ declared ∷ []) }
     {
@@ -48,7 +48,7 @@ impl Rows {
         Ok(())
     }
 
-    /// The declaration at a place becomes such; behind the last one nothing changes.
+    /// The declaration at a place becomes such; after the last one nothing changes.
     pub(crate) fn finish(&mut self, at: usize, sort: Sort)
         ensures { map declared_of self.new.declared.items ≡ finished_in (map declared_of self.old.declared.items) at (sort_of sort) (slice_get (map declared_of self.old.declared.items) at) }
     {

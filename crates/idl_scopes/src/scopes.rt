@@ -47,7 +47,7 @@ impl Scopes {
         self.rows.declared.len()
     }
 
-    /// Where the name of the declaration at a place stands; behind the last one 0 and 0.
+    /// Where the name of the declaration at a place is; after the last one 0 and 0.
     pub fn place_at(&self, at: usize) -> Place
         ensures { result ≡ place_at (table_of self.now) at }
     {
@@ -57,7 +57,7 @@ impl Scopes {
         }
     }
 
-    /// The name of the declaration at a place, as it was spelled; behind the last one none.
+    /// The name of the declaration at a place, as it was spelled; after the last one none.
     pub fn name_at(&self, at: usize) -> &[u8]
         ensures { result.now ≡ name_at (table_of self.now) at }
     {
@@ -67,7 +67,7 @@ impl Scopes {
         }
     }
 
-    /// The scope in which the declaration at a place stands; behind the last one the file's.
+    /// The scope in which the declaration at a place is; after the last one the file's.
     pub fn scope_at(&self, at: usize) -> usize
         ensures { result ≡ scope_at (table_of self.now) at }
     {
@@ -105,7 +105,7 @@ impl Scopes {
         })
     }
 
-    /// The declaration at a place becomes such; behind the last one nothing changes.
+    /// The declaration at a place becomes such; after the last one nothing changes.
     pub fn finish(&mut self, at: usize, sort: Sort)
         ensures { table_of self.new ≡ finished (table_of self.old) at (sort_of sort) }
     {

@@ -12,7 +12,7 @@ enum Label {
     Skip,
     /// A name was taken.
     Name,
-    /// An item behind a comma is counted.
+    /// An item after a comma is counted.
     Comma,
 }
 
@@ -49,7 +49,7 @@ static FILE: ListRule = Rule::Many(&Rule::Then(
     &Rule::One(Kind::Semicolon, Label::Skip),
 ));
 
-/// How many tokens were taken, and how many items were counted behind a comma, each up to 2^32 - 1.
+/// How many tokens were taken, and how many items were counted after a comma, each up to 2^32 - 1.
 #[derive(Drop)]
 struct Count {
     tokens: u32,
@@ -117,7 +117,7 @@ fn nothing() -> Count {
     }
 }
 
-/// What was counted along tokens, or where they stop; None for want of memory.
+/// What was counted along tokens, or where they stop; None when out of memory.
 fn counted(mut tokens: Tokens<'_>) -> Option<Result<(u32, u32), (u32, u32)>> {
     let mut count = nothing();
     match read_whole(file(), &mut tokens, &mut count, Kind::End, 2) {
@@ -167,7 +167,7 @@ fn texts_of_the_grammar_are_read_and_others_stop_at_their_first_fault(rt: HostRu
     assert!(rt; all_hold(rt.alloc()));
 }
 
-/// Whether an item and a further one behind a comma are read, and a token of the sixth column is next.
+/// Whether an item and a further one after a comma are read, and a token of the sixth column is next.
 fn reads_two(mut tokens: Tokens<'_>) -> bool {
     let mut count = nothing();
     read_rule(items(), &mut tokens, &mut count, 0).is_ok()

@@ -5,10 +5,10 @@ use orb_base::NoMemory;
 use std::alloc::Global;
 use std::test::*;
 
-/// Where each name of these tests stands.
+/// Where each name of these tests is.
 const PLACE: Place = Place { line: 1, column: 2 };
 
-/// What a declaration answers: whether the name was taken, or None for want of memory.
+/// What a declaration answers: whether the name was taken, or None when out of memory.
 fn clash(done: Result<(), DeclareFault>) -> Option<bool> {
     match done {
         Ok(()) => Some(false),
@@ -228,7 +228,7 @@ fn puts_one_name_in_many(scopes: &mut Scopes) -> bool {
     true
 }
 
-/// The scopes of a base that stands in front of those that it inherits, and of one that inherits itself.
+/// The scopes of a base that is before those that it inherits, and of one that inherits itself.
 fn gives_what_stands_behind(alloc: Global, scopes: &mut Scopes) -> bool {
     if !gives(alloc, scopes, &[70, 119, 70], &[71, 500, 120, 130])
         || !puts_interface(alloc, scopes, "S", 0, &[71])

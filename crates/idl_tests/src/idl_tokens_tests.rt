@@ -208,20 +208,20 @@ fn numbers_texts_and_comments_go_as_far_as_they_can(rt: HostRuntime) {
     assert!(rt; have_kinds(rt.alloc(), Dialect::Idl, AS_FAR_AS_THEY_CAN));
 }
 
-/// Whether the next token has these bytes and stands there.
+/// Whether the next token has these bytes and is there.
 fn is_next(tokens: &Tokens<'_>, text: &[u8], line: u32, column: u32) -> bool {
     let token = tokens.front();
     token.text == text && token.line == line && token.column == column
 }
 
-/// Whether the next token has these bytes and stands there. Goes behind it.
+/// Whether the next token has these bytes and is there. Goes after it.
 fn goes_behind(tokens: &mut Tokens<'_>, text: &[u8], line: u32, column: u32) -> bool {
     let stands = is_next(tokens, text, line, column);
     tokens.advance();
     stands
 }
 
-/// Whether three tokens and the end stand where they do, and nothing is behind the end.
+/// Whether three tokens and the end are where they should be, and nothing is after the end.
 fn stand_in_lines(tokens: &mut Tokens<'_>) -> bool {
     tokens.left() == 3
         && goes_behind(tokens, b"x", 2, 6)

@@ -7,15 +7,15 @@ use Rattle.idl_tokens.specs.Placed.{Placed, same_kind}
 use Rattle.idl_tokens.specs.Stream.{Stream, stream}
 use Rattle.idl_tokens.specs.Lexing.{lex}
 
--- the line behind a byte; lines count from 1
+-- the line after a byte; lines count from 1
 abbrev pub line_after : ℕ → ℕ → ℕ
 line_after b line = if b == 10 then line + 1 else line
 
--- the column behind a byte; columns count bytes from 1
+-- the column after a byte; columns count bytes from 1
 abbrev pub column_after : ℕ → ℕ → ℕ
 column_after b column = if b == 10 then 1 else column + 1
 
--- where the byte behind these stands
+-- where the byte after these is
 abbrev pub place_after : ℕ → ℕ → List ℕ → ℕ × ℕ
 place_after line column [] = (line, column)
 place_after line column (b ∷ bytes) = place_after (line_after b line) (column_after b column) bytes
@@ -24,7 +24,7 @@ place_after line column (b ∷ bytes) = place_after (line_after b line) (column_
 abbrev pub with_token : Kind → Placed Kind → Stream Kind → Stream Kind
 with_token k t s = if same_kind k kind.Bad then stream [] t else (if same_kind k kind.Blank then s else stream (t ∷ s.tokens) s.end)
 
--- the tokens with one more behind, if it isn't blank
+-- the tokens with one more after, if it isn't blank
 abbrev pub kept : List (Placed Kind) → Placed Kind → List (Placed Kind)
 kept ts t = if same_kind t.kind kind.Blank then ts else ts ++ t ∷ []
 

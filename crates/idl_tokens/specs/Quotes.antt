@@ -1,4 +1,4 @@
--- What stands between quotes.
+-- What is between quotes.
 use Rattle.std.specs.Prelude.{ℕ, ◌-◌, List, length, take, drop}
 
 -- a literal without the quotes around it

@@ -27,16 +27,16 @@ ends_text b = b == 34 || b == 10 || b == 0
 abbrev pub run_len : (ℕ → Bool) → List ℕ → ℕ
 run_len passes z = unwrap_or (position (λ b. not (passes b)) z) (length z)
 
--- a quote stands at this place of the bytes
+-- a quote is at this place of the bytes
 abbrev pub quote_at : List ℕ → Option ℕ → Option ℕ
 quote_at z None = None
 quote_at z (Some n) = if unwrap_or (slice_get z n) 0 == 34 then Some (n + 1) else None
 
--- how many bytes stand behind an opening quote, up to the closing one and with it, if the text is closed
+-- how many bytes are after an opening quote, up to the closing one and with it, if the text is closed
 unfoldable pub text_len : List ℕ → Option ℕ
 text_len z = quote_at z (position ends_text z)
 
--- the place behind the first `*/` of bytes that begin at place n, if there is one
+-- the place after the first `*/` of bytes that begin at place n, if there is one
 abbrev pub comment_end : ℕ → List ℕ → Option ℕ
 comment_end n [] = None
 comment_end n (b ∷ z) = if starts_with (λ x y. x == y) (b ∷ z) (codes "*/") then Some (n + 2) else comment_end (n + 1) z

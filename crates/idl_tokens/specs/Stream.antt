@@ -2,16 +2,16 @@
 use Rattle.std.specs.Prelude.{Bool, true, false, List, [], ◌∷◌}
 use Rattle.idl_tokens.specs.Placed.{Placed}
 
--- the tokens that are left, and the end behind them
+-- the tokens that are left, and the end after them
 pub record Stream (K : Type 0) : Type 0 where
   pub tokens : List (Placed K)
   pub end : Placed K
 
--- these tokens with this end behind them
+-- these tokens with this end after them
 abbrev pub stream : {K : Type 0} → List (Placed K) → Placed K → Stream K
 stream tokens end = record { tokens = tokens; end = end }
 
--- the first of a list, or what stands behind it
+-- the first of a list, or what is after it
 abbrev pub first_or : {X : Type 0} → List X → X → X
 first_or [] end = end
 first_or (t ∷ ts) end = t
@@ -25,7 +25,7 @@ abbrev pub rest_of : {X : Type 0} → List X → List X
 rest_of [] = []
 rest_of (t ∷ ts) = ts
 
--- what is left behind the next token
+-- what is left after the next token
 abbrev pub behind : {K : Type 0} → Stream K → Stream K
 behind s = stream (rest_of s.tokens) s.end
 

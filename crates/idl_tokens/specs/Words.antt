@@ -16,7 +16,7 @@ abbrev pub word_kind : Table → List ℕ → Kind
 word_kind [] word = kind.Name
 word_kind (w ∷ ws) word = if bytes_eq word w.0 then w.1 else word_kind ws word
 
--- the first mark of a table that stands at the front: its kind, and how many bytes of it stand behind the first
+-- the first mark of a table that is at the front: its kind, and how many bytes of it are after the first
 abbrev pub mark_at : Table → List ℕ → Kind × ℕ
 mark_at [] z = (kind.Bad, 0)
 mark_at (m ∷ ms) z = if starts_with (λ a b. a == b) z m.0 then (m.1, length m.0 - 1) else mark_at ms z

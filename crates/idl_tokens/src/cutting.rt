@@ -25,7 +25,7 @@ impl<'a> Found<'a> {
     }
 }
 
-/// Puts a token behind the others, if it isn't blank.
+/// Puts a token after the others, if it isn't blank.
 fn keep<'a>(tokens: &mut List<Token<'a>>, token: Token<'a>) -> Result<(), NoMemory>
     ensures { IfOk result (λ _. map seen tokens.new.items ≡ kept (map seen tokens.old.items) (seen token.entry)) }
 {
@@ -38,7 +38,7 @@ fn keep<'a>(tokens: &mut List<Token<'a>>, token: Token<'a>) -> Result<(), NoMemo
     }
 }
 
-/// Where the byte behind these stands.
+/// Where the byte after these is.
 fn place_behind(mut line: u32, mut column: u32, bytes: &[u8]) -> (u32, u32)
     requires { (line + length bytes.now ≤ 2 ^ 24) × (column + length bytes.now ≤ 2 ^ 24) }
     ensures value { result ≡ place_after line column bytes.now }

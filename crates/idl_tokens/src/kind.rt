@@ -5,7 +5,7 @@
 pub enum Kind {
     /// A letter, and then letters, digits and `_`.
     Name,
-    /// `_` and a name behind it.
+    /// `_` and a name after it.
     Underscored,
     /// A decimal number, an octal one with a leading 0, or a hexadecimal one with `0x`.
     Integer,
@@ -83,8 +83,8 @@ pub enum Kind {
     AtLeast,
     /// Blanks and comments; no such token is kept.
     Blank,
-    /// A byte that begins no token, or a comment, text or character that isn't closed; nothing is cut behind it.
+    /// A byte that begins no token, or a comment, text or character that isn't closed; nothing is cut after it.
     Bad,
-    /// Behind the last byte.
+    /// After the last byte.
     End,
 }

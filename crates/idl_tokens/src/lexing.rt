@@ -1,4 +1,4 @@
-//! What stands at a place of a text.
+//! What is at a place of a text.
 ghost use Rattle.std.specs.Prelude.{◌≡◌, ◌+◌, ◌≤◌, ◌<◌, [], ◌∷◌, List, length, drop};
 ghost use Rattle.idl_tokens.specs.Lexing as Lex;
 ghost use Rattle.idl_tokens.specs.Lexing.{lex_at as lex_at_lem};
@@ -10,7 +10,7 @@ use crate::runs::{
 use crate::words::word_kind;
 use crate::{Dialect, Kind};
 
-/// A name or a word: `text` begins with a byte that `rest` stands behind.
+/// A name or a word: `text` begins with a byte that `rest` is after.
 fn named(dialect: Dialect, text: &[u8], first: u8, rest: &[u8]) -> (Kind, usize)
     requires { text.now ≡ first ∷ rest.now }
     ensures value { result ≡ Lex.named dialect first rest.now }
@@ -20,7 +20,7 @@ fn named(dialect: Dialect, text: &[u8], first: u8, rest: &[u8]) -> (Kind, usize)
     (word_kind(dialect, &text[..n + 1]), n)
 }
 
-/// `_`, with the name behind it if there is one.
+/// `_`, with the name after it if there is one.
 fn underscored(rest: &[u8]) -> (Kind, usize)
     ensures value { result ≡ Lex.underscored rest.now }
     ensures within { result.1 ≤ length rest.now }
@@ -31,7 +31,7 @@ fn underscored(rest: &[u8]) -> (Kind, usize)
     }
 }
 
-/// How many bytes of a hexadecimal number stand behind its 0.
+/// How many bytes of a hexadecimal number are after its 0.
 fn hex_tail(rest: &[u8]) -> usize
     ensures value { result ≡ Lex.hex_tail rest.now }
     ensures within { result ≤ length rest.now }
@@ -69,7 +69,7 @@ fn quoted(rest: &[u8]) -> (Kind, usize)
     }
 }
 
-/// One byte that is no line feed, with a `'` behind it.
+/// One byte that is no line feed, with a `'` after it.
 fn character(rest: &[u8]) -> (Kind, usize)
     ensures value { result ≡ Lex.character rest.now }
     ensures within { result.1 ≤ length rest.now }
@@ -91,7 +91,7 @@ fn comment(rest: &[u8]) -> (Kind, usize)
     }
 }
 
-/// A comment, or a mark: `text` begins with a slash that `rest` stands behind.
+/// A comment, or a mark: `text` begins with a slash that `rest` is after.
 fn slashed(dialect: Dialect, text: &[u8], rest: &[u8]) -> (Kind, usize)
     requires { text.now ≡ 47 ∷ rest.now }
     ensures value { result ≡ Lex.slashed dialect rest.now }
@@ -104,7 +104,7 @@ fn slashed(dialect: Dialect, text: &[u8], rest: &[u8]) -> (Kind, usize)
     }
 }
 
-/// What stands at the front: `text` begins with a byte that `rest` stands behind.
+/// What is at the front: `text` begins with a byte that `rest` is after.
 #[tactic(auto, unfolding(crate::specs::Lexing::lex))]
 fn lex(dialect: Dialect, text: &[u8], first: u8, rest: &[u8]) -> (Kind, usize)
     requires { text.now ≡ first ∷ rest.now }
@@ -129,7 +129,7 @@ fn lex(dialect: Dialect, text: &[u8], first: u8, rest: &[u8]) -> (Kind, usize)
     }
 }
 
-/// What stands at the front, and how many bytes of it stand behind the first.
+/// What is at the front, and how many bytes of it are after the first.
 #[tactic(auto, using(crate::proofs::OneTurn::lex_parts, crate::proofs::OneTurn::head_and_tail))]
 pub fn lex_at(dialect: Dialect, text: &[u8]) -> (Kind, usize)
     requires { 0 < length text.now }

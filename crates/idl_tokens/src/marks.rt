@@ -73,7 +73,7 @@ fn marks_of(dialect: Dialect) -> &'static [Spelling]
     }
 }
 
-/// The first mark of a table that stands at the front, and how many bytes of it stand behind the first.
+/// The first mark of a table that is at the front, and how many bytes of it are after the first.
 fn mark_in(table: &[Spelling], z: &[u8]) -> (Kind, usize)
     ensures value { result ≡ Table.mark_at (map spelling_of table.now) z.now }
     ensures within { result.1 ≤ length z.now - 1 }
@@ -86,7 +86,7 @@ fn mark_in(table: &[Spelling], z: &[u8]) -> (Kind, usize)
     (Kind::Bad, 0)
 }
 
-/// The mark of this language that stands at the front.
+/// The mark of this language that is at the front.
 pub fn mark_at(dialect: Dialect, z: &[u8]) -> (Kind, usize)
     ensures value { result ≡ Table.mark_at (Table.marks_of dialect) z.now }
     ensures within { result.1 ≤ length z.now - 1 }

@@ -1,4 +1,4 @@
-//! What stands between quotes.
+//! What is between quotes.
 ghost use Rattle.std.specs.Prelude.{◌≡◌};
 ghost use Rattle.idl_tokens.specs.Quotes as Spec;
 

@@ -28,7 +28,7 @@ fn first_of_no_name(z: &[u8]) -> Option<usize>
     z.iter().position(|b| !is_name_byte(*b))
 }
 
-/// How many bytes of a name stand at the front.
+/// How many bytes of a name are at the front.
 #[tactic(auto, using(crate::proofs::Places::position_below))]
 pub fn name_len(z: &[u8]) -> usize
     ensures value { result ≡ Run.run_len Run.is_name_byte z.now }
@@ -46,7 +46,7 @@ fn first_no_digit(z: &[u8]) -> Option<usize>
     z.iter().position(|b| !b.is_ascii_digit())
 }
 
-/// How many decimal digits stand at the front.
+/// How many decimal digits are at the front.
 #[tactic(auto, using(crate::proofs::Places::position_below))]
 pub fn digits_len(z: &[u8]) -> usize
     ensures value { result ≡ Run.run_len is_ascii_digit z.now }
@@ -64,7 +64,7 @@ fn first_no_octal(z: &[u8]) -> Option<usize>
     z.iter().position(|b| !is_octal(*b))
 }
 
-/// How many octal digits stand at the front.
+/// How many octal digits are at the front.
 #[tactic(auto, using(crate::proofs::Places::position_below))]
 pub fn octal_len(z: &[u8]) -> usize
     ensures value { result ≡ Run.run_len Run.is_octal z.now }
@@ -82,7 +82,7 @@ fn first_no_hex(z: &[u8]) -> Option<usize>
     z.iter().position(|b| !b.is_ascii_hexdigit())
 }
 
-/// How many hexadecimal digits stand at the front.
+/// How many hexadecimal digits are at the front.
 #[tactic(auto, using(crate::proofs::Places::position_below))]
 pub fn hex_len(z: &[u8]) -> usize
     ensures value { result ≡ Run.run_len is_ascii_hexdigit z.now }
@@ -100,7 +100,7 @@ fn first_line_feed(z: &[u8]) -> Option<usize>
     z.iter().position(|b| *b == b'\n')
 }
 
-/// How many bytes stand before the next line feed, or the end.
+/// How many bytes are before the next line feed, or the end.
 #[tactic(auto, using(crate::proofs::Places::position_below))]
 pub fn line_len(z: &[u8]) -> usize
     ensures value { result ≡ Run.run_len Run.is_of_line z.now }
@@ -118,7 +118,7 @@ fn first_of_no_text(z: &[u8]) -> Option<usize>
     z.iter().position(|b| *b == b'"' || *b == b'\n' || *b == 0)
 }
 
-/// How many bytes stand behind an opening quote, up to the closing one and with it, if the text is closed.
+/// How many bytes are after an opening quote, up to the closing one and with it, if the text is closed.
 #[tactic(auto, unfolding(crate::specs::Runs::text_len), using(crate::proofs::Places::position_within))]
 pub fn text_len(z: &[u8]) -> Option<usize>
     ensures value { result ≡ Run.text_len z.now }
@@ -130,7 +130,7 @@ pub fn text_len(z: &[u8]) -> Option<usize>
     }
 }
 
-/// How many bytes stand behind `/*`, up to the next `*/` and with it, if there is one.
+/// How many bytes are after `/*`, up to the next `*/` and with it, if there is one.
 #[tactic(auto, using(crate::proofs::Comments::comment_on, crate::proofs::Comments::comment_here, crate::proofs::Comments::comment_none))]
 pub fn comment_len(z: &[u8]) -> Option<usize>
     ensures value { result ≡ Run.comment_end 0 z.now }

@@ -8,7 +8,7 @@ pub const MAX_TEXT: usize = 1_048_576;
 #[derive(Clone, Copy, Debug)]
 pub struct Token<'a> {
     pub kind: Kind,
-    /// The bytes as they stand in the text; none at its end.
+    /// The bytes as they are in the text; none at its end.
     pub text: &'a [u8],
     pub line: u32,
     pub column: u32,

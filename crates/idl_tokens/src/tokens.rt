@@ -14,7 +14,7 @@ pub fn same_kind(a: Kind, b: Kind) -> bool
     a == b
 }
 
-/// The tokens that are left, and the end behind them.
+/// The tokens that are left, and the end after them.
 #[derive(Drop)]
 pub struct Tokens<'a> {
     rest: &'a [Token<'a>],
@@ -33,7 +33,7 @@ impl<'a> Model for Tokens<'a> {
 }
 
 impl<'a> Tokens<'a> {
-    /// All of these tokens, with this end behind them.
+    /// All of these tokens, with this end after them.
     pub fn new(rest: &'a [Token<'a>], end: Token<'a>) -> Tokens<'a>
         ensures { result ≡ stream (map seen rest.now) (seen end.entry) }
     {
@@ -60,7 +60,7 @@ impl<'a> Tokens<'a> {
         }
     }
 
-    /// Goes behind the next token; at the end nothing changes.
+    /// Goes after the next token; at the end nothing changes.
     pub fn advance(&mut self)
         ensures { self.new ≡ behind self.old }
     {

@@ -1,4 +1,4 @@
--- Bases by ids are bases by places, and these stand before what is derived from them.
+-- Bases by ids are bases by places, and these are before what is derived from them.
 use Rattle.std.proofs.Common.{◌≡◌, ℕ, ◌<◌, suc, zero, Bool, true, false, List, [], ◌∷◌, ◌++◌, length, take, drop, Option, Some, None, ◌↔◌, inl, inr, refl, sym, ap, ◌∙◌, subst, arith, append_assoc, length-take, take-append-drop}
 use Rattle.std.specs.Prelude.{◌==◌, slice_get, IsTrue, is_some}
 use Rattle.std.specs.Option.{option_map_or, option_and_then}

@@ -22,7 +22,7 @@ put_once ns n =
     on true = refl
     on false = map-append (λ (v : Vec ℕ Global). v.items) ns (n ∷ [])
 
--- names behind others, a part at a time
+-- names after others, a part at a time
 pub with_both : (ns xs ys : List (List ℕ)) → with_names ns (xs ++ ys) ≡ with_names (with_names ns xs) ys
 with_both ns [] ys = refl
 with_both ns (x ∷ xs) ys = with_both (with_name ns x) xs ys
@@ -80,7 +80,7 @@ one_more ns n m = ap not (list_any-append (bytes_eq m) ns (n ∷ [])) ∙ on (li
     on false true = refl
     on false false = refl
 
--- behind others come those that aren't among them, each once
+-- after others come those that aren't among them, each once
 behind : (ns more : List (List ℕ)) → with_names ns more ≡ ns ++ filter (is_other ns) (once more)
 behind ns [] = sym (append-nil ns)
 behind ns (n ∷ more) = elim (cases_Bool (list_any (bytes_eq n) ns)) [
@@ -95,6 +95,6 @@ behind ns (n ∷ more) = elim (cases_Bool (list_any (bytes_eq n) ns)) [
       ∙ ap (λ (b : Bool). ns ++ cond (not b) (n ∷ filter (is_other ns) (filter (λ m. not (bytes_eq m n)) (once more))) (filter (is_other ns) (filter (λ m. not (bytes_eq m n)) (once more)))) (sym f)
 ]
 
--- names one by one behind none
+-- names one by one after none
 pub one_by_one : (ns : List (List ℕ)) → with_names [] ns ≡ once ns
 one_by_one ns = behind [] ns ∙ filter_whole (once ns)

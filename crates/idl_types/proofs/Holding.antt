@@ -171,7 +171,7 @@ kept_on es e ns more low k room key is new f =
 kept_same : (es : List Entry) (ns more : List (Vec ℕ Global)) → Kept es ns → names_in more ≡ names_in ns → Kept es more
 kept_same es ns more k is = record { keyed = k.keyed; room = k.room; each = k.each; ids = k.ids; based = k.based; inherited = k.inherited; own = k.own; by_case = is ∙ k.by_case }
 
--- the entries go on keeping it, whether or not the entry was put behind them
+-- the entries go on keeping it, whether or not the entry was put after them
 pub kept_after : (r : Result (Unit {0}) NoMemory) (es new : List Entry) (e : Entry) (ns more : List (Vec ℕ Global)) (low : List ℕ)
     → InsertsBehind r es e new → PutsBehind r (names_in ns) low (names_in more)
     → Kept es ns → length es < 524288 → e.0.items ≡ id_of (entry_thing e) → low ≡ str_to_ascii_lowercase (id_of (entry_thing e)) → Fresh (entry_things es) (entry_thing e) → Kept new more

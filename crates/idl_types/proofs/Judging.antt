@@ -65,7 +65,7 @@ module _ (ts : List Thing) (t : Thing) where
       (or_left (not (is_reserved (id_of t))) (bytes_eq ping_id (id_of t)) (not_from_false (is_reserved (id_of t)) er))
       (le-leb (file_leaves ts + counted_leaves t) most_file_leaves (omega (arith, all, h.0, all_counted er)))
 
-  -- what is left behind a declaration
+  -- what is left after a declaration
   pub spent : (budget rest : ℕ) → is_reserved (id_of t) ≡ false → left budget (thing_leaves t) ≡ Some rest → budget + file_leaves ts ≡ 1048576 → rest + (file_leaves ts + counted_leaves t) ≡ 1048576
   spent budget rest er some all = let h = enough budget (thing_leaves t) rest some in omega (arith, all, h.0, h.1, all_counted er)
 

@@ -15,7 +15,7 @@ use Rattle.idl_types.specs.Views.{operation_of}
 use Rattle.idl_types.specs.Names.{names_in, operation_names}
 use Rattle.orb_base.proofs.Places.{any_map}
 
--- a name that isn't there goes behind the others
+-- a name that isn't there goes after the others
 pub put_behind : (eq : Vec ℕ Global → Vec ℕ Global → Bool) (ns : List (Vec ℕ Global)) (n : Vec ℕ Global) → list_any (eq n) ns ≡ false
     → names_in (insert_key eq ns n) ≡ names_in ns ++ n.items ∷ []
 put_behind eq ns n new = ap (λ (b : Bool). names_in (if b then ns else ns ++ n ∷ [])) new ∙ map-append (λ (v : Vec ℕ Global). v.items) ns (n ∷ [])

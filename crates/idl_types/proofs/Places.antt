@@ -22,7 +22,7 @@ front_on None r i more h = absurd (none-some i h)
 front_on (Some j) r i more h = ap (option_map suc) (more j refl) ∙ h
 
 module _ {X : Type 0} (p : X → Bool) where
-  -- what stands at a place that was looked up
+  -- what is at a place that was looked up
   pub at_place : (xs : List X) (i : ℕ) → position p xs ≡ Some i → (x : X) × (slice_get xs i ≡ Some x) × (p x ≡ true)
   at_place xs i e = let h = cond_some (ltb (position_or_len p xs) (length xs)) (position_or_len p xs) i e in let w = ltb-true (position_or_len p xs) (length xs) h.0 in
       elim (slice_get_cases xs i).1 [
@@ -38,7 +38,7 @@ module _ {X : Type 0} (p : X → Bool) where
   pub not_found : (xs : List X) → position p xs ≡ None → find p xs ≡ None
   not_found xs e = find_at p xs ∙ slice_get_past xs (position_or_len p xs) (ltb-false (position_or_len p xs) (length xs) (cond_is_none (ltb (position_or_len p xs) (length xs)) (position_or_len p xs) e))
 
-  -- a place is the first or one behind it
+  -- a place is the first or one after it
   position_here : (x : X) (xs : List X) → p x ≡ true → position p (x ∷ xs) ≡ Some 0
   position_here x xs t = ap (λ (b : Bool). cond (ltb (cond (not b) (1 + prefix_len (λ y. not (p y)) xs) 0) (suc (length xs))) (Some (cond (not b) (1 + prefix_len (λ y. not (p y)) xs) 0)) None) t
       ∙ ap (λ (b : Bool). cond b (Some 0) None) (lt-ltb 0 (suc (length xs)) (omega arith))
@@ -55,7 +55,7 @@ module _ {X : Type 0} (p : X → Bool) where
   position_later x xs f = ap (λ (b : Bool). cond (ltb (cond (not b) (1 + prefix_len (λ y. not (p y)) xs) 0) (suc (length xs))) (Some (cond (not b) (1 + prefix_len (λ y. not (p y)) xs) 0)) None) f
       ∙ shifted (prefix_len (λ y. not (p y)) xs) (length xs)
 
-  -- a place in a front is the place
+  -- a place in a prefix is the place
   pub position_front : (xs ys : List X) (i : ℕ) → position p xs ≡ Some i → position p (xs ++ ys) ≡ Some i
   position_front [] ys i e = absurd (none-some i e)
   position_front (x ∷ xs) ys i e = elim (cases_Bool (p x)) [
@@ -104,7 +104,7 @@ any_among same p own (y ∷ ys) any = elim (or_cases (p y) (list_any p ys) any) 
   | inr t ↦ (let h = any_among same p own ys t in (h.0, h.1, or_right (same h.0 y) (list_any (same h.0) ys) h.2))
 ]
 
--- the thing of an id stands at its place
+-- the thing of an id is at its place
 pub thing_at_place : (ts : List Thing) (id : List ℕ) (i : ℕ) → place_named ts id ≡ Some i → thing_named ts id ≡ slice_get ts i
 thing_at_place ts id i e = found_at (has_id id) ts i e
 

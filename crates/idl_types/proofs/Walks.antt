@@ -46,7 +46,7 @@ module _ (step : ℕ → ℕ → Bool) where
         let far : at ≤ a = omega (arith, low, lower a x t.0, below xs x to t.1) in
         along start at to marked w low xs x (w.followed a x far m t.0) t.1
 
-    -- behind the walk a number is marked where it is reached
+    -- after the walk a number is marked where it is reached
     pub walk_ends : (start at to : ℕ) (marked : ℕ → Bool) → Walked step start at marked → at ≤ to + 1 → (marked to ≡ true) ↔ Reached step start to
     walk_ends start at to marked w low = (w.sound to, λ r. along start at to marked w low r.path start w.starts r.trail)
 

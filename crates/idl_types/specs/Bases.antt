@@ -6,7 +6,7 @@ use Rattle.cdr_values.specs.Trees.{Name, Names}
 use Rattle.idl_types.specs.Things.{Thing, bases_of}
 use Rattle.idl_types.specs.Finding.{place_named}
 
--- whether the thing of an id stands at a place
+-- whether the thing of an id is at a place
 abbrev pub is_place : List Thing → ℕ → Name → Bool
 is_place ts k id = option_map_or (λ i. i == k) (place_named ts id) false
 

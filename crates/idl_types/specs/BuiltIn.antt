@@ -30,6 +30,6 @@ operations = current ∷ echo ∷ note ∷ []
 abbrev pub ping : Thing
 ping = interface (record { id = ping_id; bases = []; operations = operations })
 
--- things with the built-in module, which is put behind them where it isn't there
+-- things with the built-in module, which is put after them where it isn't there
 abbrev pub with_ping : List Thing → List Thing
 with_ping ts = if is_some (place_named ts ping_id) then ts else ts ++ ping ∷ []

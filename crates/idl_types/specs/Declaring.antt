@@ -14,10 +14,10 @@ is_new ts t = not (list_any (λ u. str_eq_ignore_ascii_case (id_of t) (id_of u))
 abbrev pub is_derived_in : List Thing → Thing → Bool
 is_derived_in ts t = has_bases_in ts t && inherits_in ts t
 
--- whether the things go on keeping what they keep with this one behind them
+-- whether the things go on keeping what they keep with this one after them
 abbrev pub may_hold : List Thing → Thing → Bool
 may_hold ts t = (is_sound_thing t && is_derived_in ts t) && ((is_new ts t && is_own t) && nat_le (file_leaves ts + counted_leaves t) most_file_leaves)
 
--- whether a file may declare this one behind the things: they go on keeping what they keep, and it isn't in the built-in module
+-- whether a file may declare this one after the things: they go on keeping what they keep, and it isn't in the built-in module
 abbrev pub may_declare : List Thing → Thing → Bool
 may_declare ts t = not (is_reserved (id_of t)) && may_hold ts t

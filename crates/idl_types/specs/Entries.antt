@@ -33,12 +33,12 @@ AreKeyed es = entry_keys es ≡ map id_of (entry_things es)
 abbrev pub AreFolded : List (Vec ℕ Global) → List Entry → Type 0
 AreFolded ns es = names_in ns ≡ map (λ e. str_to_ascii_lowercase (id_of (entry_thing e))) es
 
--- an entry was put behind the others, or nothing changed
+-- an entry was put after the others, or nothing changed
 abbrev pub InsertsBehind : Result (Unit {0}) NoMemory → List Entry → Entry → List Entry → Type 0
 InsertsBehind (Ok u) es e new = new ≡ es ++ e ∷ []
 InsertsBehind (Err x) es e new = new ≡ es
 
--- a name was put behind the others, or nothing changed
+-- a name was put after the others, or nothing changed
 abbrev pub PutsBehind : Result (Unit {0}) NoMemory → List Name → Name → List Name → Type 0
 PutsBehind (Ok u) ns n new = new ≡ ns ++ n ∷ []
 PutsBehind (Err x) ns n new = new ≡ ns

@@ -19,10 +19,10 @@ abbrev pub once : Names → Names
 once [] = []
 once (n ∷ ns) = n ∷ filter (λ m. not (bytes_eq m n)) (once ns)
 
--- a name behind others, where it isn't among them
+-- a name after others, where it isn't among them
 abbrev pub with_name : Names → Name → Names
 with_name ns n = if list_any (bytes_eq n) ns then ns else ns ++ n ∷ []
 
--- names behind others, each where it isn't among those before it
+-- names after others, each where it isn't among those before it
 abbrev pub with_names : Names → Names → Names
 with_names ns more = fold with_name ns more

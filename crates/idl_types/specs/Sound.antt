@@ -47,7 +47,7 @@ is_sound_thing (named t) = is_sound_type t.kind
 is_sound_thing (exception e) = are_sound_members e.members
 is_sound_thing (interface i) = list_all is_sound_operation i.operations && differ bytes_eq (map (λ o. o.name) i.operations)
 
--- whether an id stands in the module Orb at the file's scope, or is that module's, case aside
+-- whether an id is in the module Orb at the file's scope, or is that module's, case aside
 abbrev pub is_reserved : Name → Bool
 is_reserved id = str_eq_ignore_ascii_case (take 8 id) (codes "IDL:Orb/") || str_eq_ignore_ascii_case id (codes "IDL:Orb:1.0")
 
@@ -63,7 +63,7 @@ is_own t = not (is_reserved (id_of t)) || bytes_eq ping_id (id_of t)
 abbrev pub has_bases_in : List Thing → Thing → Bool
 has_bases_in before t = list_all (is_interface before) (bases_of t)
 
--- whether each thing's bases stand before it, behind these things
+-- whether each thing's bases are before it, after these things
 abbrev pub are_based : List Thing → List Thing → Bool
 are_based before [] = true
 are_based before (t ∷ ts) = has_bases_in before t && are_based (before ++ t ∷ []) ts

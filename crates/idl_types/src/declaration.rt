@@ -10,7 +10,7 @@ use crate::named_type::NamedType;
 use crate::operation::Operation;
 use orb_base::Text;
 
-/// One declared thing with its repository id. Modules are no declarations: they stand in the ids.
+/// One declared thing with its repository id. Modules are no declarations: they are in the ids.
 #[derive(Drop)]
 pub enum Declaration {
     Constant(Constant),

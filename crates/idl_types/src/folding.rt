@@ -24,7 +24,7 @@ pub(crate) fn is_same_name(one: &Text, other: &[u8]) -> bool
     is_same(one.as_slice(), other)
 }
 
-/// Whether an id stands in the module Orb, or is that module's, case aside.
+/// Whether an id is in the module Orb, or is that module's, case aside.
 pub(crate) fn is_reserved_id(id: &Text) -> bool
     ensures { result ≡ is_reserved id.now }
 {

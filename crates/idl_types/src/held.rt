@@ -62,7 +62,7 @@ fn names_of(alloc: Global, operations: &[Operation]) -> Result<IndexSet<Vec<u8>>
     Ok(names)
 }
 
-/// Puts a name that isn't there behind the others.
+/// Puts a name that isn't there after the others.
 fn put_name(alloc: Global, names: &mut IndexSet<Vec<u8>>, name: &[u8]) -> Result<(), NoMemory>
     requires { list_any (bytes_eq name.now) (names_in names.old.keys) ≡ false }
     ensures { OnOk result (names_in names.new.keys ≡ names_in names.old.keys ++ name.now ∷ []) }

@@ -87,7 +87,7 @@ fn each_once(alloc: Global, ids: &[Text]) -> Result<IndexSet<Vec<u8>>, NoMemory>
     Ok(known)
 }
 
-/// Puts the names of operations behind the others, each where it isn't there.
+/// Puts the names of operations after the others, each where it isn't there.
 fn put_names(
     alloc: Global,
     names: &mut IndexSet<Vec<u8>>,
@@ -101,7 +101,7 @@ fn put_names(
     Ok(())
 }
 
-/// Puts a name behind the others where it isn't there.
+/// Puts a name after the others where it isn't there.
 fn put_once(alloc: Global, names: &mut IndexSet<Vec<u8>>, name: &[u8]) -> Result<(), NoMemory>
     ensures { OnOk result (names_in names.new.keys ≡ with_name (names_in names.old.keys) name.now) }
 {

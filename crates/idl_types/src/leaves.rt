@@ -12,7 +12,7 @@ use crate::operation::Operation;
 use crate::param::Param;
 use cdr_values::{Case, IdlType, Member};
 
-/// What is left of a number of leaves behind those of a declaration; None where there are too few.
+/// What is left of a number of leaves after those of a declaration; None where there are too few.
 pub(crate) fn spend_declaration(declaration: &Declaration, budget: u32) -> Option<u32>
     ensures { result ≡ left budget (thing_leaves (thing_of declaration.now)) }
 {
@@ -75,7 +75,7 @@ fn spend_params(params: &[Param], budget: u32) -> Option<u32>
     Some(rest)
 }
 
-/// What is left of a number of leaves behind those of a type. The stack grows with its depth.
+/// What is left of a number of leaves after those of a type. The stack grows with its depth.
 #[cycle(spend)]
 pub(crate) fn spend(kind: &IdlType, budget: u32) -> Option<u32>
     ensures { result ≡ left budget (leaves_of (kind_of kind.now)) }
@@ -123,7 +123,7 @@ fn spend_array(element: &IdlType, len: u32, budget: u32) -> Option<u32>
     }
 }
 
-/// What is left of a number behind so many times what was taken off of its part.
+/// What is left of a number after so many times what was taken off of its part.
 #[tactic(auto, using(crate::proofs::Budgets::part_fits))]
 fn behind_array(budget: u32, len: u32, rest: u32) -> u32
     requires some { 0 < len }

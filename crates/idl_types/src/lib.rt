@@ -1,7 +1,7 @@
 //! The repository of an IDL file: what it declares, found by repository id (CORBA 3.0.3, chapter 3 and section 10.6).
 //!
 //! A repository holds its declarations in order, and keeps what later crates rest on: types are lawful, ids and names
-//! are told apart, bases stand before what is derived from them and give it its first operations, and leaves and levels
+//! are told apart, bases are before what is derived from them and give it its first operations, and leaves and levels
 //! are within their limits.
 #![tactic(auto)]
 

@@ -4,7 +4,7 @@ use crate::param::Param;
 use cdr_values::IdlType;
 use orb_base::{List, Text};
 
-/// An operation: CORBA 3.0.3, section 3.13. An attribute `a` is the operation `_get_a`, and behind it `_set_a` where
+/// An operation: CORBA 3.0.3, section 3.13. An attribute `a` is the operation `_get_a`, and after it `_set_a` where
 /// it isn't readonly, whose one parameter is named `a`.
 #[derive(Drop)]
 pub struct Operation {

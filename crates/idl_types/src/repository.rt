@@ -88,7 +88,7 @@ impl Repository {
         self.declared.is_empty()
     }
 
-    /// The thing at an index in order of declaration, or None behind the last one. Takes no memory.
+    /// The thing at an index in order of declaration, or None after the last one. Takes no memory.
     pub fn nth(&self, at: usize) -> Option<&Declaration>
         ensures { option_map thing_of (option_copied result) ≡ slice_get (things_of self.now) at }
     {
@@ -194,7 +194,7 @@ impl Repository {
         }
     }
 
-    /// Declares one more thing. Answers want of memory also where 524,288 things are declared, more than a text of
+    /// Declares one more thing. Answers out of memory also where 524,288 things are declared, more than a text of
     /// 1,048,576 bytes can declare; then nothing has changed.
     pub fn declare(&mut self, declaration: Declaration) -> Result<(), NoMemory>
         requires { IsTrue (may_declare (things_of self.old) (thing_of declaration)) }
@@ -207,7 +207,7 @@ impl Repository {
         }
     }
 
-    /// Whether a file may declare this behind what is declared: its types are lawful and no larger than they may be, the
+    /// Whether a file may declare this after what is declared: its types are lawful and no larger than they may be, the
     /// names in them and its id are told apart from all others there, case aside, the id isn't in the module Orb, its
     /// operations have different names, its bases are interfaces that are declared, its operations begin with those that
     /// these give, and the file's leaves stay within their limit. It is asked before `declare` by who makes declarations
@@ -238,7 +238,7 @@ impl Repository {
         Ok(!self.folded.contains(low.as_slice()))
     }
 
-    /// The repository with the built-in module, whose one interface is put behind the others where it isn't there yet.
+    /// The repository with the built-in module, whose one interface is put after the others where it isn't there yet.
     pub fn with_ping(self) -> Result<Repository, NoMemory>
         ensures { IfOk result (λ r. things_of r ≡ with_ping (things_of self)) }
     {
@@ -284,7 +284,7 @@ impl Repository {
     }
 }
 
-/// Inserts behind the other entries, under a key that is none of theirs, puts a name behind the others, and sets what is
+/// Inserts after the other entries, under a key that is none of theirs, puts a name after the others, and sets what is
 /// left; or changes nothing.
 fn take_in(
     declared: &mut IndexMap<Vec<u8>, Held>,
@@ -307,7 +307,7 @@ fn take_in(
     insert_behind(declared, key, held)
 }
 
-/// Inserts behind the other entries, under a key that is none of theirs. With room it can't fail.
+/// Inserts after the other entries, under a key that is none of theirs. With room it can't fail.
 fn insert_behind(
     declared: &mut IndexMap<Vec<u8>, Held>,
     key: Vec<u8>,
@@ -321,7 +321,7 @@ fn insert_behind(
     Ok(())
 }
 
-/// Puts a name that isn't there behind the others.
+/// Puts a name that isn't there after the others.
 fn put_behind(names: &mut IndexSet<Vec<u8>>, name: Vec<u8>) -> Result<(), NoMemory>
     requires { list_any (bytes_eq name.items) (names_in names.old.keys) ≡ false }
     ensures { PutsBehind result (names_in names.old.keys) name.items (names_in names.new.keys) }

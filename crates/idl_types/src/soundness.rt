@@ -108,7 +108,7 @@ fn operations_differ(alloc: Global, operations: &[Operation]) -> Result<bool, No
     Ok(true)
 }
 
-/// Puts a name behind the others where it isn't there, and says whether it was put.
+/// Puts a name after the others where it isn't there, and says whether it was put.
 fn put_if_new(alloc: Global, names: &mut IndexSet<Vec<u8>>, name: &[u8]) -> Result<bool, NoMemory>
     ensures new { IfOk result (λ b. b ≡ not (list_any (bytes_eq name.now) (names_in names.old.keys))) }
     ensures put { IfOk result (λ b. OnTrue b (names_in names.new.keys ≡ names_in names.old.keys ++ name.now ∷ [])) }

@@ -1,4 +1,4 @@
--- Bytes that are written behind others.
+-- Bytes that are written after others.
 use Rattle.std.proofs.Common.{◌≡◌, ℕ, List, [], ◌++◌, refl, sym, ap, ◌∙◌, subst, append_assoc, append-nil}
 use Rattle.orb_base.specs.Outside.{SinkState, Rose}
 use Rattle.text_streams.specs.Streams.{WroteText, WroteSome, WroteFrontOf, WritesAll}
@@ -6,7 +6,7 @@ use Rattle.text_streams.specs.declared.writing.WriteAll.{WriteAll}
 use Rattle.text_streams.specs.declared.writing.WriteAll.TheVariants.{Whole, Failed}
 use Rattle.text_streams.proofs.CallerLemmas.{wrote_nothing, wrote_behind, wrote_all, wrote_same}
 
--- a count that rose behind an equal one
+-- a count that rose after an equal one
 rose_behind : (before mid after : ℕ) → mid ≡ before → Rose mid after → Rose before after
 rose_behind before mid after same rose = subst (λ (n : ℕ). Rose n after) same rose
 
@@ -14,7 +14,7 @@ pub whole_both : (r : WriteAll) (a b : List ℕ) (o m n : SinkState) → WritesA
 whole_both Whole a b o m n x y = (wrote_behind a b o m n x.0 y.0, y.1 ∙ x.1)
 whole_both Failed a b o m n x y = ((y.0.0, wrote_all a b y.0.0 o m n x.0 y.0.1), rose_behind o.faults m.faults n.faults x.1 y.1)
 
--- a front is one with more behind it
+-- a prefix is one with more after it
 front_more : (a b : List ℕ) (o m : SinkState) → WroteFrontOf a o m → WroteFrontOf (a ++ b) o m
 front_more a b o m x = (x.0 ++ b, record { front = x.1.front; parts = ap (λ (z : List ℕ). z ++ b) x.1.parts ∙ append_assoc x.1.front x.0 b; wrote = x.1.wrote })
 

@@ -16,7 +16,7 @@ use Rattle.cdr_core.specs.Spelling.{fields_bytes}
 use Rattle.item_writer.specs.ItemBytes.{bare}
 use Rattle.item_writer.specs.Heads.{numbered_head, reply_head, padded}
 
--- three numbers and what stands behind them
+-- three numbers and what is after them
 three : (order : Order) (a b c : ℕ) (body : List ℕ)
     → length (number_bytes order w32 a ++ (number_bytes order w32 b ++ (number_bytes order w32 c ++ body))) ≡ 12 + length body
 three order a b c body =
@@ -30,12 +30,12 @@ three order a b c body =
       length-number_bytes order w32 c,
     )
 
--- parts that stand behind each other
+-- parts that are after each other
 behind : (h a b c body : List ℕ) → (((h ++ a) ++ b) ++ c) ++ body ≡ h ++ (a ++ (b ++ (c ++ body)))
 behind h a b c body =
     append_assoc ((h ++ a) ++ b) c body ∙ append_assoc (h ++ a) b (c ++ body) ∙ append_assoc h a (b ++ (c ++ body))
 
--- the parts of a reply's head in front of its body, where the size is that of what stands behind the header
+-- the parts of a reply's head before its body, where the size is that of what is after the header
 framed_reply : (order : Order) (id status : ℕ) (body : List ℕ) (inner : List ℕ)
     → inner ≡ number_bytes order w32 id ++ (number_bytes order w32 status ++ (number_bytes order w32 0 ++ body))
     → reply_head order id status (length body) ++ body ≡ header order (order_byte order) 1 (length inner) ++ inner
@@ -75,7 +75,7 @@ parts_spelled order name minor code =
     append_assoc (number_bytes order w32 (length (exception_id name) + 1) ++ padded (exception_id name)) (number_bytes order w32 minor) (number_bytes order w32 code)
     ∙ append_assoc (number_bytes order w32 (length (exception_id name) + 1)) (padded (exception_id name)) (number_bytes order w32 minor ++ number_bytes order w32 code)
 
--- the numbers behind the id, as fields have them
+-- the numbers after the id, as fields have them
 as_fields : (order : Order) (minor code : ℕ) → number_bytes order w32 minor ++ number_bytes order w32 code ≡ number_bytes order w32 minor ++ (number_bytes order w32 code ++ [])
 as_fields order minor code = ap (λ (x : List ℕ). number_bytes order w32 minor ++ x) (sym (append-nil (number_bytes order w32 code)))
 

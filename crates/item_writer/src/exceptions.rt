@@ -8,7 +8,7 @@ use arrayvec::ArrayVec;
 use giop_messages::completion_status;
 use orb_base::{Order, Sys, SysName};
 
-/// The repository id of an exception, with its NUL and the pad behind it.
+/// The repository id of an exception, with its NUL and the pad after it.
 fn padded_id(name: SysName) -> &'static [u8]
     ensures value { result.now ≡ padded (exception_id name) }
     ensures short { length result.now ≤ 64 }

@@ -14,7 +14,7 @@ use giop_messages::header_start;
 use orb_base::{Order, Sink};
 use text_streams::{WriteAll, write_all};
 
-/// Bytes of a head: what stands before a body, and with it a body that is short enough to be written at once.
+/// Bytes of a head: what is before a body, and with it a body that is short enough to be written at once.
 pub const HEAD_LEN: usize = 128;
 
 /// The head of a message.
@@ -41,7 +41,7 @@ pub fn put_u32(head: &mut Head, order: Order, n: u32)
     put(head, &bytes_of_u32(order, n));
 }
 
-/// The header of a message: its kind, and how many bytes stand behind the header.
+/// The header of a message: its kind, and how many bytes are after the header.
 pub fn header_of(order: Order, kind: u8, size: u32) -> Head
     ensures items { result.items ≡ header order (order_byte order) kind size }
     ensures len { length result.items ≡ 12 }
@@ -52,7 +52,7 @@ pub fn header_of(order: Order, kind: u8, size: u32) -> Head
     head
 }
 
-/// The header with two numbers behind it.
+/// The header with two numbers after it.
 pub fn numbered(order: Order, kind: u8, size: u32, id: u32, status: u32) -> Head
     ensures items { result.items ≡ numbered_head order kind size id status }
     ensures len { length result.items ≡ 20 }
@@ -63,7 +63,7 @@ pub fn numbered(order: Order, kind: u8, size: u32, id: u32, status: u32) -> Head
     head
 }
 
-/// The head of a reply without contexts in front of so many bytes.
+/// The head of a reply without contexts before so many bytes.
 pub fn reply_head_of(order: Order, id: u32, status: u32, len: u32) -> Head
     requires { len + 12 < 2 ^ 32 }
     ensures { result.items ≡ reply_head order id status len }
@@ -84,7 +84,7 @@ fn write_both<O: Sink>(sink: &mut O, head: &[u8], body: &[u8]) -> WriteAll
     }
 }
 
-/// Writes a head and the body behind it, at once where both fit into the head's bytes.
+/// Writes a head and the body after it, at once where both fit into the head's bytes.
 pub fn write_message<O: Sink>(sink: &mut O, head: Head, body: &[u8]) -> WriteAll
     ensures { WritesAll result (head.items ++ body.now) (O.state sink.old) (O.state sink.new) }
 {

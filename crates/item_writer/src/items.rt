@@ -97,7 +97,7 @@ fn write_notice<O: Sink>(sink: &mut O, notice: &Notice) -> WriteAll
     }
 }
 
-/// Writes an item. Takes no memory: its head stands in 128 bytes of its own, and the body is written from the answer, with the head in one
+/// Writes an item. Takes no memory: its head is in 128 bytes of its own, and the body is written from the answer, with the head in one
 /// write where both fit in there.
 pub fn write_item<O: Sink>(sink: &mut O, item: &Item) -> WriteAll
     requires { IsShort item.now }

@@ -95,7 +95,7 @@ did_nothing does outcome s log out same = record {
   wrote = wrote_nothing out;
 }
 
--- memory was wanting behind what was done
+-- memory was wanting after what was done
 pub did_want : (first next : Doer) (outcome : Servant) (s m : State) (log mid : Option History) (out among out' : SinkState) → Did first outcome s m log mid out among → among.faults ≡ out.faults → Grows next → out' ≡ among
     → BeganWriting (λ servant run. next servant (first servant run)) outcome s out out'
 did_want first next outcome s m log mid out among out' one le grows same = record {

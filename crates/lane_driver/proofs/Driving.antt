@@ -39,7 +39,7 @@ abbrev name_of : Outcome → SysName
 name_of (System sys) = sys.name
 name_of _ = BadOperation
 
--- a servant that tells of want of memory has the operation
+-- a servant that says out of memory has the operation
 pub came_or_wanting : (due came : Outcome) → (came ≡ due) ⊎ (came ≡ no_memory) → (due ≡ bad_operation → came ≡ bad_operation)
     → (came ≡ due) ⊎ ((came ≡ no_memory) × ¬ (due ≡ bad_operation))
 came_or_wanting due came (inl is) only = inl is

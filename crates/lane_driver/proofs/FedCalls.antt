@@ -25,7 +25,7 @@ use Rattle.pipe_laws.proofs.Folds.{closing_stays}
 use Rattle.lane_driver.proofs.Items.{wrote_entries, front_entries, stops_later, front_whole, rose_later}
 use Rattle.lane_driver.proofs.Calls.{whole_of}
 
--- the group behind one call, as the code makes it
+-- the group after one call, as the code makes it
 abbrev next_group : Servant → ℕ → ℕ → LaneCall → Run → Group
 next_group servant batch left call run = record { run = taking left call servant run; room = if left == 0 then batch else left }
 

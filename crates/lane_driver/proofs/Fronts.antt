@@ -1,4 +1,4 @@
--- Runs that begin with a front of entries.
+-- Runs that begin with a prefix of entries.
 use Rattle.std.proofs.Common.{◌≡◌, [], ◌∷◌, ◌++◌, inl, inr, refl, sym, ap, ◌∙◌, subst, append-nil, append_assoc}
 use Rattle.std.specs.Prelude.{◌⊎◌}
 use Rattle.lane_machine.specs.State.{State}
@@ -21,7 +21,7 @@ agrees_then servant (e ∷ a) b (here, agrees) = agrees_then servant a b agrees
 abbrev pub Grows : Doer → Type 0
 Grows does = (servant : Servant) (run : Run) → (more : History) × ((does servant run).history ≡ run.history ++ more)
 
--- a front of two histories is one of the first, or goes on in the second
+-- a prefix of two histories is one of the first, or goes on in the second
 front_cases : (front a b : History) → IsFront front (a ++ b) → IsFront front a ⊎ ((rest : History) × (front ≡ a ++ rest) × IsFront rest b)
 front_cases [] a b is = inl tt
 front_cases (e ∷ es) [] b is = inr (e ∷ es, refl, is)
@@ -65,7 +65,7 @@ begins_two does s e f grows one all servant (first ∷ second ∷ []) (same, (al
     (g.0, g.1 ∙ ap (λ (zs : History). (h ++ zs) ++ g.0) (sym both))
 begins_two does s e f grows one all servant (first ∷ second ∷ third ∷ es) (same, (also, is)) agrees h = absurd is
 
--- behind the first entries
+-- after the first entries
 abbrev pub BeginsBehind : Doer → State → History → History → Type 0
 BeginsBehind does s a b = (servant : Servant) → Agrees servant a → (rest : History) → IsFront rest b → Agrees servant rest → (h : History)
     → (more : History) × ((does servant (run_at s h)).history ≡ ((h ++ a) ++ rest) ++ more)
@@ -80,7 +80,7 @@ begins_then does s a b first later servant front is agrees h = elim (front_cases
       )
 ]
 
--- one doer behind another
+-- one doer after another
 pub begins_first : (first next : Doer) (s : State) (a : History) → Grows next → Begins first s a
     → Begins (λ servant run. next servant (first servant run)) s a
 begins_first first next s a grows one servant front is agrees h =

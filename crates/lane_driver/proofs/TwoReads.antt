@@ -1,4 +1,4 @@
--- The calls of two reads are one list, for a loop over reads: those of the second stand behind those of the first, and so do the entries that
+-- The calls of two reads are one list, for a loop over reads: those of the second are after those of the first, and so do the entries that
 -- they made.
 use Rattle.std.proofs.Common.{◌≡◌, ℕ, List, [], ◌++◌, Option, refl, ap, ◌∙◌, append_assoc}
 use Rattle.orb_base.specs.Outside.{SinkState}

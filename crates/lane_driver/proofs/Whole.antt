@@ -105,7 +105,7 @@ pub fed_whole : (batch : ℕ) (outcome : Servant) (course : Course) (s s' : Stat
 fed_whole batch outcome course s s' room' calls log log' out out' is feeds =
     subst (λ (x : Course). Feeds {E = ⊥} (Ok x) batch outcome s s' batch room' calls log log' out out') is feeds
 
--- the end of the last group behind the calls
+-- the end of the last group after the calls
 pub fed_settles : {F : Type 0} (outcome : Servant) (batch : ℕ) (calls : List LaneCall) (course : Course) (result : Result Course F) (s m s' : State) (room' : ℕ) (log mid log' : Option History) (out among out' : SinkState)
     → course ≡ Whole → Feeds {E = ⊥} (Ok course) batch outcome s m batch room' calls log mid out among → Drives result settled outcome m s' mid log' among out'
     → Drives result (fed_settled batch calls) outcome s s' log log' out out'

@@ -19,7 +19,7 @@ use Rattle.lane_driver.specs.declared.course.Course.TheVariants.{Whole, Stopped}
 abbrev pub emptying : Doer
 emptying servant run = emptied pipe_conn run
 
--- some bytes were written, or a front of them up to a failed write
+-- some bytes were written, or a prefix of them up to a failed write
 abbrev pub Says : Course → List ℕ → SinkState → SinkState → Type 0
 Says Whole bytes out out' = WroteText bytes out out' × (out'.faults ≡ out.faults)
 Says Stopped bytes out out' = WroteFrontOf bytes out out' × Rose out.faults out'.faults

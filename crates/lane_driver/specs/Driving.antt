@@ -30,7 +30,7 @@ Servant = JobRecord → Outcome
 abbrev pub Doer : Type 0
 Doer = Servant → Run → Run
 
--- a run that stands in this state, behind this history
+-- a run that is in this state, after this history
 abbrev pub run_at : State → History → Run
 run_at s h = record { state = s; history = h }
 
@@ -48,7 +48,7 @@ abbrev pub Begins : Doer → State → History → Type 0
 Begins does s entries = (servant : Servant) (front : History) → IsFront front entries → Agrees servant front → (h : History)
     → (more : History) × ((does servant (run_at s h)).history ≡ (h ++ front) ++ more)
 
--- behind these entries as much is left to be done as was before
+-- after these entries as much is left to be done as was before
 pub record Goes (does : Doer) (outcome : Servant) (s s' : State) (entries : History) : Type 0 where
   pub leads : Leads s s' entries
   pub answers : HasAnswers outcome entries
@@ -87,7 +87,7 @@ pub record BeganWriting (does : Doer) (outcome : Servant) (s : State) (out out' 
   pub wrote : WroteFrontOf (said pipe_conn entries) out out'
   pub faults : out'.faults ≡ out.faults
 
--- all that these entries say was written, but that of what the last one says only a front was
+-- all that these entries say was written, but that of what the last one says only a prefix was
 pub record WroteUpToLast (entries : History) (out out' : SinkState) : Type 0 where
   pub before : History
   pub last : Entry State LaneCall LaneReply
@@ -104,7 +104,7 @@ pub record StoppedWriting (does : Doer) (outcome : Servant) (s : State) (log log
   pub logged : Logged entries log log'
   pub wrote : WroteUpToLast entries out out'
 
--- what was done, by how it came out: all of it, what stands before a failed write, or a front at want of memory
+-- what was done, by how it came out: all of it, what is before a failed write, or a prefix when out of memory
 abbrev pub Drives : {E : Type 0} → Result Course E → Doer → Servant → State → State → Option History → Option History
     → SinkState → SinkState → Type 0
 Drives (Ok Whole) does outcome s s' log log' out out' = Did does outcome s s' log log' out out' × (out'.faults ≡ out.faults)

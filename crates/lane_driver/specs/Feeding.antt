@@ -20,11 +20,11 @@ use Rattle.lane_driver.specs.declared.course.Course.TheVariants.{Whole, Stopped}
 abbrev pub befores : LaneCall → Doer
 befores call servant run = before_call servant run call
 
--- behind a call with which it is full the group ends
+-- after a call with which it is full the group ends
 abbrev pub behinds : ℕ → Doer
 behinds left servant run = behind_call servant left run
 
--- one call, behind which so many more fit into the group
+-- one call, after which so many more fit into the group
 abbrev pub taking : ℕ → LaneCall → Doer
 taking left call servant run = behind_call servant left (applied (before_call servant run call) call)
 

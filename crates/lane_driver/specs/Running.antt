@@ -27,7 +27,7 @@ RunsArePiped = (setup : SetupData) (outcome : List ℕ → JobRecord → Outcome
     → Does (running batch calls how) (served setup outcome) (opening setup.pool setup.slots setup.per_slot) s entries
     → (lacking : Lacking setup outcome entries) → piped setup outcome batch calls how lacking.lacks ≡ run_at s entries
 
--- and what was begun so is a front of its history
+-- and what was begun so is a prefix of its history
 abbrev pub BeginningsArePiped : Type 0
 BeginningsArePiped = (setup : SetupData) (outcome : List ℕ → JobRecord → Outcome) (batch : ℕ) (calls : List LaneCall) (how : How)
     (entries : History)
@@ -43,7 +43,7 @@ DoneIsPiped = (setup : SetupData) (outcome : List ℕ → JobRecord → Outcome)
     → Does (running batch calls how) (served setup outcome) (opening setup.pool setup.slots setup.per_slot) s entries
     → (lacking : Lacking setup outcome entries) × (piped setup outcome batch calls how lacking.lacks ≡ run_at s entries)
 
--- and what was begun is a front of its history
+-- and what was begun is a prefix of its history
 abbrev pub BegunIsPiped : Type 0
 BegunIsPiped = (setup : SetupData) (outcome : List ℕ → JobRecord → Outcome) (batch : ℕ) (calls : List LaneCall) (how : How)
     (n : ℕ) (entries : History)

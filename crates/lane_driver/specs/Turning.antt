@@ -12,7 +12,7 @@ use Rattle.pipe_laws.specs.Said.{said}
 use Rattle.pipe_laws.specs.Piped.{rested, first_given, in_hand}
 use Rattle.lane_driver.specs.Driving.{Servant, Goes, Does, Logged, Stays}
 
--- the answer to this job, by the servant's outcome or by want of memory
+-- the answer to this job, by the servant's outcome or by running out of memory
 pub record IsAnswer (outcome : Servant) (job : JobRecord) (answer : Answer) : Type 0 where
   pub same_job : answer.job ≡ job
   pub came : CameOf outcome job answer.outcome

@@ -1,4 +1,4 @@
-//! The calls of a read, behind those of earlier reads.
+//! The calls of a read, after those of earlier reads.
 ghost use Rattle.std.specs.Prelude.{◌≡◌, ◌≤◌, ◌==◌, if◌then◌else◌, IfOk};
 ghost use Rattle.pipe_laws.specs.Setup.{pipe_conn};
 ghost use Rattle.pipe_laws.specs.Legality.{AreHeardCalls};
@@ -39,7 +39,7 @@ fn share_call(call: &LaneCall) -> Result<LaneCall, NoMemory>
     }
 }
 
-/// The room of the group behind a call.
+/// The room of the group after a call.
 fn room_then(batch: u8, left: u8) -> u8
     requires { 1 ≤ batch }
     ensures is { result ≡ (if left == 0 then batch else left) }

@@ -39,7 +39,7 @@ fn make_ready<O: Sink, S: Serving>(
     settle(alloc, lanes, log, sink, setup, servants)
 }
 
-/// The group ends behind the call that took its last room.
+/// The group ends after the call that took its last room.
 fn end_group<O: Sink, S: Serving>(
     alloc: Global,
     lanes: &mut Lanes,
@@ -60,8 +60,8 @@ fn end_group<O: Sink, S: Serving>(
     settle(alloc, lanes, log, sink, setup, servants)
 }
 
-/// One call, behind which so many more fit into the group: before one that isn't ready the group ends, and so it does
-/// behind one with which it is full.
+/// One call, after which so many more fit into the group: before one that isn't ready the group ends, and so it does
+/// after one with which it is full.
 pub fn take_call<O: Sink, S: Serving>(
     alloc: Global,
     lanes: &mut Lanes,
@@ -86,7 +86,7 @@ pub fn take_call<O: Sink, S: Serving>(
     end_group(alloc, lanes, log, sink, setup, servants, left)
 }
 
-/// How many calls more fit into the group behind this call.
+/// How many calls more fit into the group after this call.
 pub fn room_left(lanes: &Lanes, call: &LaneCall, batch: u8, room: u8) -> u8
     requires batch { 1 ≤ batch }
     requires room { 1 ≤ room }

@@ -44,7 +44,7 @@ impl Log {
         }
     }
 
-    /// Notes one more call of the one caller, number 0, where a history is kept. For want of memory the history stays.
+    /// Notes one more call of the one caller, number 0, where a history is kept. When out of memory the history stays.
     pub fn note(&mut self, call: LaneCall, reply: LaneReply) -> Result<(), NoMemory>
         ensures { OnOk result (Logged (entry call reply ∷ []) self.old self.new) }
     {

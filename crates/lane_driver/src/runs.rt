@@ -16,7 +16,7 @@ use lane_machine::{How, LaneCall, Lanes};
 use orb_base::{NoMemory, Serving, Sink};
 use std::alloc::Global;
 
-/// The whole run of a connection's calls: they are made in groups of `batch`, the last of which ends behind them, and
+/// The whole run of a connection's calls: they are made in groups of `batch`, the last of which ends after them, and
 /// then the connection ends.
 pub fn run_calls<O: Sink, S: Serving>(
     alloc: Global,

@@ -16,7 +16,7 @@ use orb_base::limits::MAX_BODY;
 use orb_base::{Answer, Arc, Job, NoMemory, Outcome, Serving, Text};
 use std::alloc::Global;
 
-/// One call of the machine, which is noted in the log. At want of memory the call may have been made.
+/// One call of the machine, which is noted in the log. When out of memory the call may have been made.
 pub fn apply_call(lanes: &mut Lanes, log: &mut Log, call: LaneCall) -> Result<LaneReply, NoMemory>
     requires ready { is_ready lanes.old call ≡ true }
     requires sound { IsSound lanes.old call }

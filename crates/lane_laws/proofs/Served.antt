@@ -29,7 +29,7 @@ use Rattle.lane_machine.proofs.Weighs.{Weight, weigh, OfferMoves, PostMoves, Can
 use Rattle.lane_machine.proofs.Bounds.{opening_weighs}
 use Rattle.lane_machine.proofs.Fates.{no_items}
 
--- a thread stands at the place, of this lane
+-- a thread is at the place, of this lane
 abbrev pub LaneAt : List Thread → ℕ → ℕ → Type 0
 LaneAt threads t lane = (thread : Thread) × (slice_get threads t ≡ Some thread) × (thread.lane ≡ lane)
 

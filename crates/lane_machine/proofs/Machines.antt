@@ -18,7 +18,7 @@ use Rattle.lane_machine.specs.Moving.{handed_lists, next_lists, freed_lists, giv
 use Rattle.lane_machine.specs.State.{State}
 use Rattle.lane_machine.specs.Bounds.{IsBounded}
 
--- a place at which something stands is within the list
+-- a place that has something is within the list
 pub is_within : {X : Type 0} (xs : List X) (i : ℕ) → is_some (slice_get xs i) ≡ true → i < length xs
 is_within {X} [] i there = absurd (both_ways false refl there)
 is_within {X} (x ∷ xs) zero there = omega arith
@@ -46,7 +46,7 @@ set_twice {X} [] i x y = refl
 set_twice {X} (z ∷ xs) zero x y = refl
 set_twice {X} (z ∷ xs) (suc i) x y = ap (λ (ys : List X). z ∷ ys) (set_twice xs i x y)
 
--- the state behind the lists of a thread that goes on
+-- the state after the lists of a thread that goes on
 handed_on_is : (s : State) (t : ℕ) (thread : Thread) (at : ℕ) (o : Option Job)
     → record s { threads = (handed_lists t s.threads s.waiting thread at o).0; waiting = (handed_lists t s.threads s.waiting thread at o).1 } ≡ handed_on s t thread at o
 handed_on_is s t thread at (Some job) = refl

@@ -40,7 +40,7 @@ Plain (item.Noticed notice) = Unit {0}
 abbrev IsRefusal : Job → LaneReply → Item → Type 0
 IsRefusal job r x = (x ≡ item.Transient job) × (r ≡ reply.Full) × HasReply job
 
--- each item stood there before, or is new and of this kind
+-- each item was there before, or is new and of this kind
 abbrev pub Comes : List Item → List Item → (Item → Type 0) → Type 0
 Comes items items' New = (i : ℕ) (x : Item) → slice_get items' i ≡ Some x → ((k : ℕ) × (slice_get items k ≡ Some x)) ⊎ New x
 
@@ -66,7 +66,7 @@ refused_new due.Nothing job i x g = absurd (none-some x g)
 refused_new due.Early job i x g = one_new (λ (y : Item). (y ≡ item.Transient job) × (due.Early ≢ due.Nothing)) (item.Transient job) (refl, λ e. cc) i x g
 refused_new due.Late job i x g = one_new (λ (y : Item). (y ≡ item.Transient job) × (due.Late ≢ due.Nothing)) (item.Transient job) (refl, λ e. cc) i x g
 
--- the same items, and items behind them
+-- the same items, and items after them
 stays : (items : List Item) (New : Item → Type 0) → Comes items items New
 stays items New i x g = inl (i, g)
 
@@ -145,7 +145,7 @@ collected_out : (s : State) (conn : ConnId) (o : Option ℕ) → Comes s.out (co
 collected_out s conn (Some at) = handed_out s at (slice_get s.out at)
 collected_out s conn None = over_out s conn (end_of s conn)
 
--- a TRANSIENT that is owed behind a call was owed before, or the call is a refused Offer of its request
+-- a TRANSIENT that is owed after a call was owed before, or the call is a refused Offer of its request
 abbrev Brings : State → LaneCall → Job → Type 0
 Brings s call job =
     ((k : ℕ) × (slice_get s.out k ≡ Some (item.Transient job)))

@@ -21,7 +21,7 @@ use Rattle.orb_base.specs.declared.limits.TheConstants.{MAX_BODY}
 abbrev pub slot_seat : ℕ → ℕ
 slot_seat slot = slot + 1
 
--- the seat of the worker of a thread, behind those of the slots
+-- the seat of the worker of a thread, after those of the slots
 abbrev pub worker_seat : ℕ → ℕ → ℕ
 worker_seat slots t = slots + 1 + t
 

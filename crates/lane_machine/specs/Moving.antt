@@ -21,7 +21,7 @@ abbrev pub freed_lists : Bool → ℕ → List Thread → List Job → Option Th
 freed_lists borrowing t threads waiting (Some thread) = next_lists t threads waiting thread (next_job borrowing thread.lane waiting)
 freed_lists borrowing t threads waiting None = (threads, waiting)
 
--- the state behind that
+-- the state after that
 abbrev pub given_next : State → ℕ → Option Thread → State
 given_next s t (Some thread) = machine.freed s t thread (next_job s.pool.borrowing thread.lane s.waiting)
 given_next s t None = s

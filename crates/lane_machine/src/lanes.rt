@@ -100,9 +100,9 @@ impl Lanes {
         }
     }
 
-    /// Answers a call, with the reply twice: one for the history, one for the caller. For want of memory nothing
+    /// Answers a call, with the reply twice: one for the history, one for the caller. When out of memory nothing
     /// changes. Takes memory for shares of what the call, the reply or an item holds, before the first change. Work
-    /// grows as that of `ready`; a Collect moves the items behind the one that it hands out.
+    /// grows as that of `ready`; a Collect moves the items after the one that it hands out.
     pub fn apply(&mut self, call: &LaneCall) -> Result<(LaneReply, LaneReply), NoMemory>
         requires ready { is_ready self.old call.now ≡ true }
         requires sound { IsSound self.old call.now }
@@ -118,7 +118,7 @@ impl Lanes {
         self.machine.is_closing() || self.machine.owed(conn) <= MAX_OWED as u128
     }
 
-    /// Whether nothing is owed to the connection any more, and its ending is to be told.
+    /// Whether nothing is owed to the connection any more, and its ending is to be given.
     fn is_done_with(&self, conn: ConnId) -> bool
         ensures { let s = self.now in
             result ≡ ((owed s conn == 0) && (is_some (end_of s conn) || s.closing)) }

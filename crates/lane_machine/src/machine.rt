@@ -1,6 +1,6 @@
 //! The machine of one pool, whose callers keep its counts small.
 //!
-//! A call that fails for want of memory leaves the machine as it was: what takes memory comes before what changes.
+//! A call that fails when out of memory leaves the machine as it was: what takes memory comes before what changes.
 ghost use Rattle.std.specs.Prelude.{◌≡◌, ◌<◌, ◌≤◌, ◌+◌, ◌^◌, length, ◌==◌, ◌&&◌, ◌||◌, is_some, slice_get, IfOk, OnOk, OnErr, ◌∷◌, []};
 ghost use Rattle.std.specs.Bool.{OnFalse};
 ghost use Rattle.thread_borrowing.specs.ThreadList.{first_given};

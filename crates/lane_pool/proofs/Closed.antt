@@ -1,4 +1,4 @@
--- Whether a call of a connection was answered Closing, behind one more call.
+-- Whether a call of a connection was answered Closing, after one more call.
 use Rattle.std.proofs.Common.{◌≡◌, ℕ, Bool, true, false, eqb, ◌&&◌, ◌||◌, [], ◌∷◌, ◌++◌, sym, refl, ap, ◌∙◌, ne_eqb}
 use Rattle.std.proofs.Math.Bool.{or-false, and-false}
 use Rattle.std.proofs.lemmas.Bool.{and_parts, eqb-true}

@@ -64,7 +64,7 @@ writers_end all slot (suc n) = each_both (Heirs all) (writers slot n) ((writer_s
     (none_split all (writer_seat (record { slot = slot; nth = n })) 0 refl, tt)
 
 module _ (cell : CellView State) where
-  -- what a slot's pass leaves, and those behind it
+  -- what a slot's pass leaves, and those after it
   slot_left : (p : Pass) (ps : List Pass) → pairs (left_by (p ∷ ps)) ≡ (p.seat.number, p.seat.splits) ∷ (pairs p.seat.ended ++ pairs (left_by ps))
   slot_left p ps = ap (λ (z : List (ℕ × ℕ)). (p.seat.number, p.seat.splits) ∷ z) (pairs_both p.seat.ended (left_by ps))
 

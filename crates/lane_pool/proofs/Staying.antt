@@ -1,4 +1,4 @@
--- What a pass keeps behind calls, and behind a connection.
+-- What a pass keeps after calls, and after a connection.
 use Rattle.std.proofs.Common.{◌≡◌, ℕ, suc, ◌+◌, [], ◌∷◌, ◌++◌, sym, refl, ap, ◌∙◌, subst, arith, add-one}
 use Rattle.orb_base.specs.declared.job.Job.{Job}
 use Rattle.turn_cell.specs.Seats.{CellView}
@@ -59,7 +59,7 @@ module _ (cell : CellView State) where
   pub alone_same : (number : ℕ) (a b : Pass) → IsAlone cell number a → IsSame cell a b → IsAlone cell number b
   alone_same number a b h s = record { in_cell = s.in_cell; number_is = s.number ∙ h.number_is; unsplit = s.splits ∙ h.unsplit; alone = s.ended ∙ h.alone }
 
-  -- behind one more connection
+  -- after one more connection
   pub home_link : (slot : ℕ) (old reader writer reader' writer' new : Pass) → IsHome cell slot old → IsLinked old reader writer → IsSame cell reader reader' → IsSame cell writer writer' → IsUnlinked reader' writer' new → IsHome cell slot new
   home_link slot old reader writer reader' writer' new h l r w u =
       let nth : new.nth ≡ suc old.nth = u.nth_is ∙ (ap (λ (z : ℕ). z + 1) (r.nth ∙ l.reader_nth) ∙ add-one old.nth) in

@@ -34,7 +34,7 @@ use Rattle.lane_pool.specs.Replies.{taken_reply, collected_reply}
 use Rattle.lane_pool.specs.Turns.{heard_by, IsServing, Reads, Listens, HasEnded, Rests, GoesOn, FitsLane, Works, CanTake, Carries, Writes, HasTaken, HasCollected}
 use Rattle.lane_pool.proofs.Closed.{closed_heard, other_heard}
 
--- the counts behind one more entry
+-- the counts after one more entry
 ends_same : (mine new : History) (n : ℕ) (call : LaneCall) (r : LaneReply) → is_end call ≡ false → new ≡ mine ++ entry n call r ∷ [] → ends new ≡ ends mine
 ends_same mine new n call r f w = let c : ◌≡◌ {A = ℕ} (cond (is_end call) 1 0) 0 = ap (λ (z : Bool). cond {A = ℕ} z 1 0) f in let a = ends_push mine (entry n call r) in let b : ends new ≡ ends (mine ++ entry n call r ∷ []) = ap ends w in omega arith
 
@@ -118,7 +118,7 @@ has_ended cell how r old new d m =
           ∙ (heard_same (record { slot = old.who; nth = k }) old.seat.mine new.seat.mine old.seat.number (End (conn_of old) how) r refl c.2 ∙ s.later k (let a = m.1 in omega arith));
     }
 
--- the slot's pass behind its connection
+-- the slot's pass after its connection
 pub rests_again : (cell : CellView State) (reader writer new : Pass) → HasEnded cell reader → IsUnlinked reader writer new → Rests cell new
 rests_again cell reader writer new s u =
     let h = u.seats.0 in
@@ -191,7 +191,7 @@ pub unheard_ok : (cell : CellView State) (old : Pass) (r : Result (Pass × Pass)
 unheard_ok cell old (Ok p) s u = unheard cell old p.0 p.1 s u
 unheard_ok cell old (Err back) s u = tt
 
--- behind a call that was not answered Closing more may come
+-- after a call that was not answered Closing more may come
 pub listens_on : (cell : CellView State) (closing : Bool) (old new : Pass) → GoesOn cell closing old new → closing ≡ false → Listens cell new
 listens_on cell closing old new g e = record { reads = g.reads; is_open = g.is_open e }
 

@@ -23,7 +23,7 @@ pub record KeepsLimits (opening s : State) : Type 0 where
   pub few_bytes : kept_bytes s.waiting ≤ opening.pool.max_bytes
   pub few_busy : count_by (λ thread. not (is_free thread.doing)) s.threads ≤ MAX_THREADS
 
--- what lies in a pool while nobody has the turn: the lane machine behind the whole history, beside that history, which is legal
+-- what lies in a pool while nobody has the turn: the lane machine after the whole history, beside that history, which is legal
 -- and fit; and the machine keeps its limits
 pub record IsAtRest (terms : Terms State) (h : History) (core : Core State LaneCall LaneReply) : Type 0 where
   pub object : core.object ≡ replay terms.opening h

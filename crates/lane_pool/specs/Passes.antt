@@ -20,8 +20,8 @@ IsIn cell pass = IsOf cell pass.seat
 abbrev pub MayMake : CellView State → LaneCall → Pass → Type 0
 MayMake cell call pass = IsFit cell.terms.opening pass.seat.number pass.seat.mine call
 
--- the call was entered once, under the pass's number, and got the machine's reply; what the pass had seen before stands in
--- front of it, and what it sees now is a legal history in which every call was fit
+-- the call was entered once, under the pass's number, and got the machine's reply; what the pass had seen before is in
+-- prefix of it, and what it sees now is a legal history in which every call was fit
 abbrev pub Makes : CellView State → LaneCall → LaneReply → Pass → Pass → Type 0
 Makes cell call reply old new =
     (new.who ≡ old.who) × (new.nth ≡ old.nth) × Calls is_ready IsSound step Opens IsFit cell call reply old.seat new.seat

@@ -19,7 +19,7 @@ abbrev pub AreIn : CellView State → List Pass → Type 0
 AreIn cell [] = Unit {0}
 AreIn cell (p ∷ ps) = IsIn cell p × AreIn cell ps
 
--- what passes leave behind: their own seats, and those that were joined into them
+-- what passes leave after: their own seats, and those that were joined into them
 abbrev pub left_by : List Pass → List Leaving
 left_by [] = []
 left_by (p ∷ ps) = (gone p.seat ∷ p.seat.ended) ++ left_by ps

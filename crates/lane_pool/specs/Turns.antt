@@ -92,7 +92,7 @@ abbrev pub HasTaken : CellView State → Taken → Pass → Type 0
 HasTaken cell (taken.Job job) pass = Carries cell job pass
 HasTaken cell taken.Ended pass = Unit {0}
 
--- behind a message more may come
+-- after a message more may come
 abbrev pub HasCollected : CellView State → Collected → Pass → Type 0
 HasCollected cell (collected.Item item) pass = Writes cell pass
 HasCollected cell collected.Close pass = Unit {0}

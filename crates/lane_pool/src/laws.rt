@@ -12,7 +12,7 @@ ghost use Rattle.lane_pool.specs.Limits.{KeepsLimits, IsAtRest};
 
 use lane_machine::within_limits;
 
-/// Behind what a pass sees, and behind the history that a pool gives at its end, the limits of the lane machine are kept.
+/// After what a pass sees, and after the history that a pool gives at its end, the limits of the lane machine are kept.
 pub fn limits_are_kept()
     ensures { (terms : Terms State) (h : History) → Good is_ready IsSound step Opens IsFit terms h
         → KeepsLimits terms.opening (replay terms.opening h) }
@@ -20,7 +20,7 @@ pub fn limits_are_kept()
     within_limits();
 }
 
-/// Whenever nobody has the turn, by the rule that the table behind a pool's cell keeps at any time: the machine in its slot is
+/// Whenever nobody has the turn, by the rule that the table after a pool's cell keeps at any time: the machine in its slot is
 /// the replay of the one history beside it, that history is legal and fit, and the machine keeps its limits.
 pub fn is_at_rest()
     ensures { (terms : Terms State) (table : _) (kept : Kept is_ready IsSound step Opens IsFit heir terms table)

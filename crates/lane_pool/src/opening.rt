@@ -101,7 +101,7 @@ fn slot_passes(
     Ok(passes)
 }
 
-/// The passes of the threads, whose seats are split behind those of the slots.
+/// The passes of the threads, whose seats are split after those of the slots.
 #[tactic(auto, using(crate::proofs::Growing::grows))]
 fn worker_passes(
     alloc: Global,

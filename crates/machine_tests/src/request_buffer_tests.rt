@@ -32,7 +32,7 @@ fn puts_sizes(alloc: Global, buffer: &mut Buffer, sizes: &[u32]) -> Option<u64> 
     Some(bytes)
 }
 
-/// Whether one more request fits behind requests of these sizes, as it is due.
+/// Whether one more request fits after requests of these sizes, as it is due.
 fn fits_behind(alloc: Global, buffer: &mut Buffer, sizes: &[u32], size: u32, want: bool) -> bool {
     match puts_sizes(alloc, buffer, sizes) {
         Some(bytes) => {
@@ -220,7 +220,7 @@ fn a_removal_anywhere_in_a_queue_leaves_the_others(rt: HostRuntime) {
     assert!(rt; all_removed(rt.alloc()));
 }
 
-/// When a reply is due, and how many requests stay behind a removal.
+/// When a reply is due, and how many requests stay after a removal.
 const STAYS: &[(Due, u32)] = &[(Due::Nothing, 1), (Due::Early, 1), (Due::Late, 0)];
 
 fn all_stay(alloc: Global) -> bool {

@@ -13,7 +13,7 @@ use Rattle.object_lines.specs.Lines.{line_of, line_text, lines_text}
 
 -- ---- lines
 
--- the lines so far with that of the next object, and those of the objects behind it
+-- the lines so far with that of the next object, and those of the objects after it
 pub more_lines : (setup : SetupData) (host : List ℕ) (port n : ℕ) (o : ObjectSpec) (front all : List ℕ) → slice_get setup.objects n ≡ Some o
     → front ++ flat_map (line_text setup host port) (drop n setup.objects) ≡ all
     → (front ++ line_text setup host port o) ++ flat_map (line_text setup host port) (drop (n + 1) setup.objects) ≡ all

@@ -18,7 +18,7 @@ colon = 58
 unfoldable pub host_of : List ℕ → Option (List ℕ)
 host_of host = if nat_lt 0 (length host) && nat_le (length host) 255 && is_none (nul_at host) then Some host else None
 
--- the address of a host of so many bytes, behind which a colon and 1 to 10 digits of a port stand
+-- the address of a host of so many bytes, after which a colon and 1 to 10 digits of a port are
 unfoldable pub address_at : List ℕ → ℕ → Option Place
 address_at word len =
     option_and_then (λ port. option_map (λ host. record { host = host; port = port }) (host_of (take len word)))

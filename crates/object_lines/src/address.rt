@@ -33,7 +33,7 @@ impl Model for Address {
     ghost invariant = { λ a. length a.host ≤ 255 };
 }
 
-/// How many bytes stand before the first colon.
+/// How many bytes are before the first colon.
 fn colon_at(word: &[u8]) -> Option<usize>
     ensures found { result ≡ position (λ byte. byte == Spec.colon) word.now }
     ensures within { IfSome result (λ len. len < length word.now) }

@@ -20,7 +20,7 @@ fn key_text(alloc: Global, key: &Text) -> Result<String, NoMemory>
     Ok(format!(in alloc; "{key}")?)
 }
 
-/// Puts the line of a key and a reference behind the lines.
+/// Puts the line of a key and a reference after the lines.
 fn put_reference(alloc: Global, lines: &mut Octets, key: &Text, ior: &Ior) -> Result<(), NoMemory>
     requires { IsCountedReference ior.now }
     ensures { OnOk result (lines.new.items ≡ lines.old.items ++ line_of key.now ior.now) }
@@ -34,7 +34,7 @@ fn put_reference(alloc: Global, lines: &mut Octets, key: &Text, ior: &Ior) -> Re
     Ok(())
 }
 
-/// Puts the line of an object behind the lines.
+/// Puts the line of an object after the lines.
 #[tactic(auto, using(adapter_policies::proofs::Published::reference_counted, crate::proofs::Walks::line_is))]
 fn put_line(
     alloc: Global,

@@ -1,4 +1,4 @@
--- The first byte that passes a test, and these very bytes in front.
+-- The first byte that passes a test, and these very bytes before.
 use Rattle.std.proofs.Common.{◌≡◌, ℕ, suc, ◌+◌, ◌≤◌, Bool, true, false, not, cond, ltb, List, [], ◌∷◌, ◌++◌}
 use Rattle.std.proofs.Common.{length, take, drop, get_or, Option, Some, None, refl, sym, ap, subst, ◌∙◌, inl, inr}
 use Rattle.std.proofs.Common.{arith}
@@ -54,7 +54,7 @@ first_again p (x ∷ xs) =
     let one_more : 1 + position_or_len p xs ≡ suc (position_or_len p xs) = omega arith in
     elim (cases_Bool (p x)) [ inl e ↦ rw e refl | inr e ↦ rw (e, one_more, e) (omega (arith, others)) ]
 
--- the list is what stands before the first that passes, that one, and what stands behind it
+-- the list is what is before the first that passes, that one, and what is after it
 pub record CutAt (p : ℕ → Bool) (xs : List ℕ) (n : ℕ) : Type 0 where
   pub parts : xs ≡ take n xs ++ get_or xs n 0 ∷ drop (n + 1) xs
   pub none : position p (take n xs) ≡ None

@@ -83,7 +83,7 @@ ends_so : (e : ℕ) → Ends e → ((eqb e colon || eqb e slash) ≡ true) × (e
 ends_so e (inl h) = rw h (refl, refl)
 ends_so e (inr h) = rw h (refl, refl)
 
--- a host, the byte that ends it, and what stands behind that
+-- a host, the byte that ends it, and what is after that
 pub record Hosted (text : List ℕ) (x : List ℕ × ℕ × List ℕ) : Type 0 where
   pub host : IsHost x.0
   pub end : Ends x.1

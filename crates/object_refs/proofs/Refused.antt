@@ -1,4 +1,4 @@
--- What is encapsulated: a fault that is told is the first one, and the first one is told.
+-- What is encapsulated: a fault that is given is the first one, and the first one is given.
 use Rattle.std.proofs.Common.{◌≡◌, ℕ, suc, ◌<◌, ◌≤◌, Bool, true, false, ◌&&◌, cond, ltb, eqb, List, [], ◌∷◌, ◌++◌, ◌⊎◌, inl, inr}
 use Rattle.std.proofs.lemmas.Option.{same_Some}
 use Rattle.std.proofs.Common.{Some, None, Result, Ok, Err, refl, sym, ap, subst, ◌∙◌, arith}
@@ -42,7 +42,7 @@ use Rattle.object_refs.proofs.Wholes.{inner_bytes, within, taken_in}
 unentered : (Bad : Cursor → CdrFault → Type 0) (bytes : List ℕ) (f : RefFault) → cdr (entered bytes) ≡ Err f → RefusesWithin Bad bytes f
 unentered Bad bytes f e = let g = as_err cdr_fault (entered bytes) f e in (g.0, g.2, inl (entered_fails bytes g.0 g.1))
 
--- what stands in it fails
+-- what is in it fails
 failed_within : {A : Type 0} (one : Cursor → Reads A) (Bad : Cursor → CdrFault → Type 0)
     → ((c : Cursor) (g : CdrFault) → AreBytes c.rest → one c ≡ Err g → Bad c g)
     → (bytes : List ℕ) (inner : Cursor) (f : RefFault) → AreBytes bytes → entered bytes ≡ Ok inner → cdr (one inner) ≡ Err f → RefusesWithin Bad bytes f

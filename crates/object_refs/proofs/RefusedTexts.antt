@@ -1,4 +1,4 @@
--- Texts: a fault that is told is the first one, and the first one is told.
+-- Texts: a fault that is given is the first one, and the first one is given.
 use Rattle.std.proofs.Common.{◌≡◌, ℕ, ◌+◌, ◌-◌, ◌<◌, ◌%◌, true, false, cond, eqb, List, ◌∷◌, ◌++◌, length, take, drop, map, get_or}
 use Rattle.std.proofs.Common.{Option, Some, None, Result, Ok, Err, ◌⊎◌, inl, inr, refl, sym, ap, subst, ◌∙◌, arith}
 use Rattle.std.specs.Char.{to_ascii_lowercase}
@@ -69,7 +69,7 @@ no_prefix : (text : List ℕ) (r : Read (List ℕ)) → ((digits : List ℕ) →
 no_prefix text (Ok x) never is = absurd (never x refl)
 no_prefix text (Err f) never is = ap err (is f refl)
 
--- no bad digit stands before a first one
+-- no bad digit is before a first one
 none_earlier : (digits : List ℕ) (i j : ℕ) → HasBadDigit digits i → HasBadDigit digits j → i < j → ⊥
 none_earlier digits i j h k lt =
     let short : i < length (take j digits) = omega (arith, length-take j digits, h.within, k.within, lt) in
@@ -183,7 +183,7 @@ key_none : (text : List ℕ) → is_escaped text ≡ false → key_of text ≡ N
 unfolding key_of
 key_none text e = rw e refl
 
--- what stands behind the host and the port
+-- what is after the host and the port
 behind_refused : (text : List ℕ) (end : ℕ) (rest : List ℕ) (f : RefFault) → (end ≡ colon) ⊎ (end ≡ slash)
     → (port_at text end rest ≡ Err f) ⊎ ((x : ℕ × List ℕ) × (port_at text end rest ≡ Ok x) × (part BadEscape text x.1 (key_of x.1) ≡ Err f))
     → RefusesBehind text end rest f

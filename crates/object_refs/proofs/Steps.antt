@@ -39,14 +39,14 @@ only_so view (Ok x) reading Fact exact e a h = sym ((exact a).1 h) ∙ e
 only_so view (Err (Refused f)) reading Fact exact e a h = sym ((exact a).1 h) ∙ e
 only_so view (Err NoMemory) reading Fact exact e a h = tt
 
--- a fault that is told is the first one
+-- a fault that is given is the first one
 pub fails_so : {X A : Type 0} (view : X → A) (r : Result X RefError) (reading : Read A) (Bad : RefFault → Type 0)
     → RefusesExactly reading Bad → Answers view r reading → IfErr r (λ e. IfSome (fault_of e) Bad)
 fails_so view (Ok x) reading Bad exact e = tt
 fails_so view (Err (Refused f)) reading Bad exact e = (exact f).0 e
 fails_so view (Err NoMemory) reading Bad exact e = tt
 
--- and the first one is told
+-- and the first one is given
 pub told_so : {X A : Type 0} (view : X → A) (r : Result X RefError) (reading : Read A) (Bad : RefFault → Type 0)
     → RefusesExactly reading Bad → Answers view r reading → (f : RefFault) → Bad f → Answers {Y = A} view r (Err f)
 told_so view (Ok x) reading Bad exact e f h = sym ((exact f).1 h) ∙ e

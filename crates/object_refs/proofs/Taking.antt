@@ -1,4 +1,4 @@
--- What a reading takes stands there and fits, and what stands there and fits is taken.
+-- What a reading takes is there and fits, and what is there and fits is taken.
 use Rattle.std.proofs.Common.{◌≡◌, ℕ, ◌<◌, ◌^◌, Bool, true, false, List, [], ◌∷◌, ◌++◌, Ok, refl, sym, ap, subst, ◌∙◌, arith}
 use Rattle.std.specs.Int.{w8, w16}
 use Rattle.orb_base.specs.Tagged.{Tagged}

@@ -6,7 +6,7 @@ use Rattle.object_refs.specs.declared.fault.RefError.TheVariants.{Refused, NoMem
 use Rattle.object_refs.specs.declared.fault.RefFault.{RefFault}
 use Rattle.object_refs.specs.Reading.{Read}
 
--- the fault of an error, and None for want of memory
+-- the fault of an error, and None when out of memory
 abbrev pub fault_of : RefError → Option RefFault
 fault_of (Refused fault) = Some fault
 fault_of NoMemory = None

@@ -5,7 +5,7 @@ use Rattle.object_refs.specs.declared.fault.RefError.{RefError}
 use Rattle.object_refs.specs.declared.fault.RefError.TheVariants.{Refused, NoMemory}
 use Rattle.object_refs.specs.Reading.{cdr_fault}
 
--- a fault is told as that fault, and want of memory as such
+-- a fault is given as that fault, and out of memory as such
 abbrev pub ref_error : CdrError → RefError
 ref_error (cdr.Refused f) = Refused (cdr_fault f)
 ref_error cdr.NoMemory = NoMemory

@@ -21,7 +21,7 @@ abbrev pub part : {A : Type 0} → RefCause → List ℕ → List ℕ → Option
 part cause text rest (Some x) = Ok x
 part cause text rest None = Err (fault cause (length text - length rest))
 
--- what stands behind these very bytes
+-- what is after these very bytes
 unfoldable pub behind : List ℕ → List ℕ → Option (List ℕ)
 behind front bytes = if bytes_eq (take (length front) bytes) front then Some (drop (length front) bytes) else None
 
@@ -30,12 +30,12 @@ abbrev pub or_else : {A : Type 0} → Option A → Option A → Option A
 or_else (Some x) other = Some x
 or_else None other = other
 
--- what stands behind the protocol
+-- what is after the protocol
 unfoldable pub behind_protocol : List ℕ → Option (List ℕ)
 behind_protocol text =
     option_and_then (λ rest. or_else (behind iiop_protocol rest) (behind short_protocol rest)) (behind scheme text)
 
--- a host of so many bytes, the byte that ends it, and what stands behind that
+-- a host of so many bytes, the byte that ends it, and what is after that
 unfoldable pub host_of_len : List ℕ → ℕ → Option (List ℕ × ℕ × List ℕ)
 host_of_len text len =
     let end = slice_index text len in
@@ -43,7 +43,7 @@ host_of_len text len =
     then Some (take len text, end, drop (len + 1) text)
     else None
 
--- a host, which goes to the first byte that may not stand in one
+-- a host, which goes to the first byte that may not be in one
 unfoldable pub host_of : List ℕ → Option (List ℕ × ℕ × List ℕ)
 host_of text = option_and_then (host_of_len text) (position ends_host text)
 
@@ -55,7 +55,7 @@ port_number most digits =
     then Some port
     else None
 
--- the port of so many digits, and what stands behind the byte that ends them
+-- the port of so many digits, and what is after the byte that ends them
 unfoldable pub port_of_len : List ℕ → ℕ → Option (ℕ × List ℕ)
 port_of_len text len = option_and_then (λ port. Some (port, drop (len + 1) text)) (port_number 5 (take len text))
 
@@ -63,7 +63,7 @@ port_of_len text len = option_and_then (λ port. Some (port, drop (len + 1) text
 unfoldable pub port_of : List ℕ → Option (ℕ × List ℕ)
 port_of text = option_and_then (port_of_len text) (position (λ byte. byte == slash) text)
 
--- the port behind a colon, or the default port behind a slash
+-- the port after a colon, or the default port after a slash
 unfoldable pub port_at : List ℕ → ℕ → List ℕ → Read (ℕ × List ℕ)
 port_at text end rest = if end == colon then part BadPort text rest (port_of rest) else Ok (default_port, rest)
 

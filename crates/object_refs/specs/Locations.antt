@@ -20,7 +20,7 @@ iiop_protocol = codes "iiop:"
 abbrev pub short_protocol : List ℕ
 short_protocol = codes ":"
 
--- the version of the protocol, and the sign behind it
+-- the version of the protocol, and the sign after it
 abbrev pub version_part : List ℕ
 version_part = codes "1.2@"
 
@@ -36,7 +36,7 @@ colon = 58
 abbrev pub slash : ℕ
 slash = 47
 
--- a colon, a slash, a comma (44), an opening bracket (91) and NUL may not stand in a host
+-- a colon, a slash, a comma (44), an opening bracket (91) and NUL may not be in a host
 abbrev pub ends_host : ℕ → Bool
 ends_host byte = byte == colon || byte == slash || byte == 44 || byte == 91 || byte == 0
 
@@ -60,13 +60,13 @@ IsPort text port =
     ((text ≡ []) × (port ≡ default_port))
     ⊎ ((digits : List ℕ) × (text ≡ colon ∷ digits) × IsPortNumber digits port)
 
--- two hexadecimal digits stand in front
+-- two hexadecimal digits come before
 abbrev pub begins_with_byte : List ℕ → Bool
 begins_with_byte [] = false
 begins_with_byte (high ∷ []) = false
 begins_with_byte (high ∷ low ∷ rest) = is_ascii_hexdigit high && is_ascii_hexdigit low
 
--- two hexadecimal digits stand behind each percent sign
+-- two hexadecimal digits are after each percent sign
 abbrev pub is_escaped : List ℕ → Bool
 is_escaped [] = true
 is_escaped (byte ∷ rest) = (not (byte == percent_sign) || begins_with_byte rest) && is_escaped rest

@@ -16,7 +16,7 @@ use Rattle.cdr_core.specs.Sequence.{◌>>=◌}
 unfoldable pub components_at : Bool → Cursor → Reads (List Tagged)
 components_at present c = if present then tagged_list_at c else Ok ([], c)
 
--- a profile of any version: its major version, and what stands behind that
+-- a profile of any version: its major version, and what is after that
 unfoldable pub versioned_at : Cursor → Reads (ℕ × Profile)
 versioned_at c = do
   major ← number_at w8 c

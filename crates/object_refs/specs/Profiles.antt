@@ -13,7 +13,7 @@ use Rattle.object_refs.specs.Layout.{profile_fields, FitsProfile}
 abbrev pub iiop_tag : ℕ
 iiop_tag = 0
 
--- the bytes are an encapsulation of the profile, in either order, with any bytes behind; its version is at least 1.2
+-- the bytes are an encapsulation of the profile, in either order, with any bytes after; its version is at least 1.2
 pub record IsProfile (p : Profile) (bytes : List ℕ) : Type 0 where
   pub fits : FitsProfile p
   pub version : 2 ≤ p.minor

@@ -27,6 +27,6 @@ cdr_fault f = fault (causes.Cdr f.cause) f.place
 abbrev pub cdr : {A : Type 0} → Result A CdrFault → Read A
 cdr reading = told_as cdr_fault reading
 
--- tagged data behind their number
+-- tagged data after their number
 abbrev pub tagged_list_at : Cursor → Reads (List Tagged)
 tagged_list_at = Lists.list_at (Lists.made_at Lists.tagged_of)

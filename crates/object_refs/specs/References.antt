@@ -24,7 +24,7 @@ use Rattle.cdr_core.specs.Sequence.{◌>>=◌}
 abbrev pub lower_prefix : List ℕ
 lower_prefix = codes "ior:"
 
--- the bytes are an encapsulation of the reference, in either order, with any bytes behind
+-- the bytes are an encapsulation of the reference, in either order, with any bytes after
 pub record IsEncapsulated (r : Reference) (bytes : List ℕ) : Type 0 where
   pub fits : FitsReference r
   pub order : Order
@@ -44,7 +44,7 @@ pub record IsReference (r : Reference) (text : List ℕ) : Type 0 where
 abbrev pub stringified : Reference → List ℕ
 stringified r = codes "IOR:" ++ encode_lower (encapsulation Big (reference_fields r))
 
--- the digits behind the prefix
+-- the digits after the prefix
 unfoldable pub digits_of : List ℕ → Read (List ℕ)
 digits_of text =
     if bytes_eq (map to_ascii_lowercase (take 4 text)) lower_prefix then Ok (drop 4 text) else Err (fault NoPrefix 0)

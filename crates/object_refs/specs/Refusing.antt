@@ -19,7 +19,7 @@ use Rattle.object_refs.specs.Layout.{has_components, versioned_fields, FitsVersi
 use Rattle.object_refs.specs.Profiles.{first_of}
 use Rattle.object_refs.specs.Reading.{fault, cdr_fault}
 
--- the bytes are no encapsulation, or what stands in it fails
+-- the bytes are no encapsulation, or what is in it fails
 abbrev pub RefusesWithin : (Cursor → CdrFault → Type 0) → List ℕ → RefFault → Type 0
 RefusesWithin Bad bytes f =
     (g : CdrFault) × (f ≡ cdr_fault g)

@@ -19,7 +19,7 @@ pub record IsPrefixed (text digits : List ℕ) : Type 0 where
   pub parts : text ≡ prefix ++ digits
   pub is_ior : map to_ascii_lowercase prefix ≡ lower_prefix
 
--- the first byte that is no hexadecimal digit stands at this index
+-- the first byte that is no hexadecimal digit is at this index
 pub record HasBadDigit (digits : List ℕ) (index : ℕ) : Type 0 where
   pub within : index < length digits
   pub bad : is_hex_digit (slice_index digits index) ≡ false
@@ -46,12 +46,12 @@ IsUrl text rest =
     (protocol : List ℕ) × ((protocol ≡ iiop_protocol) ⊎ (protocol ≡ short_protocol))
     × (text ≡ scheme ++ (protocol ++ rest))
 
--- a host, the byte that ends it, and what stands behind that
+-- a host, the byte that ends it, and what is after that
 abbrev pub Hosts : List ℕ → List ℕ × ℕ × List ℕ → Type 0
 Hosts address x =
     IsHost x.0 × ((x.1 ≡ colon) ⊎ (x.1 ≡ slash)) × (address ≡ x.0 ++ x.1 ∷ x.2)
 
--- a port, a slash, and what stands behind that
+-- a port, a slash, and what is after that
 abbrev pub Ports : List ℕ → ℕ × List ℕ → Type 0
 Ports rest x = (digits : List ℕ) × IsPortNumber digits x.0 × (rest ≡ digits ++ slash ∷ x.1)
 
@@ -59,20 +59,20 @@ Ports rest x = (digits : List ℕ) × IsPortNumber digits x.0 × (rest ≡ digit
 abbrev pub place_in : List ℕ → List ℕ → ℕ
 place_in text rest = length text - length rest
 
--- the key behind a host and its port is refused, or that port
+-- the key after a host and its port is refused, or that port
 abbrev pub RefusesBehind : List ℕ → ℕ → List ℕ → RefFault → Type 0
 RefusesBehind text end rest f =
     ((end ≡ colon) × ((x : ℕ × List ℕ) → ¬ Ports rest x) × (f ≡ fault BadPort (place_in text rest)))
     ⊎ ((end ≡ colon) × (x : ℕ × List ℕ) × Ports rest x × (is_escaped x.1 ≡ false) × (f ≡ fault BadEscape (place_in text x.1)))
     ⊎ ((end ≡ slash) × (is_escaped rest ≡ false) × (f ≡ fault BadEscape (place_in text rest)))
 
--- an address is refused: its host, or what stands behind that
+-- an address is refused: its host, or what is after that
 abbrev pub RefusesAddress : List ℕ → List ℕ → RefFault → Type 0
 RefusesAddress text address f =
     (((x : List ℕ × ℕ × List ℕ) → ¬ Hosts address x) × (f ≡ fault BadHost (place_in text address)))
     ⊎ ((x : List ℕ × ℕ × List ℕ) × Hosts address x × RefusesBehind text x.1 x.2 f)
 
--- what stands behind the protocol is refused: the version, or the address
+-- what is after the protocol is refused: the version, or the address
 abbrev pub RefusesVersioned : List ℕ → List ℕ → RefFault → Type 0
 RefusesVersioned text rest f =
     (((address : List ℕ) → ¬ (rest ≡ version_part ++ address)) × (f ≡ fault BadVersion (place_in text rest)))

@@ -34,7 +34,7 @@ impl Model for Corbaloc {
     ghost view = { λ l. record { host = l.host; port = l.port; key = l.key.items } };
 }
 
-/// What stands behind these very bytes.
+/// What is after these very bytes.
 #[tactic(auto, unfolding(crate::specs::LocationReading::behind))]
 fn behind<'a>(front: &[u8], text: &'a [u8]) -> Option<&'a [u8]>
     ensures { option_map (λ x. x.now) result ≡ behind front.now text.now }
@@ -42,7 +42,7 @@ fn behind<'a>(front: &[u8], text: &'a [u8]) -> Option<&'a [u8]>
     text.strip_prefix(front)
 }
 
-/// What stands behind the scheme and the protocol.
+/// What is after the scheme and the protocol.
 #[tactic(auto, unfolding(crate::specs::LocationReading::behind_protocol))]
 fn behind_protocol(text: &[u8]) -> Option<&[u8]>
     ensures { option_map (λ x. x.now) result ≡ behind_protocol text.now }
@@ -84,9 +84,9 @@ pub fn parse_corbaloc(alloc: Global, text: &[u8]) -> Result<Corbaloc, RefError>
     ensures found { IfOk result (λ l. IsLocation l text.now) }
     // What the text names is read, unless memory is wanting.
     ensures only { (l : Spec.Location) → IsLocation l text.now → Answers (λ l. l) result (Ok l) }
-    // A fault that is told is the first one.
+    // A fault that is given is the first one.
     ensures fails { IfErr result (λ e. IfSome (fault_of e) (RefusesLocation text.now)) }
-    // The first fault is told, unless memory is wanting.
+    // The first fault is given, unless memory is wanting.
     ensures told { (f : Fault) → RefusesLocation text.now f → Answers {Y = Spec.Location} (λ l. l) result (Err f) }
 {
     location(alloc, text)

@@ -11,7 +11,7 @@ use orb_base::{List, NoMemory, Octets};
 use percent_encoding::percent_decode;
 use std::alloc::Global;
 
-/// Whether two hexadecimal digits stand in front.
+/// Whether two hexadecimal digits come before.
 fn begins_with_byte(text: &[u8]) -> bool
     ensures { result ≡ begins_with_byte text.now }
 {
@@ -21,7 +21,7 @@ fn begins_with_byte(text: &[u8]) -> bool
     }
 }
 
-/// Whether two hexadecimal digits stand behind each percent sign. One pass over the text.
+/// Whether two hexadecimal digits are after each percent sign. One pass over the text.
 fn is_escaped(text: &[u8]) -> bool
     ensures { result ≡ is_escaped text.now }
 {

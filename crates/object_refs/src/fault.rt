@@ -30,13 +30,13 @@ pub enum RefCause {
     /// The version isn't 1.2 or, of a profile, a later 1.x.
     #[error("BadVersion")]
     BadVersion,
-    /// The host is empty, longer than 255 bytes, or ends in a byte that may not stand behind a host.
+    /// The host is empty, longer than 255 bytes, or ends in a byte that may not be after a host.
     #[error("BadHost")]
     BadHost,
-    /// The port isn't a decimal number from 1 to 65535 in one to five digits, or no slash stands behind it.
+    /// The port isn't a decimal number from 1 to 65535 in one to five digits, or no slash is after it.
     #[error("BadPort")]
     BadPort,
-    /// A percent sign in the key stands before something else than two hexadecimal digits.
+    /// A percent sign in the key is before something else than two hexadecimal digits.
     #[error("BadEscape")]
     BadEscape,
 }

@@ -10,14 +10,14 @@ use crate::fault::{RefCause, RefError, refused_at};
 /// The most bytes of a host: the longest name of a domain, own profile.
 const MAX_HOST: usize = 255;
 
-/// Whether the byte may not stand in a host.
+/// Whether the byte may not be in a host.
 fn ends_host(byte: u8) -> bool
     ensures { result ≡ ends_host byte }
 {
     matches!(byte, b':' | b'/' | b',' | b'[' | 0)
 }
 
-/// How many bytes stand before the first that may not stand in a host.
+/// How many bytes are before the first that may not be in a host.
 fn host_len(text: &[u8]) -> Option<usize>
     ensures found { result ≡ position ends_host text.now }
     ensures within { IfSome result (λ len. len < length text.now) }
@@ -25,7 +25,7 @@ fn host_len(text: &[u8]) -> Option<usize>
     text.iter().position(|byte| ends_host(*byte))
 }
 
-/// A host of so many bytes, the byte behind it, and what stands behind that.
+/// A host of so many bytes, the byte after it, and what is after that.
 #[tactic(auto, unfolding(crate::specs::LocationReading::host_of_len))]
 fn host_of_len(text: &[u8], len: usize) -> Option<(&[u8], u8, &[u8])>
     requires { len < length text.now }
@@ -40,7 +40,7 @@ fn host_of_len(text: &[u8], len: usize) -> Option<(&[u8], u8, &[u8])>
     }
 }
 
-/// A host, the byte that ends it, and what stands behind that.
+/// A host, the byte that ends it, and what is after that.
 #[tactic(auto, unfolding(crate::specs::LocationReading::host_of))]
 fn host_of(text: &[u8]) -> Option<(&[u8], u8, &[u8])>
     ensures { option_map {U = List ℕ × ℕ × List ℕ} (λ x. (x.0.now, x.1, x.2.now)) result ≡ host_of text.now }
@@ -49,7 +49,7 @@ fn host_of(text: &[u8]) -> Option<(&[u8], u8, &[u8])>
     host_of_len(text, len)
 }
 
-/// The host at the front of an address, the colon or slash that ends it, and what stands behind that.
+/// The host at the front of an address, the colon or slash that ends it, and what is after that.
 pub fn host<'a>(text: &[u8], address: &'a [u8]) -> Result<(&'a [u8], u8, &'a [u8]), RefError>
     ensures { Answers {Y = List ℕ × ℕ × List ℕ} (λ x. (x.0.now, x.1, x.2.now)) result
         (part BadHost text.now address.now (host_of address.now)) }

@@ -121,9 +121,9 @@ pub fn first_iiop(alloc: Global, ior: &Ior) -> Result<IiopProfile, RefError>
     ensures found { IfOk result (λ p. IsFirstProfile p ior.now) }
     // The first profile of a reference is read, unless memory is wanting.
     ensures only { (p : Spec.Profile) → IsFirstProfile p ior.now → Answers (λ p. p) result (Ok p) }
-    // A fault that is told is the first one.
+    // A fault that is given is the first one.
     ensures fails { IfErr result (λ e. IfSome (fault_of e) (RefusesFirst ior.now)) }
-    // The first fault is told, unless memory is wanting.
+    // The first fault is given, unless memory is wanting.
     ensures told { (f : Fault) → RefusesFirst ior.now f → Answers {Y = Spec.Profile} (λ p. p) result (Err f) }
 {
     match first_of(ior.profiles.as_slice()) {

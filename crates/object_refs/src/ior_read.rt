@@ -20,7 +20,7 @@ use std::alloc::Global;
 /// How many bytes the prefix has.
 const PREFIX_LEN: usize = 4;
 
-/// The digits behind the prefix.
+/// The digits after the prefix.
 #[tactic(auto, unfolding(crate::specs::References::digits_of))]
 fn digits_of(text: &[u8]) -> Result<&[u8], RefError>
     ensures exact { Answers (λ x. x.now) result (digits_of text.now) }
@@ -89,7 +89,7 @@ fn reference_of(alloc: Global, text: &[u8]) -> Result<Ior, RefError>
 }
 
 /// Reads a stringified reference: `IOR:`, its letters of either case, and the hexadecimal digits of an encapsulation in
-/// either byte order; bytes behind the reference in it are ignored. Refuses with NoPrefix at place 0, OddHex at the
+/// either byte order; bytes after the reference in it are ignored. Refuses with NoPrefix at place 0, OddHex at the
 /// text's length, BadHex at the first bad digit, or the first fault of the encapsulation at its place there, in this
 /// order. Work grows with the text; the encapsulation is decoded once, and its texts and octets are copied.
 pub fn parse_ior(alloc: Global, text: &[u8]) -> Result<Ior, RefError>
@@ -99,9 +99,9 @@ pub fn parse_ior(alloc: Global, text: &[u8]) -> Result<Ior, RefError>
     ensures found { IfOk result (λ r. IsReference r text.now) }
     // What the text means is read, unless memory is wanting.
     ensures only { (r : Spec.Reference) → IsReference r text.now → Answers (λ r. r) result (Ok r) }
-    // A fault that is told is the first one.
+    // A fault that is given is the first one.
     ensures fails { IfErr result (λ e. IfSome (fault_of e) (RefusesReference text.now)) }
-    // The first fault is told, unless memory is wanting.
+    // The first fault is given, unless memory is wanting.
     ensures told { (f : Fault) → RefusesReference text.now f → Answers {Y = Spec.Reference} (λ r. r) result (Err f) }
 {
     reference_of(alloc, text)

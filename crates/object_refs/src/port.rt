@@ -22,7 +22,7 @@ fn are_digits(bytes: &[u8]) -> bool
 }
 
 /// The port of so many decimal digits at most, 1 to 65535. None where they are more, where another byte is among them, and where their
-/// number is 0 or above 65535; zeros may stand in front. It takes time in the number of digits, and no memory.
+/// number is 0 or above 65535; zeros may come before. It takes time in the number of digits, and no memory.
 #[tactic(auto, unfolding(crate::specs::LocationReading::port_number))]
 pub fn port_number(digits: &[u8], most: usize) -> Option<u16>
     ensures { result ≡ port_number most digits.now }
@@ -39,7 +39,7 @@ pub fn port_number(digits: &[u8], most: usize) -> Option<u16>
     }
 }
 
-/// How many bytes stand before the first slash.
+/// How many bytes are before the first slash.
 fn slash_at(text: &[u8]) -> Option<usize>
     ensures found { result ≡ position (λ byte. byte == slash) text.now }
     ensures within { IfSome result (λ len. len < length text.now) }
@@ -47,7 +47,7 @@ fn slash_at(text: &[u8]) -> Option<usize>
     text.iter().position(|byte| *byte == b'/')
 }
 
-/// The port of so many digits, and what stands behind the byte that ends them.
+/// The port of so many digits, and what is after the byte that ends them.
 #[tactic(auto, unfolding(crate::specs::LocationReading::port_of_len))]
 fn port_of_len(text: &[u8], len: usize) -> Option<(u16, &[u8])>
     requires { len < length text.now }
@@ -57,7 +57,7 @@ fn port_of_len(text: &[u8], len: usize) -> Option<(u16, &[u8])>
     Some((port, &text[len + 1..]))
 }
 
-/// A port, and what stands behind its slash.
+/// A port, and what is after its slash.
 #[tactic(auto, unfolding(crate::specs::LocationReading::port_of))]
 fn port_of(text: &[u8]) -> Option<(u16, &[u8])>
     ensures { option_map {U = ℕ × List ℕ} (λ x. (x.0, x.1.now)) result ≡ port_of text.now }
@@ -66,7 +66,7 @@ fn port_of(text: &[u8]) -> Option<(u16, &[u8])>
     port_of_len(text, len)
 }
 
-/// The port behind the byte that ended a host, and what stands behind its slash.
+/// The port after the byte that ended a host, and what is after its slash.
 #[tactic(auto, unfolding(crate::specs::LocationReading::port_at))]
 pub fn port<'a>(text: &[u8], end: u8, rest: &'a [u8]) -> Result<(u16, &'a [u8]), RefError>
     ensures { Answers {Y = ℕ × List ℕ} (λ x. (x.0, x.1.now)) result (port_at text.now end rest.now) }

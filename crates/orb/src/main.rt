@@ -28,7 +28,7 @@ use std_net::StdNet;
 use std_sink::StdSink;
 use std_source::StdSource;
 
-/// The words behind the program's name.
+/// The words after the program's name.
 fn words<R: Env + AllocGlobal>(rt: &R, alloc: Global) -> io::Result<Vec<String>> {
     let mut words = Vec::new(alloc);
     for word in env::args(rt)?.skip(1) {

@@ -1,4 +1,4 @@
-//! Links over TCP, of which nothing is told but the counts.
+//! Links over TCP, of which nothing is given but the counts.
 ghost use Rattle.std.specs.Prelude.{◌≡◌, None, IfSome};
 ghost use Rattle.orb_base.specs.Outside.{IsNewSource, IsNewSink};
 

@@ -10,7 +10,7 @@ use std::alloc::Global;
 use std::net;
 use std::net::{TcpListener, TcpStream};
 
-/// The sockets of a system, with the count of faults. It tells nothing of what it was asked and of what it reaches.
+/// The sockets of a system, with the count of faults. It says nothing of what it was asked and of what it reaches.
 #[derive(Drop)]
 pub struct StdNet<'a, R> {
     system: &'a R,

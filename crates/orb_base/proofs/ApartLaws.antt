@@ -163,7 +163,7 @@ apart_same xs ys moved all =
     (λ apart. apart_if_few ys (All-permutation IsOrdered xs ys moved all) (λ x. let few = few_hold x xs apart in omega
     (arith, holding_same x xs ys moved)))
 
--- each of the bands behind one that ends below the first of them lies above it
+-- each of the bands after one that ends below the first of them lies above it
 above : (a b : Span) (bands : List Span) → IsNonDecreasingBy (λ (s : Span). s.low) (b ∷ bands)
     → nat_lt a.high b.low ≡ true → list_any (overlap a) (b ∷ bands) ≡ false
 above a b bands up below =

@@ -1,4 +1,4 @@
--- The first byte that is 0 stands at the first place whose byte is 0.
+-- The first byte that is 0 is at the first place whose byte is 0.
 use Rattle.std.proofs.Common.{◌≡◌, ◌==◌, ℕ, Bool, cond, List, length, Option, Some, None, sym, ap, ◌∙◌, arith}
 use Rattle.std.specs.List.{position_or_len}
 use Rattle.std.specs.Prelude.{slice_index, nat_lt}

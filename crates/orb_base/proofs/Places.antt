@@ -9,11 +9,11 @@ prefix_len_map : {X Y : Type 0} (q : Y → Bool) (p : X → Bool) (f : X → Y) 
 prefix_len_map q p f same [] = refl
 prefix_len_map q p f same (x ∷ xs) = rw (same x, prefix_len_map q p f same xs) refl
 
--- the first that passes stands at the same place
+-- the first that passes is at the same place
 pub position_map : {X Y : Type 0} (q : Y → Bool) (p : X → Bool) (f : X → Y) → ((x : X) → q (f x) ≡ p x) → (xs : List X) → position q (map f xs) ≡ position p xs
 position_map q p f same xs = rw (length-map xs f, prefix_len_map (λ y. not (q y)) (λ x. not (p x)) f (λ x. ap not (same x)) xs) refl
 
--- some view passes where something with such a view stands
+-- some view passes where something with such a view is
 pub any_map : {X Y : Type 0} (p : Y → Bool) (f : X → Y) (xs : List X) → list_any p (map f xs) ≡ list_any (λ x. p (f x)) xs
 any_map p f [] = refl
 any_map p f (x ∷ xs) = ap (λ b. p (f x) || b) (any_map p f xs)

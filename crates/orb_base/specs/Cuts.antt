@@ -6,6 +6,6 @@ abbrev pub part : Option ℕ → ℕ → ℕ
 part (Some cut) most = min (max cut 1) most
 part None most = most
 
--- the cuts stand in the order of the calls, which are numbered from 0
+-- the cuts are in the order of the calls, which are numbered from 0
 abbrev pub part_of : List ℕ → ℕ → ℕ → ℕ
 part_of cuts call most = part (slice_get cuts call) most

@@ -1,4 +1,4 @@
--- What a store of files means. Its files are told as an option: None where it doesn't tell them.
+-- What a store of files means. Its files are given as an option: None where it doesn't tell them.
 use Rattle.std.specs.Prelude.{◌≡◌, ◌≤◌, ◌<◌, ℕ, Bool, List, [], Option, Some, None, length, nat_eq, IfSome, MatchOption, option_map}
 use Rattle.std.specs.List.{find}
 use Rattle.std.specs.Cmp.Lexicographic.{pointwise}

@@ -1,4 +1,4 @@
--- What a place that accepts links means. Links are told as an option: None where it doesn't tell them.
+-- What a place that accepts links means. Links are given as an option: None where it doesn't tell them.
 use Rattle.std.specs.Prelude.{◌≡◌, ◌≤◌, ℕ, List, [], ◌∷◌, Option, IfSome, option_map}
 use Rattle.orb_base.specs.Outside.{SourceState, SinkState, IsNewSource, IsNewSink, Rose}
 use Rattle.orb_base.specs.declared.accepted.Accepted.{Accepted}

@@ -13,7 +13,7 @@ pub trait Acceptor {
     /// The bytes that go by a link.
     type Out: Sink + Send + Drop;
 
-    /// The links still to come, where told, how many accepts failed, and how many were done.
+    /// The links still to come, where given, how many accepts failed, and how many were done.
     ghost state: { Self → AcceptorState Self.In Self.Out };
 
     /// The next link. May wait for a peer.

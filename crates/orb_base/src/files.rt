@@ -22,7 +22,7 @@ pub enum Filed {
 
 /// A store of files, with a count of its faults, which never falls and stands still at 2^64 - 1.
 pub trait Files {
-    /// The files, where told, and how many reads failed.
+    /// The files, where given, and how many reads failed.
     ghost state: { Self → FilesState };
 
     /// Puts the content of a file, which is at most `limit` bytes long, in place of what the list holds. After every

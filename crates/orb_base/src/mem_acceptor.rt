@@ -1,4 +1,4 @@
-//! Links in memory, which are all told.
+//! Links in memory, which are all given.
 ghost use Rattle.std.specs.Prelude.{◌≡◌, ◌∷◌, Some, [], take, IfSome, IsNone};
 ghost use Rattle.orb_base.specs.MemLinks.{pairs};
 
@@ -10,7 +10,7 @@ use crate::mem_sink::MemSink;
 use crate::mem_source::MemSource;
 use std::collections::LinkedList;
 
-/// Links in memory, whose accepts fail as it is told.
+/// Links in memory, whose accepts fail as it is given.
 #[derive(Drop)]
 pub struct MemAcceptor {
     steady: SteadyAcceptor,
@@ -20,7 +20,7 @@ pub struct MemAcceptor {
 }
 
 impl MemAcceptor {
-    /// The first `most` of these links, in order. The accepts whose numbers, from 0, stand in `failing` fail.
+    /// The first `most` of these links, in order. The accepts whose numbers, from 0, are in `failing` fail.
     pub fn new(links: LinkedList<MemLink>, most: u32, failing: List<u64>) -> MemAcceptor
         ensures { ⟦<MemAcceptor as Acceptor>⟧.state result
             ≡ record { links = Some (take most (pairs links)); faults = 0; ends = 0 } }

@@ -38,7 +38,7 @@ impl MemFile {
     }
 }
 
-/// Files in memory, whose reads fail as it is told.
+/// Files in memory, whose reads fail as it is given.
 #[derive(Drop)]
 pub struct MemFiles {
     steady: SteadyFiles,
@@ -48,7 +48,7 @@ pub struct MemFiles {
 }
 
 impl MemFiles {
-    /// A store of these files, of which the first of each name counts. The reads whose numbers, from 0, stand in
+    /// A store of these files, of which the first of each name counts. The reads whose numbers, from 0, are in
     /// `failing` fail.
     pub fn new(files: List<MemFile>, failing: List<u64>) -> MemFiles
         ensures { ⟦<MemFiles as Files>⟧.state result ≡ record { files = Some files.items; faults = 0 } }

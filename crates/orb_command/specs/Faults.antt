@@ -11,7 +11,7 @@ use Rattle.orb_command.specs.declared.note.Note.TheVariants.{Nothing, Usage, Con
 use Rattle.orb_command.specs.declared.note.Note.TheVariants.{WriteFault, NetFault, Input, Absent, Reference, Memory, Limit, NotBuilt}
 
 -- of a command over the input, but for the pipe: none but at a fault, the input's alone at a read fault, and the output's alone at a
--- write fault. A reference that is too long is told also where the next read fails. Such a command refuses no file
+-- write fault. A reference that is too long is given also where the next read fails. Such a command refuses no file
 abbrev pub StreamFaults : Note → Moment → Moment → Type 0
 StreamFaults Nothing before after = NoneFailed before.input after.input before.out after.out
 StreamFaults Usage before after = NoneFailed before.input after.input before.out after.out
@@ -60,7 +60,7 @@ ServeFaults NetFault before after = NoFileFailed before after
 ServeFaults note before after = FiledFaults note before after
 
 -- of a run of the pipe: none but at a fault, the input's alone at a read fault, and the output's at a write fault, where that of a
--- read that failed before may stand beside it. A run refuses no file
+-- read that failed before may be beside it. A run refuses no file
 abbrev pub RunFaults : Note → Moment → Moment → Type 0
 RunFaults Nothing before after = NoneFailed before.input after.input before.out after.out
 RunFaults (Input _ _) before after = NoneFailed before.input after.input before.out after.out

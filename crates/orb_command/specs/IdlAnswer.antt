@@ -22,7 +22,7 @@ idl_note end.WriteFault = WriteFault
 idl_note end.NoMemory = Memory
 
 -- A run came out so, and read and wrote accordingly: each end only where its cause is there, and the listing where the file of this
--- name declares things, unless the store, the output or memory failed. A file that is told is listed, or refused with the very fault,
+-- name declares things, unless the store, the output or memory failed. A file that is given is listed, or refused with the very fault,
 -- as reading it by the grammar gives. The input isn't touched
 pub record IdlAnswers (name : List ℕ) (note : Note) (before after : Moment) : Type 0 where
   pub answer : IdlEnd

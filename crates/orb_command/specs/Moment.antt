@@ -1,4 +1,4 @@
--- What is outside the program, as it stands at one moment.
+-- What is outside the program, as it is at one moment.
 use Rattle.orb_base.specs.Filing.{FilesState}
 use Rattle.orb_base.specs.Outside.{SourceState, SinkState}
 

@@ -10,7 +10,7 @@ use Rattle.orb_command.specs.declared.note.Note.{Note}
 use Rattle.orb_command.specs.declared.note.Note.TheVariants.{Nothing, ReadFault, WriteFault, Input, Reference, Memory}
 use Rattle.reference_lines.specs.Refs.{Refs}
 
--- the note of a run: a text that is too long is cut behind the bytes that it may have
+-- the note of a run: a text that is too long is cut after the bytes that it may have
 abbrev pub refs_note : Result RefsEnd NoMemory → Note
 refs_note (Ok end.Done) = Nothing
 refs_note (Ok (end.Refused fault)) = Reference fault

@@ -21,14 +21,14 @@ pub struct Reported {
 #[derive(Drop)]
 pub struct Answered<A, I, O> {
     /// The exit status: 0 done, 1 usage, 2 a file that is too long or refused, 3 a read fault, 4 a write fault, 5 a fault of the net, 8 an
-    /// input that is refused, 10 a file that isn't there, 12 want of memory, 13 a limit, 14 not built.
+    /// input that is refused, 10 a file that isn't there, 12 out of memory, 13 a limit, 14 not built.
     pub status: u8,
     pub note: Note,
     /// The run of `pipe`, with its history: exactly where the pipe had servants, and memory was not wanting.
     pub piped: Option<Piped>,
     /// The run of `serve`, with its history: exactly where the net gave acceptors, and memory was not wanting.
     pub run: Option<Run<I, O>>,
-    /// The acceptors that the net gave to `serve`, as they stand at the end.
+    /// The acceptors that the net gave to `serve`, as they are at the end.
     pub acceptors: List<A>,
 }
 

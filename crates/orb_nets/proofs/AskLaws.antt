@@ -4,7 +4,7 @@ use Rattle.orb_nets.specs.Nets.{Ask}
 use Rattle.orb_nets.specs.Asks.{asks}
 use Rattle.orb_nets.specs.declared.wanted.Wanted.{Wanted}
 
--- one call more stands behind the others
+-- one call more is after the others
 pub asks_more : (hosts : List (List ℕ)) (wanted : List Wanted) (host : List ℕ) (w : Wanted) → length hosts ≡ length wanted →
     asks (hosts ++ host ∷ []) (wanted ++ w ∷ []) ≡ asks hosts wanted ++ record { host = host; port = w.port; slots = w.slots } ∷ []
 asks_more [] [] host w even = refl

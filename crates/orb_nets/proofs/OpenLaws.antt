@@ -13,7 +13,7 @@ opens_more {A} {I} {O} state n each slots all a old new =
     let last : P n = λ d. ap state (get_or_at all a [] d n old.0) ∙ new in
     (length-append all (a ∷ []) ∙ omega (arith, old.0), λ nth d below. below_more P n first last nth below d)
 
--- what stands first behind so many stands there by its number
+-- what is first after so many is there by its number
 pub first_behind : {X : Type 0} (xs : List (List X)) (n : ℕ) → slice_index_or (drop n xs) 0 [] ≡ slice_index_or xs n []
 first_behind xs n = get_or-drop n xs 0 [] ∙ ap (λ nth. slice_index_or xs nth []) (omega arith)
 

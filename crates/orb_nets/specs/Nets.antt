@@ -1,4 +1,4 @@
--- What a net means. What it was asked and what it reaches are told as options: None where it doesn't tell them.
+-- What a net means. What it was asked and what it reaches are given as options: None where it doesn't tell them.
 use Rattle.std.specs.Prelude.{◌≡◌, ◌≤◌, ◌<◌, ℕ, List, [], ◌∷◌, ◌++◌, Option, length, take, drop, option_map, Result, Ok, Err, slice_index_or}
 use Rattle.orb_base.specs.Outside.{Rose}
 use Rattle.orb_base.specs.Room.{Room}
@@ -21,12 +21,12 @@ pub record NetState (I O : Type 0) : Type 0 where
   pub faults : ℕ
 
 module _ {I O : Type 0} where
-  -- the call stands behind those asked before
+  -- the call is after those asked before
   abbrev pub Asks : Ask → NetState I O → NetState I O → Type 0
   Asks ask old new = new.asked ≡ option_map (λ before. before ++ ask ∷ []) old.asked
 
   -- an acceptor as it is handed out: the first so many links of the slot of this number, from which nothing was accepted;
-  -- a slot behind those that are told has none
+  -- a slot after those that are given has none
   abbrev pub opened : ℕ → ℕ → Option (List (List (I × O))) → AcceptorState I O
   opened each nth slots = record {
     links = option_map (λ told. take each (slice_index_or told nth [])) slots;

@@ -1,6 +1,6 @@
 //! What listens and connects: the outside of a server and of a client.
 //!
-//! What a net reaches is told optionally: over memory it is told, over the real sockets it is not.
+//! What a net reaches is given optionally: over memory it is given, over the real sockets it is not.
 #![tactic(auto)]
 
 mod history;

@@ -14,7 +14,7 @@ use orb_base::{List, MemAcceptor, MemLink, MemSink, MemSource, NoMemory, SteadyA
 use std::alloc::Global;
 use std::collections::LinkedList;
 
-/// A net in memory, whose calls fail as it is told. A connect fails also where no peer is left.
+/// A net in memory, whose calls fail as it is given. A connect fails also where no peer is left.
 #[derive(Drop)]
 pub struct MemNet {
     slots: LinkedList<MemSlot>,
@@ -27,8 +27,8 @@ pub struct MemNet {
 }
 
 impl MemNet {
-    /// A net whose listens open these slots, in order, and behind the last one slots without links, and whose connects
-    /// give the links to these peers, in order. The calls whose numbers, from 0, stand in `failing` fail.
+    /// A net whose listens open these slots, in order, and after the last one slots without links, and whose connects
+    /// give the links to these peers, in order. The calls whose numbers, from 0, are in `failing` fail.
     pub fn new(
         alloc: Global,
         slots: LinkedList<MemSlot>,
@@ -127,7 +127,7 @@ pub struct SteadyNet {
 }
 
 impl SteadyNet {
-    /// A net whose listens open these slots, in order, and behind the last one slots without links. No accept fails.
+    /// A net whose listens open these slots, in order, and after the last one slots without links. No accept fails.
     pub fn new(alloc: Global, slots: LinkedList<MemSlot>) -> SteadyNet
         ensures { ⟦<SteadyNet as Net>⟧.state result
             ≡ record { asked = Some []; slots = Some (slot_pairs slots); peers = None; faults = 0 } }

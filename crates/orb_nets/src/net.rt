@@ -17,12 +17,12 @@ pub trait Net {
     /// What accepts the links of one slot.
     type Acc: Acceptor<In = Self::In, Out = Self::Out> + Send + Drop;
 
-    /// What was asked, the links of each slot still to open and the links still to connect, where told, and how many calls
+    /// What was asked, the links of each slot still to open and the links still to connect, where given, and how many calls
     /// failed.
     ghost state: { Self → NetState Self.In Self.Out };
 
     /// Listens at a host and a port, and gives an acceptor for each slot, for at most `each` links. What was asked is
-    /// told also where the call fails.
+    /// given also where the call fails.
     fn listen(
         &mut self,
         host: &Text,
@@ -35,7 +35,7 @@ pub trait Net {
         ensures fault { CountsNetFault result (state self.old) (state self.new) }
         ensures kept { (state self.new).peers ≡ (state self.old).peers };
 
-    /// Connects to a host and a port. May wait for a peer. What was asked is told also where the call fails.
+    /// Connects to a host and a port. May wait for a peer. What was asked is given also where the call fails.
     fn connect(&mut self, host: &Text, port: u16) -> Result<(Self::In, Self::Out), NetFault>
         ensures link { Connects result (state self.old) (state self.new) }
         ensures fresh { IfOk result (λ link. IsNewSource (Self.In.state link.0) × IsNewSink (Self.Out.state link.1)) }

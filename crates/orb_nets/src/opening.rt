@@ -28,7 +28,7 @@ impl OfSlot for SteadyAcceptor {
     }
 }
 
-/// The next slot; behind the last one a slot without links.
+/// The next slot; after the last one a slot without links.
 fn next_slot(alloc: Global, slots: &mut LinkedList<MemSlot>) -> MemSlot
     ensures first { pairs result.links ≡ slice_index_or (slot_pairs slots.old) 0 [] }
     ensures rest { slot_pairs slots.new ≡ drop 1 (slot_pairs slots.old) }

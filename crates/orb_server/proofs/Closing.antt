@@ -76,7 +76,7 @@ module _ {A I O : Type 0} (state : A → AcceptorState I O) (source : I → Sour
   pub few_conns : (before : List A) (ds : List (PoolDone A I O)) (n : ℕ) → AreDone state source sink setup cell 0 before ds → length ds ≡ n → length (conns_of ds) ≤ n * setup.per_slot
   few_conns before ds n a e = subst (λ (k : ℕ). length (conns_of ds) ≤ k * setup.per_slot) e (few_from 0 before ds a)
 
-  -- the slots, each with its acceptor before and behind the run
+  -- the slots, each with its acceptor before and after the run
   abbrev slots_of : List A → List (PoolDone A I O) → List (Slot A I O)
   slots_of [] ds = []
   slots_of (x ∷ xs) [] = []

@@ -1,4 +1,4 @@
--- What slots in a row left, the last one's behind.
+-- What slots in a row left, the last one's after.
 use Rattle.std.proofs.Common.{◌≡◌, List, [], ◌∷◌, ◌++◌, ap, ◌∙◌, append-nil}
 use Rattle.std.proofs.lemmas.List.Concat.{flat_map-append}
 use Rattle.orb_server.specs.Jobs.{PoolDone}

@@ -39,7 +39,7 @@ module _ {I O : Type 0} (source : I → SourceState) (sink : O → SinkState) (s
       (told_from (nth + 1) cs served.1 written.1 k (omega arith))
 
 module _ {A I O : Type 0} (state : A → AcceptorState I O) (source : I → SourceState) (sink : O → SinkState) (setup : SetupData) (h : History) (slot : ℕ) (s : Slot A I O) where
-  -- a connection of the slot has a number below the limit, and was told
+  -- a connection of the slot has a number below the limit, and was given
   pub is_told : SlotRan state source sink setup h slot s → (nth : ℕ) → nth < length s.conns → (nth < setup.per_slot) × (may_collect (latest None (of (writer_seat (conn_at slot nth)) h)) ≡ false)
   is_told ran nth l =
       let few = count_few s.end setup.per_slot (length s.conns) _ (state s.before) (state s.behind) ran.cause in

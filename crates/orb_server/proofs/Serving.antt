@@ -123,7 +123,7 @@ module _ {I O : Type 0} (source : I → SourceState) (sink : O → SinkState) (s
         written = u.seats.1 ∙ all;
       }
 
-  -- behind a connection more
+  -- after a connection more
   served_grows : (slot nth : ℕ) (cs : List (Conn I O)) (c : Conn I O) → AreServed source sink setup slot nth cs → IsServed source sink setup (conn_at slot (nth + length cs)) c → AreServed source sink setup slot nth (cs ++ c ∷ [])
   served_grows slot nth [] c a s = (subst (λ (k : ℕ). IsServed source sink setup (conn_at slot k) c) (omega arith) s, tt)
   served_grows slot nth (x ∷ xs) c a s = (a.0, served_grows slot (nth + 1) xs c a.1 (subst (λ (k : ℕ). IsServed source sink setup (conn_at slot k) c) (omega arith) s))

@@ -23,7 +23,7 @@ abbrev pub conn_at : ℕ → ℕ → ConnId
 conn_at slot nth = record { slot = slot; nth = nth }
 
 -- these entries of a slot's seat are the calls that the connection's bytes mean, and then its End: some bytes were taken, those of the
--- last read behind the earlier ones
+-- last read after the earlier ones
 pub record IsHeard (setup : SetupData) (conn : ConnId) (entries : History) (end : ReadSideEnd) (from to : SourceState) : Type 0 where
   pub bytes : List ℕ
   pub earlier : List ℕ
@@ -35,7 +35,7 @@ pub record IsHeard (setup : SetupData) (conn : ConnId) (entries : History) (end 
   pub parts : entries ≡ calls ++ (entry (slot_seat conn.slot) (End conn (how_by end)) Noted ∷ [])
 
 -- these entries of the writing side's seat hand over what the connection is owed, and at last that nothing comes any more; what they say
--- was written, or a front of it up to a failed write
+-- was written, or a prefix of it up to a failed write
 pub record IsSaid (conn : ConnId) (entries : History) (end : WriteEnd) (from to : SinkState) : Type 0 where
   pub items : History
   pub handed : AreHandedOver (writer_seat conn) conn items

@@ -51,7 +51,7 @@ abbrev pub TakesAdmitted : History → LaneCall → LaneReply → Type 0
 TakesAdmitted before (Take t) (Given job) = WasAdmitted before job
 TakesAdmitted before call r = Unit {0}
 
--- so it is at each entry behind these
+-- so it is at each entry after these
 abbrev pub RunsAdmitted : History → History → Type 0
 RunsAdmitted before [] = Unit {0}
 RunsAdmitted before (e ∷ es) = TakesAdmitted before e.call e.reply × RunsAdmitted (before ++ e ∷ []) es

@@ -32,7 +32,7 @@ pub record IsLawful (setup : SetupData) (h : History) : Type 0 where
   pub legal : IsLegal (opening_of setup) h
   pub fit : AreFit (opening_of setup) h
 
--- a slot: its acceptor before and behind the run, what its connections left, and how it came out
+-- a slot: its acceptor before and after the run, what its connections left, and how it came out
 pub record Slot (A I O : Type 0) : Type 0 where
   pub before : A
   pub behind : A
@@ -56,7 +56,7 @@ module _ {A I O : Type 0} (state : A → AcceptorState I O) (source : I → Sour
   SlotsRan slot [] = Unit {0}
   SlotsRan slot (s ∷ ss) = SlotRan slot s × SlotsRan (slot + 1) ss
 
-  -- all slots of a run, in order, with these acceptors before and behind it; these are all connections, and so the slots came out
+  -- all slots of a run, in order, with these acceptors before and after it; these are all connections, and so the slots came out
   pub record AllSlotsRan (before behind : List A) (conns : List (ConnLog I O)) (ends : List SlotEnd) : Type 0 where
     pub slots : List (Slot A I O)
     pub count : length slots ≡ setup.slots

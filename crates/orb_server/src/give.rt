@@ -49,7 +49,7 @@ pub fn no_parts<A: Drop, I: Drop, O: Drop>(
     })
 }
 
-/// Puts what one slot left behind the parts.
+/// Puts what one slot left after the parts.
 fn put_behind<A: Drop, I: Drop, O: Drop>(
     parts: Parts<A, I, O>,
     done: PoolDone<A, I, O>,

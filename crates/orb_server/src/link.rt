@@ -99,7 +99,7 @@ fn both_sides<I: Source + Drop, O: Sink + Send + Drop, R: Wait + Threads + Sync>
     )
 }
 
-/// Serves the slot's next connection. Its two sides go on by themselves, and the slot goes on behind both.
+/// Serves the slot's next connection. Its two sides go on by themselves, and the slot goes on after both.
 #[tactic(auto, using(crate::proofs::Serving::room_there))]
 pub fn serve_link<I: Source + Drop, O: Sink + Send + Drop, R: Wait + Threads + Sync>(
     rt: &R,

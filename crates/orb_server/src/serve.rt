@@ -128,8 +128,8 @@ fn run_prepared<
 }
 
 /// Runs the server of a setup: each slot serves the links of its acceptor, one after another, by two threads each, and one thread works
-/// for each of the pool. It comes back once every slot has left; the acceptors stand in their places then. Where a thread can't be made,
-/// its part is done behind the others', and the run may wait for ever. NoMemory comes before any thread runs, and leaves the acceptors.
+/// for each of the pool. It comes back once every slot has left; the acceptors are in their places then. Where a thread can't be made,
+/// its part is done after the others', and the run may wait for ever. NoMemory comes before any thread runs, and leaves the acceptors.
 ///
 /// It costs what its connections cost; two threads a slot and one for each thread of the pool; and room for the log of each connection that
 /// may come, `slots` times `per_slot`, which is taken at the start.

@@ -37,11 +37,11 @@ ping_size order id bytes reads =
     let headed = length-append (number_bytes order w32 (length inner)) inner in
     omega (arith, stop, ap length reads.parts, joined, headed, length-number_bytes order w32 (length inner), ap length none)
 
--- its answer is the priority, or for want of memory
+-- its answer is the priority, or when out of memory
 pub answer_size : (order : Order) (answer : Outcome) → IsAnswered answer (Returned (number_bytes order w16 100)) → body_len answer ≤ 2
 answer_size order answer (inl is) = subst (λ (o : Outcome). body_len o ≤ 2) (sym is) (omega (arith, length-number_bytes order w16 100))
 answer_size order answer (inr (is, other)) = subst (λ (o : Outcome). body_len o ≤ 2) (sym is) (omega arith)
 
--- behind fewer calls than a run may hear, and with the bytes that it may take, no limit is met
+-- after fewer calls than a run may hear, and with the bytes that it may take, no limit is met
 pub not_over : (c b size : ℕ) → c < MAX_RUN_CALLS → b + size ≤ MAX_RUN_BYTES → is_over (idle (opened built_in) c b) size ≡ false
 not_over c b size calls bytes = ap (λ (x : Bool). x || nat_lt MAX_RUN_BYTES (b + size)) (lt-leb MAX_RUN_CALLS c calls) ∙ le-ltb MAX_RUN_BYTES (b + size) bytes

@@ -42,7 +42,7 @@ idle base calls bytes = with_thread base Free calls bytes
 abbrev pub shut : State → ℕ → ℕ → State
 shut base calls bytes = record (idle base calls bytes) { closing = true }
 
--- what the thread does behind an offer
+-- what the thread does after an offer
 abbrev rest_of_deeds : JobRecord → Outcome → History
 rest_of_deeds job answer =
     entry (Take 0) (reply.Given job) ∷ entry (Finish 0 (record { job = job; outcome = answer })) reply.Finished
@@ -163,7 +163,7 @@ Agrees servant [] answers = Unit {0}
 Agrees servant (job ∷ jobs) [] = Unit {0}
 Agrees servant (job ∷ jobs) (answer ∷ answers) = (servant job ≡ answer) × Agrees servant jobs answers
 
--- each answer is the outcome, or came for want of memory
+-- each answer is the outcome, or came when out of memory
 abbrev pub Came : (JobRecord → Outcome) → List JobRecord → List Outcome → Type 0
 Came outcome [] answers = Unit {0}
 Came outcome (job ∷ jobs) [] = Unit {0}
@@ -235,7 +235,7 @@ served : (setup : SetupData) (outcome : List ℕ → JobRecord → Outcome) (lac
 served setup outcome lacks job none = ap (λ (x : Bool). if x then no_memory else outcome (interface_of setup job.target) job) none
 
 -- ---- the run of jobs over servants
--- a servant answers the outcome, or for want of memory
+-- a servant answers the outcome, or when out of memory
 answer_came : (setup : SetupData) (outcome : List ℕ → JobRecord → Outcome) (lacks : List ℕ) (job : JobRecord)
     → (outcome (interface_of setup job.target) job ≡ bad_operation → list_any (λ serial. serial == job.serial) lacks ≡ false)
     → IsAnswered (answer_of setup outcome lacks job) (outcome_at setup outcome job)

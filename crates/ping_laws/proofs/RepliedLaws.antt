@@ -72,7 +72,7 @@ use Rattle.ping_laws.proofs.PipedLaws.{gone, last, closes_so, last_says}
 not_full : (taken : ℕ) → taken ≤ MAX_PINGS → (taken == MAX_TAKEN) ≡ false
 not_full taken few = ne_eqb taken MAX_TAKEN (λ full. omega (arith, few, full))
 
--- the connection is ended in silence behind few bytes that end no reading and leave nothing unfinished
+-- the connection is ended in silence after few bytes that end no reading and leave nothing unfinished
 quiet_behind : (taken : ℕ) (ended : Bool) → taken ≤ MAX_PINGS → how_of (read_end None taken ended None) ≡ Quiet
 quiet_behind taken true few = ap (λ (full : Bool). how_of (if full then read.Spent else read.Ended (at_end None None))) (not_full taken few)
 quiet_behind taken false few = ap (λ (full : Bool). how_of (if full then read.Spent else read.ReadFault)) (not_full taken few)

@@ -26,7 +26,7 @@ built_in_tells s served key place is serial size id order =
 
 -- ---- the jobs of such requests
 
--- each job of such messages is told its priority
+-- each job of such messages is given its priority
 pub jobs_told : (setup : SetupData) (outcome : List ℕ → JobRecord → Outcome) → TellPriorities setup outcome
     → (n : ℕ) (ms : List Message) (no_lanes : setup.pool.laned ≡ false) (all : AllByRecursion (IsPing setup) ms)
     → AllByRecursion (IsTold setup outcome) (jobs_of setup n ms no_lanes all).0

@@ -63,7 +63,7 @@ single_pool pool = record pool {
   buffering = false;
 }
 
--- a machine with such a pool and the slots of this one, whose one thread does this, behind so many calls and bytes
+-- a machine with such a pool and the slots of this one, whose one thread does this, after so many calls and bytes
 abbrev pub with_thread : State → Doing → ℕ → ℕ → State
 with_thread s doing calls bytes = record (opening (single_pool s.pool) s.slots s.per_slot) {
   threads = record { lane = 0; is_static = true; started = true; doing = doing } ∷ [];
@@ -79,7 +79,7 @@ Does doing s = s ≡ with_thread s doing s.calls s.bytes
 abbrev pub IsSettled : State → Type 0
 IsSettled s = s ≡ record (with_thread s Free s.calls s.bytes) { closing = s.closing }
 
--- an answer is the outcome, or NO_MEMORY for want of memory; never so where the outcome is BAD_OPERATION, which takes none
+-- an answer is the outcome, or NO_MEMORY when out of memory; never so where the outcome is BAD_OPERATION, which takes none
 abbrev pub IsAnswered : Outcome → Outcome → Type 0
 IsAnswered answer outcome = (answer ≡ outcome) ⊎ ((answer ≡ no_memory) × ¬ (outcome ≡ bad_operation))
 
@@ -105,7 +105,7 @@ Runs outcome (job ∷ jobs) s s' bytes =
     Refused job s s' bytes
     ⊎ ((mid : State) × (first : List ℕ) × (rest : List ℕ) × Ran outcome job s mid first × Runs outcome jobs mid s' rest × (bytes ≡ first ++ rest))
 
--- what closes a connection behind a limit of the run
+-- what closes a connection after a limit of the run
 abbrev pub farewell : Bool → List ℕ
 farewell true = spelled Big close
 farewell false = []

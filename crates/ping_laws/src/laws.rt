@@ -26,7 +26,7 @@ pub fn built_in_tells_priorities()
 
 /// What the pipe of a setup whose servants tell priorities writes to bytes of the built form, where no limit of the run is met, is read as exactly one reply to each
 /// request of the bytes, in the order in which the requests were completed, with its id and in its byte order, and as nothing else:
-/// at the end of the input, and behind a failed read. In the built-in setup no such bytes meet a limit of the run, and each request
+/// at the end of the input, and after a failed read. In the built-in setup no such bytes meet a limit of the run, and each request
 /// runs at the priority 100.
 pub fn pings_are_replied()
     ensures replied { PingsReplied }

@@ -1,5 +1,5 @@
--- What was done from the opening on tells the serials for which memory was wanting: no serial is finished twice in a front of it,
--- so that the serials of that front are there, and it begins a run of the pipe; so none is finished twice by one entry more.
+-- What was done from the opening on tells the serials for which memory was wanting: no serial is finished twice in a prefix of it,
+-- so that the serials of that prefix are there, and it begins a run of the pipe; so none is finished twice by one entry more.
 use Rattle.std.proofs.Common.{◌≡◌, ℕ, List, [], ◌∷◌, ◌++◌, inl, inr, refl, sym, ap, ◌∙◌, subst, append_assoc, append-nil}
 use Rattle.std.specs.Prelude.{◌⊎◌}
 use Rattle.orb_base.specs.JobRecord.{JobRecord}
@@ -97,7 +97,7 @@ record Begun (setup : SetupData) (outcome : List ℕ → JobRecord → Outcome) 
   answers : HasAnswers (served setup outcome) entries
   begins : BeginsPiped setup outcome batch calls how entries
 
--- a front that finishes no serial twice offers none twice
+-- a prefix that finishes no serial twice offers none twice
 front_offers : (setup : SetupData) (outcome : List ℕ → JobRecord → Outcome) (batch : ℕ) (calls : List LaneCall) (how : How) (n : ℕ)
     (front others : History) → Begun setup outcome batch calls how n (front ++ others) → FinishesOnce front → OffersOnce pipe_conn front
 front_offers setup outcome batch calls how n front others x once =

@@ -20,7 +20,7 @@ one_longer calls call = length-append calls (call ∷ [])
 none_first : (n : ℕ) → length {A = LaneCall} [] + n ≡ n
 none_first n = omega arith
 
--- a group in front of others
+-- a group before others
 in_front : (servant : JobRecord → Outcome) (batch : ℕ) (start : Run) (group rest : List LaneCall) (behind : Run) → length group ≤ batch → EndsEarly batch start group rest
     → HasGroups servant batch (settled servant (all_applied start group)) rest behind → HasGroups servant batch start (group ++ rest) behind
 in_front servant batch start group rest behind few ends next = record {
@@ -32,7 +32,7 @@ in_front servant batch start group rest behind few ends next = record {
   made = next.made;
 }
 
--- what comes of the calls behind an open group, which may have so many more
+-- what comes of the calls after an open group, which may have so many more
 abbrev Opens : (JobRecord → Outcome) → ℕ → List LaneCall → Type 0
 Opens servant batch calls = (start : Run) (group : List LaneCall) (room : ℕ) → length group + room ≡ batch → 1 ≤ room
     → HasGroups servant batch start (group ++ calls) (grouped servant batch room (all_applied start group) calls)

@@ -27,7 +27,7 @@ more_all setup outcome n lacks [] apart agrees = tt
 more_all setup outcome n lacks (e ∷ es) (here, apart) (first, agrees) =
     (more_at setup outcome n lacks e.call here first, more_all setup outcome n lacks es apart agrees)
 
--- a call in front
+-- a call before
 record InFront (setup : SetupData) (outcome : List ℕ → JobRecord → Outcome) (call : LaneCall) (es : History) : Type 0 where
   lacks : List ℕ
   only : (n : ℕ) → apart_at n call → Apart n es → list_any (λ serial. serial == n) lacks ≡ false

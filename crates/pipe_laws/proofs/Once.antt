@@ -101,7 +101,7 @@ Few conn h = (c : ConnId) (n : ℕ) → finished c n h ≤ own conn c
 few_later : (conn : ConnId) (e : One) (es : History) → Few conn (e ∷ es) → Few conn es
 few_later conn e es few c n = let a = sum_by-cons (λ (x : One). finishes c n x.call) e es in let b = few c n in omega arith
 
--- the call and the entries behind it
+-- the call and the entries after it
 abbrev FewAt : ConnId → LaneCall → History → Type 0
 FewAt conn call es = (c : ConnId) (n : ℕ) → finishes c n call + finished c n es ≤ own conn c
 

@@ -41,7 +41,7 @@ turning s t e =
     let g = given_job a.0.doing a.2 in
     record { thread = a.0; job = g.0; there = a.1; given = g.1 }
 
--- behind the Take
+-- after the Take
 abbrev pub busy_one : (s : State) (t : ℕ) → Turning s t → Thread
 busy_one s t x = doing x.thread (Busy x.job)
 
@@ -60,7 +60,7 @@ take_sound s t x = ap is_some x.there
 busy_there : (s : State) (t : ℕ) (x : Turning s t) → slice_get (busy_at s t x).threads t ≡ Some (busy_one s t x)
 busy_there s t x = set_same s.threads t x.thread (busy_one s t x) x.there
 
--- behind the Finish
+-- after the Finish
 abbrev pub done_at : (s : State) (t : ℕ) → Turning s t → Answer → State
 done_at s t x answer = freed (answered (busy_at s t x) answer) t (busy_one s t x) (next_job s.pool.borrowing x.thread.lane s.waiting)
 

@@ -1,4 +1,4 @@
--- A run of the pipe stands where its history leads.
+-- A run of the pipe is where its history leads.
 use Rattle.std.proofs.Common.{◌≡◌, ℕ, zero, suc, Bool, true, false, List, [], ◌∷◌, ◌++◌, Option, Some, None, length, refl, sym, ap, ◌∙◌}
 use Rattle.std.specs.Prelude.{if◌then◌else◌, ◌==◌}
 use Rattle.orb_base.specs.JobRecord.{JobRecord}

@@ -66,7 +66,7 @@ rest_ends : (servant : JobRecord → Outcome) (turns : ℕ) (run : Run) → in_h
 rest_ends servant zero run few = none_in_hand run.state (omega arith) (first_given run.state) refl
 rest_ends servant (suc turns) run few = rest_one servant turns run (first_given run.state) refl few (rest_ends servant turns)
 
--- behind as many turns as requests are in hand no task is given
+-- after as many turns as requests are in hand no task is given
 pub rests : (servant : JobRecord → Outcome) (run : Run) → first_given (rested servant run).state ≡ None
 rests servant run = rest_ends servant (in_hand run.state) run (omega arith)
 
@@ -125,6 +125,6 @@ empty_ends : (conn : ConnId) (items : ℕ) (run : Run) → length run.state.out 
 empty_ends conn zero run few = no_items run.state conn few (item_place run.state conn) refl
 empty_ends conn (suc items) run few = empty_one conn items run (item_place run.state conn) refl few (empty_ends conn items)
 
--- behind as many collects as there are items none is left
+-- after as many collects as there are items none is left
 pub empties : (conn : ConnId) (run : Run) → item_place (emptied conn run).state conn ≡ None
 empties conn run = empty_ends conn (length run.state.out) run (omega arith)

@@ -306,7 +306,7 @@ last_same : (s : State) (how : How) → s.ended ≡ (pipe_conn, how) ∷ [] → 
 last_same s how ended empty =
     ap (λ (o : Option ℕ). (taken_out s pipe_conn o).0) empty ∙ ap (λ (o : Option How). (over s pipe_conn o).0) (end_found s how ended) ∙ over_same s pipe_conn how
 
--- what stands behind the end: a legal history, nothing owed, and each thread free
+-- what is after the end: a legal history, nothing owed, and each thread free
 pub record Closed (s : State) (run : Run) : Type 0 where
   pub legal : IsLegal s run.history
   pub leads : run.state ≡ replay s run.history

@@ -13,13 +13,13 @@ use Rattle.pipe_laws.specs.Legality.{AreHeardCalls}
 use Rattle.pipe_laws.specs.Lacking.{Agrees, HasAnswers, served, Lacking}
 use Rattle.pipe_laws.specs.Serials.{RisesFrom}
 
--- the entries stand in front of the others
+-- the entries are before the others
 abbrev pub IsFront : History → History → Type 0
 IsFront [] h = Unit {0}
 IsFront (e ∷ es) [] = ⊥
 IsFront (e ∷ es) (first ∷ h) = (e ≡ first) × IsFront es h
 
--- where the servants of a run of the pipe give the answers of a front of the entries, its history begins with that front
+-- where the servants of a run of the pipe give the answers of a prefix of the entries, its history begins with that prefix
 abbrev pub BeginsPiped : SetupData → (List ℕ → JobRecord → Outcome) → ℕ → List LaneCall → How → History → Type 0
 BeginsPiped setup outcome batch calls how entries =
     (lacks : List ℕ) (front : History) → IsFront front entries → Agrees (answer_of setup outcome lacks) front

@@ -17,7 +17,7 @@ all_applied run (call ∷ calls) = all_applied (applied run call) calls
 abbrev pub calls_of : List (List LaneCall) → List LaneCall
 calls_of groups = flat_map (λ g. g) groups
 
--- a group and those behind it; behind each the threads are run to rest and the items are collected
+-- a group and those after it; after each the threads are run to rest and the items are collected
 abbrev pub in_groups : (JobRecord → Outcome) → Run → List LaneCall → List (List LaneCall) → Run
 in_groups servant run group [] = settled servant (all_applied run group)
 in_groups servant run group (next ∷ others) = in_groups servant (settled servant (all_applied run group)) next others
@@ -26,15 +26,15 @@ in_groups servant run group (next ∷ others) = in_groups servant (settled serva
 abbrev pub IsNextUnready : State → List LaneCall → Type 0
 IsNextUnready s rest = (call : LaneCall) × (later : List LaneCall) × (rest ≡ call ∷ later) × (is_ready s call ≡ false)
 
--- a group that has one behind it is full, or the next call isn't ready behind it
+-- a group that has one after it is full, or the next call isn't ready after it
 abbrev pub EndsEarly : ℕ → Run → List LaneCall → List LaneCall → Type 0
 EndsEarly batch run group rest = (length group ≡ batch) ⊎ IsNextUnready (all_applied run group).state rest
 
--- behind the last group there is no call left, or the run is closing
+-- after the last group there is no call left, or the run is closing
 abbrev pub EndsLast : Run → List LaneCall → List LaneCall → Type 0
 EndsLast run group left = (left ≡ []) ⊎ ((all_applied run group).state.closing ≡ true)
 
--- no group has more calls than `batch`, and each ends where it must; these calls are left behind the last
+-- no group has more calls than `batch`, and each ends where it must; these calls are left after the last
 abbrev pub AreGroups : (JobRecord → Outcome) → ℕ → Run → List LaneCall → List (List LaneCall) → List LaneCall → Type 0
 AreGroups servant batch run group [] left = (length group ≤ batch) × EndsLast run group left
 AreGroups servant batch run group (next ∷ others) left =

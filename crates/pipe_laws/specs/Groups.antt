@@ -10,7 +10,7 @@ pub record Group : Type 0 where
   pub run : Run
   pub room : ℕ
 
--- the group ends behind the call that took its last room, and the next one has all of it
+-- the group ends after the call that took its last room, and the next one has all of it
 abbrev pub with_room : (JobRecord → Outcome) → ℕ → ℕ → Run → Group
 with_room servant batch left run = record { run = behind_call servant left run; room = if left == 0 then batch else left }
 
@@ -27,7 +27,7 @@ abbrev pub folded : (JobRecord → Outcome) → ℕ → Group → List LaneCall 
 folded servant batch g [] = g
 folded servant batch g (call ∷ calls) = folded servant batch (after_call servant batch g call) calls
 
--- the calls in groups are the fold of them, settled behind the last
+-- the calls in groups are the fold of them, settled after the last
 abbrev pub GroupsAreFolded : Type 0
 GroupsAreFolded = (servant : JobRecord → Outcome) (batch room : ℕ) (run : Run) (calls : List LaneCall)
     → grouped servant batch room run calls ≡ settled servant (folded servant batch (record { run = run; room = room }) calls).run

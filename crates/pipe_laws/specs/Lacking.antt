@@ -1,4 +1,4 @@
--- The serial numbers of the requests that were answered for want of memory: what a run of the pipe did tells them. Own profile.
+-- The serial numbers of the requests that were answered when out of memory: what a run of the pipe did tells them. Own profile.
 use Rattle.std.specs.Prelude.{◌≡◌, ◌==◌, ◌⊎◌, ℕ, false, List, [], ◌∷◌}
 use Rattle.std.specs.List.{list_any}
 use Rattle.orb_base.specs.JobRecord.{JobRecord}
@@ -21,7 +21,7 @@ abbrev pub Agrees : (JobRecord → Outcome) → History → Type 0
 Agrees servant [] = Unit {0}
 Agrees servant (e ∷ es) = agrees_at servant e.call × Agrees servant es
 
--- what came of a job is its outcome, or tells of want of memory; never so where the outcome is that there is no such operation
+-- what came of a job is its outcome, or says out of memory; never so where the outcome is that there is no such operation
 abbrev pub CameOf : (JobRecord → Outcome) → JobRecord → Outcome → Type 0
 CameOf outcome job came = (came ≡ outcome job) ⊎ ((came ≡ no_memory) × ¬ (outcome job ≡ bad_operation))
 
@@ -60,14 +60,14 @@ FinishesOnce [] = Unit {0}
 FinishesOnce (e ∷ es) = once_at e.call es × FinishesOnce es
 
 -- the serials for which memory was wanting: only finished ones, and with them the servants of `piped` gave each answer. Each answer
--- came of its job, so that none whose outcome is that there is no such operation tells of want of memory
+-- came of its job, so that none whose outcome is that there is no such operation says out of memory
 pub record Lacking (setup : SetupData) (outcome : List ℕ → JobRecord → Outcome) (h : History) : Type 0 where
   pub lacks : List ℕ
   pub only : (n : ℕ) → Apart n h → list_any (λ serial. serial == n) lacks ≡ false
   pub agrees : Agrees (answer_of setup outcome lacks) h
   pub came : HasAnswers (served setup outcome) h
 
--- they are there wherever each answer is the outcome or tells of want of memory, and no serial is finished twice
+-- they are there wherever each answer is the outcome or says out of memory, and no serial is finished twice
 abbrev pub LacksAreThere : Type 0
 LacksAreThere = (setup : SetupData) (outcome : List ℕ → JobRecord → Outcome) (h : History)
     → HasAnswers (served setup outcome) h → FinishesOnce h → Lacking setup outcome h

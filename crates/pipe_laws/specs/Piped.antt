@@ -1,5 +1,5 @@
--- What the pipe answers: one connection, whose calls are applied in groups. Behind each group, and behind the end, the
--- threads are run to rest and all items are collected; behind the end the connection collects once more. Own profile.
+-- What the pipe answers: one connection, whose calls are applied in groups. After each group, and after the end, the
+-- threads are run to rest and all items are collected; after the end the connection collects once more. Own profile.
 use Rattle.std.specs.Prelude.{◌≡◌, ℕ, zero, suc, ◌+◌, ◌-◌, ◌==◌, Bool, true, false, not, if◌then◌else◌, List, [], ◌∷◌, ◌++◌, Option, Some, None, length, count_by}
 use Rattle.std.specs.List.{list_any}
 use Rattle.orb_base.specs.Outcomes.{no_memory}
@@ -21,12 +21,12 @@ use Rattle.pipe_laws.specs.Setup.{interface_of, pipe_conn}
 use Rattle.adapter_policies.specs.SetupData.{SetupData}
 use Rattle.pipe_laws.specs.Said.{said}
 
--- where a run stands: its state, and the history that led to it
+-- where a run is: its state, and the history that led to it
 pub record Run : Type 0 where
   pub state : State
   pub history : History
 
--- the run stands where its history leads from this state
+-- the run is where its history leads from this state
 abbrev pub IsReplayed : State → Run → Type 0
 IsReplayed s run = run.state ≡ replay s run.history
 
@@ -82,16 +82,16 @@ emptied conn run = emptied_after conn (length run.state.out) run
 abbrev pub settled : (JobRecord → Outcome) → Run → Run
 settled servant run = emptied pipe_conn (rested servant run)
 
--- a group ends before a call that isn't ready, behind its `batch`-th call, and behind one that was answered Closing;
+-- a group ends before a call that isn't ready, after its `batch`-th call, and after one that was answered Closing;
 -- `room` is how many calls more fit into the open group
 abbrev pub before_call : (JobRecord → Outcome) → Run → LaneCall → Run
 before_call servant run call = if is_ready run.state call then run else settled servant run
 
--- how many calls more fit into the group behind this call
+-- how many calls more fit into the group after this call
 abbrev pub room_behind : ℕ → ℕ → Run → LaneCall → ℕ
 room_behind batch room run call = (if is_ready run.state call then room else batch) - 1
 
--- the group ends behind a call for which it had no more room
+-- the group ends after a call for which it had no more room
 abbrev pub behind_call : (JobRecord → Outcome) → ℕ → Run → Run
 behind_call servant room run = if room == 0 then settled servant run else run
 

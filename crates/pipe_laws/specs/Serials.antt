@@ -41,7 +41,7 @@ OffersOnce conn (e ∷ es) = OffersNew conn e.call es × OffersOnce conn es
 abbrev pub OfferedFinishesOnce : Type 0
 OfferedFinishesOnce = (conn : ConnId) (s : State) (h : History) → Opens s → IsLegal s h → OffersOnce conn h → FinishesOnce h
 
--- a call of a reading side before its end stands in front of the others
+-- a call of a reading side before its end is before the others
 abbrev pub in_front : LaneCall → List LaneCall → List LaneCall
 in_front (Offer job) calls = Offer job ∷ calls
 in_front (Post notice) calls = Post notice ∷ calls
@@ -57,7 +57,7 @@ abbrev pub heard_of : History → List LaneCall
 heard_of [] = []
 heard_of (e ∷ es) = in_front e.call (heard_of es)
 
--- behind a call of the connection that was answered Closing no call of a reading side is made
+-- after a call of the connection that was answered Closing no call of a reading side is made
 abbrev pub StopsAtClosing : ConnId → History → Type 0
 StopsAtClosing conn [] = Unit {0}
 StopsAtClosing conn (e ∷ es) = ((is_heard conn e.call && is_closing e.reply) ≡ true → heard_of es ≡ []) × StopsAtClosing conn es
@@ -80,7 +80,7 @@ abbrev pub IsFrom : ℕ → LaneCall → Type 0
 IsFrom n (Offer job) = n ≤ job.serial
 IsFrom n _ = Unit {0}
 
--- the least serial that may stand behind the call
+-- the least serial that may be after the call
 abbrev pub serial_behind : ℕ → LaneCall → ℕ
 serial_behind n (Offer job) = job.serial + 1
 serial_behind n _ = n
@@ -104,7 +104,7 @@ CountsFrom n (call ∷ calls) = IsNumbered n call × CountsFrom (n + 1) calls
 abbrev pub CountingRises : Type 0
 CountingRises = (n : ℕ) (calls : List LaneCall) → CountsFrom n calls → RisesFrom n calls
 
--- a history that made a front of a connection's calls, in order, offers no serial twice, where their serials rise
+-- a history that made a prefix of a connection's calls, in order, offers no serial twice, where their serials rise
 abbrev pub RisingOffersOnce : Type 0
 RisingOffersOnce = (pool : Pool) (conn : ConnId) (n : ℕ) (calls rest : List LaneCall) (h : History)
     → AreHeardCalls pool conn calls → RisesFrom n calls → heard_of h ++ rest ≡ calls → OffersOnce conn h

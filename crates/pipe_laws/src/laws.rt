@@ -14,7 +14,7 @@ ghost use Rattle.pipe_laws.specs.Begun.{BegunTellsLacks};
 ghost use Rattle.pipe_laws.specs.Lacking.{LacksAreThere};
 ghost use Rattle.pipe_laws.specs.Serials.{OfferedFinishesOnce, PipedMakesCalls, CountingRises, RisingOffersOnce, PipedTakesOnce};
 
-/// A run of the pipe, over any setup, servants, calls and groups, stands where its history leads.
+/// A run of the pipe, over any setup, servants, calls and groups, is where its history leads.
 pub fn piped_is_replayed()
     ensures { (setup : SetupData) (outcome : List ℕ → JobRecord → Outcome) (batch : ℕ) (calls : List LaneCall) (how : How)
         (lacks : List ℕ) → IsReplayed (opening setup.pool setup.slots setup.per_slot) (piped setup outcome batch calls how lacks) }
@@ -42,7 +42,7 @@ pub fn groups_are_folded()
     ensures more { FoldsGoOn }
 {}
 
-/// The calls are made in groups of at most `batch`. A group that isn't the last is full, or the next call isn't ready behind it; behind
+/// The calls are made in groups of at most `batch`. A group that isn't the last is full, or the next call isn't ready after it; after
 /// the last no call is left, unless the run is closing.
 pub fn groups_end_where_they_must()
     ensures { GroupsEndWhereTheyMust }
@@ -54,7 +54,7 @@ pub fn offered_finishes_once()
     ensures { OfferedFinishesOnce }
 {}
 
-/// Where each answer is the outcome of its request, or tells of want of memory, and no request is finished twice, there are
+/// Where each answer is the outcome of its request, or says out of memory, and no request is finished twice, there are
 /// serial numbers with which the servants of `piped` give these answers.
 pub fn lacks_are_there()
     ensures { LacksAreThere }
@@ -70,7 +70,7 @@ pub fn counting_rises()
     ensures { CountingRises }
 {}
 
-/// A history that made a front of calls whose serial numbers rise offered no request twice.
+/// A history that made a prefix of calls whose serial numbers rise offered no request twice.
 pub fn rising_offers_once()
     ensures { RisingOffersOnce }
 {}
@@ -82,7 +82,7 @@ pub fn piped_takes_once()
 {}
 
 /// What was done from the opening of a setup on tells the serial numbers of the requests to which memory was wanting, if it
-/// is legal, each answer is the outcome or tells of that want, and whatever front of it the servants of a run of the pipe
+/// is legal, each answer is the outcome or tells of that want, and whatever prefix of it the servants of a run of the pipe
 /// give, that run begins so. The serial numbers of the calls rise.
 pub fn begun_tells_lacks()
     ensures { BegunTellsLacks }

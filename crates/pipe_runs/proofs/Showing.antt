@@ -43,7 +43,7 @@ faults_with (read.Ended ending) old new out out' h none = (h, none)
 faults_with read.Spent old new out out' h none = (h, none)
 faults_with read.ReadFault old new out out' h none = (h, none)
 
--- a count doesn't rise that is 0 before and behind
+-- a count doesn't rise that is 0 before and after
 never_rose : (a b : ℕ) → a ≡ 0 → b ≡ 0 → Rose a b → ⊥
 never_rose a b none still rose = omega (arith, rose)
 

@@ -42,13 +42,13 @@ pub record Showed (shown : Shown) (setup : SetupData) (outcome : List ℕ → Jo
   pub wrote : WroteText (shown_of shown setup history) out out'
 
 -- the run of the stream was begun with this history, up to a call by which a write failed: all that it says was written, but that of
--- what the last call says only a front was
+-- what the last call says only a prefix was
 pub record ShowedUpToLast (setup : SetupData) (outcome : List ℕ → JobRecord → Outcome) (batch : ℕ) (earlier bytes : List ℕ) (ended : Bool) (history : History)
     (out out' : SinkState) : Type 0 where
   pub run : BeginsRunOf setup outcome batch earlier bytes ended history
   pub wrote : WroteUpToLast history out out'
 
--- a read failed exactly where the reading came out so; behind a limit of the run nothing is read
+-- a read failed exactly where the reading came out so; after a limit of the run nothing is read
 abbrev pub FailedReading : Bool → ReadEnd → SourceState → SourceState → Type 0
 FailedReading true end old new = new.faults ≡ old.faults
 FailedReading false (read.Ended ending) old new = new.faults ≡ old.faults
@@ -115,7 +115,7 @@ PipesBytes (Ok ran) shown setup outcome batch earlier bytes ended old new out ou
     ShowsRun ran.end ran.history.items shown setup outcome batch earlier bytes ended old new out out'
 PipesBytes (Err _) shown setup outcome batch earlier bytes ended old new out out' = BeganShowing shown setup outcome batch earlier bytes ended out out' × MayFail old new
 
--- some bytes were taken, those of the last read behind the earlier ones, and what is answered and written is what they say
+-- some bytes were taken, those of the last read after the earlier ones, and what is answered and written is what they say
 pub record Pipes (answer : Result Piped NoMemory) (shown : Shown) (setup : SetupData) (outcome : List ℕ → JobRecord → Outcome) (batch : ℕ)
     (old new : SourceState) (out out' : SinkState) : Type 0 where
   pub bytes : List ℕ

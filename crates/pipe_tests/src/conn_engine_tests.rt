@@ -69,7 +69,7 @@ const CLOSE: &[u8] = b"GIOP\x01\x02\0\x05\0\0\0\0";
 
 const ERROR: &[u8] = b"GIOP\x01\x02\0\x06\0\0\0\0";
 
-/// A request of id 1 in three pieces, of which the others stand around a request of id 2: 128 bytes. The second request is whole with
+/// A request of id 1 in three pieces, of which the others are around a request of id 2: 128 bytes. The second request is whole with
 /// 72 of them.
 const FRAGMENTED: &[&[u8]] = &[FIRST, BETWEEN, SECOND, LAST];
 
@@ -182,7 +182,7 @@ fn runs(
     }
 }
 
-/// Puts these parts behind the bytes; whether there was memory.
+/// Puts these parts after the bytes; whether there was memory.
 fn join(bytes: &mut Octets, parts: &[&[u8]]) -> bool {
     for part in parts {
         if bytes.append(part).is_err() {
@@ -247,7 +247,7 @@ fn each_front_is_run(alloc: Global, setup: &Setup, bytes: &[u8]) -> bool {
     true
 }
 
-/// Whether what the first `n` bytes mean is made where the read behind them fails.
+/// Whether what the first `n` bytes mean is made where the read after them fails.
 fn fault_is_met(alloc: Global, setup: &Setup, bytes: &[u8], n: usize) -> bool {
     let reads = [n as u64];
     let outside = Outside {
@@ -339,7 +339,7 @@ fn all_hold(alloc: Global, rows: &[Row]) -> bool {
     true
 }
 
-/// Four requests and a broken header behind them.
+/// Four requests and a broken header after them.
 const FOUR: &[&[u8]] = &[BETWEEN, BETWEEN, BETWEEN, BETWEEN, BROKEN];
 
 /// Of two requests a group has two offers, four calls of their turns and two collects.
@@ -553,7 +553,7 @@ fn a_piece_is_heard(rt: HostRuntime) -> Result<(), Fail> {
     Ok(())
 }
 
-/// Whether the bytes are these parts, one behind the other.
+/// Whether the bytes are these parts, one after the other.
 fn is_joined(bytes: &[u8], parts: &[&[u8]]) -> bool {
     let mut rest = bytes;
     for part in parts {

@@ -52,7 +52,7 @@ enum Call {
     Cancel(u32),
 }
 
-/// The parts of an input, one behind the other, the calls that they mean, and how the reading ends.
+/// The parts of an input, one after the other, the calls that they mean, and how the reading ends.
 type Row = (&'static [&'static [u8]], &'static [Call], Ending);
 
 fn offers(job: &Job, want: Call) -> bool {
@@ -116,7 +116,7 @@ fn hears(alloc: Global, setup: &Setup, bytes: &[u8], calls: &[Call], ending: End
     }
 }
 
-/// Puts these parts behind the bytes; whether there was room.
+/// Puts these parts after the bytes; whether there was room.
 fn join(bytes: &mut Octets, parts: &[&[u8]]) -> bool {
     for part in parts {
         if bytes.append(part).is_err() {
@@ -194,7 +194,7 @@ const ENDING: &[Row] = &[
             fault: Fault::WrongWay,
         },
     ),
-    // A message goes before a fault of framing behind it.
+    // A message goes before a fault of framing after it.
     (&[CLOSE, BROKEN], &[], Ending::Ended),
     (
         &[PING, BROKEN],

@@ -265,7 +265,7 @@ fn all_are_written(alloc: Global) -> bool {
     true
 }
 
-/// A head and a small body are one write: the second one fails, and isn't made. A larger body is written behind its head.
+/// A head and a small body are one write: the second one fails, and isn't made. A larger body is written after its head.
 #[test]
 fn a_small_reply_is_one_write(rt: HostRuntime) {
     assert!(rt; all_are_written(rt.alloc()));

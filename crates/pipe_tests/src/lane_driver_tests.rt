@@ -48,7 +48,7 @@ const LANED: &str =
 const ONE_CALL: &str =
     "[server]\nmax_calls = 1\n[pool]\nstatic = 1\ndynamic = 0\ndefault_priority = 0\n";
 
-/// One adapter and its object, behind each of these.
+/// One adapter and its object, after each of these.
 const REST: &str =
     "[[adapter]]\nname = \"a\"\nmodel = \"CLIENT_PROPAGATED\"\npriority = 0\n[[object]]\nkey = \"k\"\nadapter = \"a\"\ninterface = \"IDL:I:1.0\"\n";
 
@@ -250,7 +250,7 @@ fn a_cancelled_request_never_runs(rt: HostRuntime) -> Result<(), Fail> {
     Ok(())
 }
 
-/// Whether the bytes are these parts, one behind the other.
+/// Whether the bytes are these parts, one after the other.
 fn is_joined(bytes: &[u8], parts: &[&[u8]]) -> bool {
     let mut rest = bytes;
     for part in parts {

@@ -183,7 +183,7 @@ fn runs(alloc: Global, setup: &Setup, piping: &Piping<'_>, input: &[u8], want: &
     }
 }
 
-/// Puts these parts behind the bytes; whether there was memory.
+/// Puts these parts after the bytes; whether there was memory.
 fn join(bytes: &mut Octets, parts: &[&[u8]]) -> bool {
     for part in parts {
         if bytes.append(part).is_err() {
@@ -193,7 +193,7 @@ fn join(bytes: &mut Octets, parts: &[&[u8]]) -> bool {
     true
 }
 
-/// The pipe of a configuration, the parts of its input, one behind the other, and what comes of them.
+/// The pipe of a configuration, the parts of its input, one after the other, and what comes of them.
 struct Row {
     config: &'static [u8],
     piping: Piping<'static>,
@@ -397,7 +397,7 @@ fn wanted_of(shown: Shown, n: usize) -> (&'static [&'static [u8]], usize) {
     }
 }
 
-/// Whether what the first `n` bytes mean is shown where the read behind them fails.
+/// Whether what the first `n` bytes mean is shown where the read after them fails.
 fn fault_is_met(alloc: Global, setup: &Setup, input: &[u8], shown: Shown, n: usize) -> bool {
     let reads = [n as u64];
     let piping = Piping {
@@ -448,7 +448,7 @@ fn what_was_read_before_a_failed_read_is_shown(rt: HostRuntime) {
     assert!(rt; faults_over(rt.alloc(), LANES));
 }
 
-/// The calls behind `n` bytes that were written. The reply to the first request is handed over by the fourth call, that to the second by
+/// The calls after `n` bytes that were written. The reply to the first request is handed over by the fourth call, that to the second by
 /// the eighth.
 fn calls_behind(shown: Shown, n: usize) -> usize {
     match shown {
@@ -458,7 +458,7 @@ fn calls_behind(shown: Shown, n: usize) -> usize {
     }
 }
 
-/// Whether this front is written where the write behind it fails.
+/// Whether this front is written where the write after it fails.
 fn front_stands(alloc: Global, setup: &Setup, input: &[u8], shown: Shown, front: &[u8]) -> bool {
     let n = front.len();
     let writes = [n as u64];
@@ -568,7 +568,7 @@ fn a_failed_write_of_lines_goes_before_a_failed_read(rt: HostRuntime) {
     assert!(rt; all_hold(rt.alloc(), BOTH_FAIL));
 }
 
-/// Puts the same bytes behind the others 20,000 times; whether there was memory.
+/// Puts the same bytes after the others 20,000 times; whether there was memory.
 fn repeat(bytes: &mut Octets, part: &[u8]) -> bool {
     for _ in 0..20_000 {
         if bytes.append(part).is_err() {
@@ -609,7 +609,7 @@ fn a_long_stream_is_run(rt: HostRuntime) {
     assert!(rt; runs_long(rt.alloc(), LANES));
 }
 
-/// Whether the bytes are these parts, one behind the other.
+/// Whether the bytes are these parts, one after the other.
 fn is_joined(bytes: &[u8], parts: &[&[u8]]) -> bool {
     let mut rest = bytes;
     for part in parts {

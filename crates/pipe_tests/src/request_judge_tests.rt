@@ -180,7 +180,7 @@ fn each_holds(alloc: Global, setup: &Setup, rows: &[Row]) -> bool {
     true
 }
 
-/// Whether the requests of these rows come to what stands there.
+/// Whether the requests of these rows come to what is there.
 fn all_hold(alloc: Global, config: &[u8], rows: &[Row]) -> bool {
     match read_setup(alloc, config) {
         Ok(setup) => each_holds(alloc, &setup, rows),

@@ -15,7 +15,7 @@ row_at : (b : Bool) (r : MapRow) (rest : Option MapRow) (n : ℤ) → option_map
 row_at true r rest n h = inl (refl, cc)
 row_at false r rest n h = inr (refl, h)
 
--- what rows behind a priority hold is above it
+-- what rows after a priority hold is above it
 held_above : (b : ℕ) (rs : List MapRow) (q : ℕ) (n : ℤ) → Behind b rs → rows_native rs q ≡ Some n → b < q
 held_above b [] q n up h = absurd (cc)
 held_above b (r ∷ rs) q n (above, ends, rest) h =

@@ -30,7 +30,7 @@ behind_of : (r : MapRow) (rs : List MapRow) → Rises (r ∷ rs) → HasBands (r
 behind_of r [] h e = tt
 behind_of r (s ∷ rs) h e = (h 0 s (omega arith), e 1 s (omega arith), behind_of s rs (rises_on r (s ∷ rs) h) (bands_on r (s ∷ rs) e))
 
--- the first row is a band, and the rest is behind it
+-- the first row is a band, and the rest is after it
 pub first_of : (r : MapRow) (rs : List MapRow) → Rises (r ∷ rs) → HasBands (r ∷ rs) → (r.band.low ≤ r.band.high) × Behind r.band.high rs
 first_of r rs h e = (e 0 r (omega arith), behind_of r rs h e)
 
@@ -46,7 +46,7 @@ outside_above s p h = grind (arith, nat_tests)
 pub inside_low : (s : Span) → s.low ≤ s.high → holds s s.low ≡ true
 inside_low s h = grind (arith, nat_tests)
 
--- rows behind a priority don't hold it, nor a lesser one
+-- rows after a priority don't hold it, nor a lesser one
 pub none_behind : (b : ℕ) (rs : List MapRow) (p : ℕ) → Behind b rs → p ≤ b → find (λ row. holds row.band p) rs ≡ None
 none_behind b [] p up h = refl
 none_behind b (r ∷ rs) p (above, ends, rest) h = rw (outside_above r.band p (omega arith)) (none_behind r.band.high rs p rest (omega arith))

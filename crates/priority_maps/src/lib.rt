@@ -1,6 +1,6 @@
 //! Maps between CORBA priorities and native ones (Real-time CORBA 1.2, Priority mappings).
 //!
-//! A map is linear, or a table of bands. What each means stands in `specs/`, and so do the laws that hold of both.
+//! A map is linear, or a table of bands. What each means is in `specs/`, and so do the laws that hold of both.
 #![tactic(auto)]
 
 mod laws;

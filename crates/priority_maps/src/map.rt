@@ -65,7 +65,7 @@ impl Map {
 
     /// The map of these rows. None exactly where a row's low end isn't above the high end of the row before it. Rows
     /// that are none give a map without native priorities. Takes memory for a tree of the rows, and so much work as
-    /// sorting them would; an error is want of memory.
+    /// sorting them would; an error is out of memory.
     pub fn table(alloc: Global, rows: List<MapRow>) -> Result<Option<Map>, NoMemory>
         ensures none { IfOk result (λ found. IsSome found ↔ Rises rows.items) }
         ensures value { IfOk result (λ found. IfSome found (λ m. m ≡ table rows.items)) }

@@ -24,7 +24,7 @@ some_rows (row ∷ rows) p some = refl
 
 -- ---- the loop over pairs
 
--- the rows behind one, as a slice of the list has them
+-- the rows after one, as a slice of the list has them
 behind_all : (rows : List TransformRow) (at : ℕ) → take (length rows - (at + 1)) (drop (at + 1) rows) ≡ drop (at + 1) rows
 behind_all rows at = take_all (length rows - (at + 1)) (drop (at + 1) rows) (omega (arith, length-drop (at + 1) rows))
 

@@ -12,7 +12,7 @@ use orb_base::{Band, LaneSpec, PoolSpec, Priority};
 #[tactic(auto, using(crate::proofs::Lanes::lane_is))]
 pub fn placed(pool: &PoolSpec, band: Option<Band>, p: Priority) -> Result<u8, Misplaced>
     requires well_formed { IsWellFormed pool.now }
-    // A priority outside the band is told as such, also where no lane has it.
+    // A priority outside the band is given as such, also where no lane has it.
     ensures placed { Placed pool.now band p result }
     ensures lane { IfOk result (IsLaneOf pool.now p) }
 {

@@ -8,7 +8,7 @@ use Rattle.reference_lines.specs.declared.refs_end.TheConstants.{MAX_REFERENCE}
 use Rattle.reference_lines.specs.RefsText.{text_of, lines_of, IsPrinted}
 use Rattle.text_streams.specs.Streams.{Gave, WroteText, WroteFrontOf}
 
--- a read has answered the end, behind which nothing is left
+-- a read has answered the end, after which nothing is left
 abbrev pub MetEnd : SourceState → SourceState → Type 0
 MetEnd old new = Rose old.ends new.ends × IfSome new.left (λ rest. rest ≡ [])
 
@@ -25,7 +25,7 @@ WritesLines (Ok TooLong) text out out' = ⊥
 WritesLines (Ok ReadFault) text out out' = ⊥
 WritesLines (Err _) text out out' = out' ≡ out
 
--- what comes of a text behind which a read failed
+-- what comes of a text after which a read failed
 abbrev pub CutsOff : RefsEnd → List ℕ → Type 0
 CutsOff TooLong text = MAX_REFERENCE < length text
 CutsOff ReadFault text = length text ≤ MAX_REFERENCE
@@ -38,8 +38,8 @@ abbrev pub ReadsText : Result RefsEnd NoMemory → List ℕ → SourceState → 
 ReadsText answer text old new out out' =
     MetEnd old new × (new.faults ≡ old.faults) × (length text ≤ MAX_REFERENCE) × WritesLines answer text out out'
 
--- each answer has its cause in the bytes that were taken. They are a front of the input where their text is too long, whatever
--- the next read answers; a failed read is told where it isn't, and no end was met
+-- each answer has its cause in the bytes that were taken. They are a prefix of the input where their text is too long, whatever
+-- the next read answers; a failed read is given where it isn't, and no end was met
 abbrev pub RefsBytes : Result RefsEnd NoMemory → List ℕ → SourceState → SourceState → SinkState → SinkState → Type 0
 RefsBytes (Ok Done) bytes old new out out' = ReadsText (Ok Done) (text_of bytes) old new out out'
 RefsBytes (Ok (Refused f)) bytes old new out out' = ReadsText (Ok (Refused f)) (text_of bytes) old new out out'

@@ -47,7 +47,7 @@ IsPrinted lines text =
     ((l : Location) × IsLocation l text × (lines ≡ location_text l))
     ⊎ ((r : Reference) × (p : Profile) × IsReference r text × IsFirstProfile p r × (lines ≡ profile_text r.type_id p))
 
--- a refused text names no location; of want of memory nothing is said
+-- a refused text names no location; of out of memory nothing is said
 abbrev pub NamesNone : RefError → List ℕ → Type 0
 NamesNone (Refused f) text = (l : Location) → ¬ IsLocation l text
 NamesNone NoMemory text = Unit {0}

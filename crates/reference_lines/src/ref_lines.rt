@@ -39,7 +39,7 @@ fn model_name(model: PriorityModel) -> &'static str
     }
 }
 
-/// Puts the repository id of a type behind the text.
+/// Puts the repository id of a type after the text.
 pub fn put_type(text: &mut String, id: &Text) -> Result<(), NoMemory>
     ensures { OnOk result (string_bytes text.new ≡ string_bytes text.old ++ Lines.type_text id.now) }
 {
@@ -48,7 +48,7 @@ pub fn put_type(text: &mut String, id: &Text) -> Result<(), NoMemory>
     Ok(())
 }
 
-/// Puts an address behind the text.
+/// Puts an address after the text.
 pub fn put_address(text: &mut String, address: Address<'_>) -> Result<(), NoMemory>
     ensures { OnOk result (string_bytes text.new ≡ string_bytes text.old
         ++ Lines.address_text address.entry.host.now address.entry.port address.entry.key.now.items) }
@@ -57,7 +57,7 @@ pub fn put_address(text: &mut String, address: Address<'_>) -> Result<(), NoMemo
     Ok(())
 }
 
-/// Puts a priority model and the server's priority behind the text, where there are some.
+/// Puts a priority model and the server's priority after the text, where there are some.
 pub fn put_model(
     text: &mut String,
     model: Option<(PriorityModel, Priority)>,
@@ -72,7 +72,7 @@ pub fn put_model(
     Ok(())
 }
 
-/// Puts a band behind the text.
+/// Puts a band after the text.
 fn put_band(text: &mut String, band: Band) -> Result<(), NoMemory>
     ensures { OnOk result (string_bytes text.new ≡ string_bytes text.old ++ Lines.band_text band) }
 {
@@ -82,7 +82,7 @@ fn put_band(text: &mut String, band: Band) -> Result<(), NoMemory>
     Ok(())
 }
 
-/// Puts each band behind the text.
+/// Puts each band after the text.
 fn put_each(text: &mut String, bands: &[Band]) -> Result<(), NoMemory>
     ensures { OnOk result (string_bytes text.new ≡ string_bytes text.old ++ flat_map Lines.band_text bands.now) }
 {
@@ -92,7 +92,7 @@ fn put_each(text: &mut String, bands: &[Band]) -> Result<(), NoMemory>
     Ok(())
 }
 
-/// Puts each band behind the text, where there are bands.
+/// Puts each band after the text, where there are bands.
 pub fn put_bands(text: &mut String, bands: &Option<List<Band>>) -> Result<(), NoMemory>
     ensures { OnOk result (string_bytes text.new ≡ string_bytes text.old ++ Lines.bands_text (option_map items_of bands.now)) }
 {

@@ -117,7 +117,7 @@ fn write_lines<O: Sink>(alloc: Global, text: &[u8], sink: &mut O) -> Result<Refs
     }
 }
 
-/// What comes of a text behind which a read failed: what is there may be too long already.
+/// What comes of a text after which a read failed: what is there may be too long already.
 fn cut_off(text: &[u8]) -> RefsEnd
     ensures { CutsOff result text.now }
 {

@@ -2,7 +2,7 @@
 
 use object_refs::RefFault;
 
-/// The most bytes of the text of a reference that is read, without the line feed behind it: own profile.
+/// The most bytes of the text of a reference that is read, without the line feed after it: own profile.
 pub const MAX_REFERENCE: usize = 65_536;
 
 /// How `orb refs` came out.
@@ -16,6 +16,6 @@ pub enum RefsEnd {
     TooLong,
     /// The source failed. Nothing was written.
     ReadFault,
-    /// The sink failed. A front of the lines was written.
+    /// The sink failed. A prefix of the lines was written.
     WriteFault,
 }

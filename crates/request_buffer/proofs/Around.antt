@@ -44,7 +44,7 @@ pub record Among (small big : List Entry) (e : Entry) : Type 0 where
 widened : (xs ls rs ys : List Entry) → xs ++ ((ls ++ rs) ++ ys) ≡ (xs ++ ls) ++ (rs ++ ys)
 widened xs ls rs ys = ap (λ zs. xs ++ zs) (append_assoc ls rs ys) ∙ sym (append_assoc xs ls (rs ++ ys))
 
--- where a request stands
+-- where a request is
 pub record Holds (items : List Entry) (e : Entry) : Type 0 where
   pub before : List Entry
   pub after : List Entry

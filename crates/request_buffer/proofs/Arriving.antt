@@ -68,7 +68,7 @@ module _ (next : ℕ) (queues : List (Room Entry)) (e : Entry) (at : Standing ne
   older : (k : ℕ) (y : Entry) → k < length at.sooner → slice_get (arrived next (entries queues)) k ≡ Some y → y.stamp < e.stamp
   older k y below g = at.old k y (of_earlier at.sooner (e ∷ at.later) k y below (ap (λ zs. slice_get zs k) (sym at.is) ∙ g))
 
-  -- its stamp stands at its place alone
+  -- its stamp is at its place alone
   stamp_place : position (λ p. p == e.stamp) (stamps_of next queues) ≡ Some (length at.sooner)
   unfolding stamps_of
   stamp_place =

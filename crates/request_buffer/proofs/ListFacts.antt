@@ -79,7 +79,7 @@ module _ {X : Type 0} where
     | inr (j, s, inr after) ↦ inr (suc j, s, inr (let b = after.0 in omega arith, ap suc after.1))
   ]
 
-  -- what is left where an item was taken out stood at its place or one later
+  -- what is left where an item was taken out was at its place or one later
   pub left_at : (xs : List X) (at k : ℕ) (y : X) → slice_get (remove xs at) k ≡ Some y
       → (j : ℕ) × (slice_get xs j ≡ Some y) × (((k < at) × (j ≡ k)) ⊎ ((at ≤ k) × (j ≡ suc k)))
   left_at [] zero k y g = absurd (none-some y g)

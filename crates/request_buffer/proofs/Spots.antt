@@ -15,7 +15,7 @@ use Rattle.request_buffer.specs.Finding.{AreQueues, AreStamped, IsBest, IsBestIn
 use Rattle.request_buffer.proofs.Around.{in_queue}
 use Rattle.request_buffer.proofs.Searching.{ahead_is, not_ahead, outranks_too}
 
--- what is known of what stands there
+-- what is known of what is there
 pub record There {X : Type 0} (o : Option X) (P : X → Type 0) : Type 0 where
   pub value : X
   pub is : o ≡ Some value
@@ -126,7 +126,7 @@ pub best_there : (sought : Sought) (queues : List (Room Entry)) (n : ℕ) (queue
     → IsSomeAnd (slice_get queues n) (λ (r : Room Entry). MatchOption found (NoneIn sought r.items) (IsBestIn sought r.items))
 best_there sought queues n queue found g is = from_there (slice_get queues n) (λ (r : Room Entry). MatchOption found (NoneIn sought r.items) (IsBestIn sought r.items)) queue g is
 
--- what stands within a list
+-- what is within a list
 pub some_within : {X : Type 0} (xs : List X) (n : ℕ) → n < length xs → (x : X) × (slice_get xs n ≡ Some x)
 some_within [] n within = absurd (omega arith)
 some_within (x ∷ xs) zero within = (x, refl)
@@ -194,7 +194,7 @@ pub ruleset built_steps = (built_start, built_more, built_end, built_none)
 pub has_stamp : (queues : List (Room Entry)) (stamp : ℕ) (spot : Spot) → IsBest (Stamped stamp) queues spot → HasStamp queues spot.queue spot.found.at stamp
 has_stamp queues stamp spot best = record { entry = best.entry; stands = best.stands; is = eqb-true best.entry.stamp stamp best.fits }
 
--- a request stands within its queue
+-- a request is within its queue
 pub within_queue : (queues : List (Room Entry)) (q at : ℕ) (e : Entry) → StandsAt queues q at e → IsSomeAnd (slice_get queues q) (λ (r : Room Entry). at < length r.items)
 within_queue queues q at e stands =
     from_there (slice_get queues q) (λ (r : Room Entry). at < length r.items) stands.queue stands.there (slice_get_within stands.queue.items at e stands.stands)

@@ -30,11 +30,11 @@ has_room kept size = nat_lt (length kept.requests) kept.max_requests && nat_le (
 abbrev pub SameLimits : Kept → Kept → Type 0
 SameLimits old new = (new.max_requests ≡ old.max_requests) × (new.max_bytes ≡ old.max_bytes)
 
--- the request came behind the others
+-- the request came after the others
 abbrev pub IsPut : Kept → Kept → Job → Type 0
 IsPut old new job = (new.requests ≡ old.requests ++ job ∷ []) × SameLimits old new
 
--- the request stood at this position and was taken out
+-- the request was at this position and was taken out
 abbrev pub IsTaken : Kept → Kept → Job → ℕ → Type 0
 IsTaken old new job at = (slice_get old.requests at ≡ Some job) × (new.requests ≡ remove old.requests at) × SameLimits old new
 

@@ -1,4 +1,4 @@
--- What the client of a refused request is told: CORBA 3.0.3, section 4.12. The minor codes are own profile.
+-- What the client of a refused request is given: CORBA 3.0.3, section 4.12. The minor codes are own profile.
 use Rattle.std.specs.Prelude.{ℕ}
 use Rattle.orb_base.specs.declared.notice.What.{What}
 use Rattle.orb_base.specs.declared.notice.What.TheVariants.{System, Addressing}

@@ -1,5 +1,5 @@
 -- What a server makes of a request: Real-time CORBA 1.2, Priority models, Priority transforms, Priority banded connections and
--- Threadpools. The order of the causes is own profile: each is told only where none before it is there.
+-- Threadpools. The order of the causes is own profile: each is given only where none before it is there.
 use Rattle.std.specs.Prelude.{◌≡◌, ℕ, true, false, List, Option, Some, None, Result, Ok, Err, IsSome, codes}
 use Rattle.orb_base.specs.Pool.{Pool}
 use Rattle.orb_base.specs.Priorities.{lane_of}

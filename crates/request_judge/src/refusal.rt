@@ -39,7 +39,7 @@ pub enum Refusal {
 }
 
 impl Refusal {
-    /// What the client is told, where a reply is due.
+    /// What the client is given, where a reply is due.
     pub fn answer(self) -> What
         ensures { result ≡ Spec.answer_of self }
     {

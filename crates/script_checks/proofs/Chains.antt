@@ -1,4 +1,4 @@
--- An expression with what stands behind it is a chain.
+-- An expression with what is after it is a chain.
 use Rattle.std.proofs.Common.{◌≡◌, ◌∙◌, List, [], ◌∷◌, Ok, Err, ap, refl, sym}
 use Rattle.std.specs.Prelude.{Option, None}
 use Rattle.idl_types.specs.declared.type_ref.TypeRef.{TypeRef}

@@ -11,7 +11,7 @@ use Rattle.script_values.specs.Trees.{Term, joint, spine}
 use Rattle.script_values.specs.Views.{joint_of, part_of, joints_view, parts_view}
 use Rattle.script_checks.specs.Built.{members_len}
 
--- one more link behind those that are there
+-- one more link after those that are there
 pub one_link : (ts : List Thing) (t : Term) (ls : List Link) (l : Link)
     → spine t (joints_view ts (ls ++ l ∷ [])) ≡ joint (spine t (joints_view ts ls)) (joint_of ts l)
 one_link ts t [] l = refl

@@ -27,11 +27,11 @@ spine_place : (t : Said) (js : List Joint) → place_of (spine t js) ≡ place_o
 spine_place t [] = refl
 spine_place t (j ∷ js) = spine_place (joint t j) js ∙ same_place t j
 
--- an expression begins where its first token stands
+-- an expression begins where its first token is
 pub phrase_place : (p : Phrase) → place_of (said_of p) ≡ p.at
 phrase_place p = ap place_of (said_is p) ∙ spine_place (said p.at (shape_of p.form)) (joints_view p.links.items)
 
--- an expression is checked as its first part, with what stands behind it
+-- an expression is checked as its first part, with what is after it
 pub phrase_is_chain : (s : Scene) (vs : List Var) (want : Option TypeRef) (p : Phrase)
     → typed s vs want (said_of p)
     ≡ (shaped s vs (want_first want (joints_view p.links.items)) p.at (shape_of p.form) >>= chained s vs p.at (joints_view p.links.items))
@@ -48,7 +48,7 @@ given_asked : (s : Scene) (vs : List Var) (due : TypeRef) (e : Said)
 unfolding typed given
 given_asked s vs due (said at shape) = refl
 
--- the kind is asked behind the expression
+-- the kind is asked after the expression
 pub kind_behind : (s : Scene) (vs : List Var) (k : Kind) (p : Phrase)
     → of_kind s vs k (said_of p) ≡ (typed s vs None (said_of p) >>= needs (Some k) p.at)
 kind_behind s vs k p =

@@ -1,4 +1,4 @@
--- The check of statements (own profile). A variable lives from behind its `let` to the end of its block, in the slot that has its place
+-- The check of statements (own profile). A variable lives from after its `let` to the end of its block, in the slot that has its place
 -- among those that are alive; the parameters come first. A method has 64 `let` at most.
 use Rattle.std.specs.Prelude.{ℕ, ◌+◌, ◌&&◌, ◌||◌, nat_lt, Bool, true, false, List, [], ◌∷◌, ◌++◌, length, position, option_to_list, Ok, Option, Some, None, if◌then◌else◌}
 use Rattle.std.specs.Option.{option_map, is_some}
@@ -56,7 +56,7 @@ set_place vs p = or_refused cause.UnknownName p.at (find_var 0 vs p.name) >>= se
 abbrev pub raised_at : Names → Scoped → ExceptionView → Checks ℕ
 raised_at raises n e = or_refused cause.NotRaised (last_part n) (position (bytes_eq e.id) raises)
 
--- `return` without a value stands where no result is due
+-- `return` without a value is where no result is due
 abbrev pub leaves_at : At → Option TypeRef → Checks Step
 leaves_at at None = Ok leave
 leaves_at at (Some due) = refused cause.Kind at
@@ -80,7 +80,7 @@ unfoldable mutual
       >>= λ i. fields s vs e.0 (members_of e.1.members) fs [] >>= complete (members_of e.1.members) close
       >>= λ ps. Ok (raise (short i) (terms_of ps), None, lets)
 
-  -- statements behind those so far, and the number of `let` behind them
+  -- statements after those so far, and the number of `let` after them
   pub lines : Scene → Due → List Var → ℕ → Says → List Step → Checks (List Step × ℕ)
   lines s d vs lets no_says done = Ok (done, lets)
   lines s d vs lets (one_say l ls) done = line s d vs lets l >>= λ x. lines s d (vs ++ option_to_list x.1) x.2 ls (done ++ x.0 ∷ [])

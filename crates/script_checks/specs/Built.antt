@@ -23,7 +23,7 @@ abbrev pub is_given : List run.Part → ℕ → Bool
 is_given [] n = false
 is_given (p ∷ ps) n = (p.0 == n) || is_given ps n
 
--- the member that a field gives: it is there, and wasn't given; both faults stand at the field's name
+-- the member that a field gives: it is there, and wasn't given; both faults are at the field's name
 abbrev pub new_member : Members → List run.Part → Part → Checks ℕ
 new_member ms given p =
     or_refused cause.Members p.at (find_member 0 ms p.name)
@@ -33,7 +33,7 @@ new_member ms given p =
 abbrev pub complete : Members → At → List run.Part → Checks (List run.Part)
 complete ms close given = if_holds (length given == members_len ms) cause.Members close given
 
--- a list may stand where a sequence or an array is due
+-- a list may be where a sequence or an array is due
 abbrev pub list_due : List Thing → Option TypeRef → At → Checks (TypeRef × Kind)
 list_due ts None at = refused cause.Kind at
 list_due ts (Some due) at = or_refused cause.Kind at (kind_at ts due) >>= λ k. or_refused cause.Kind at (element_of k) >>= λ e. Ok (due, k)

@@ -1,4 +1,4 @@
--- Chains: what stands behind an expression is checked with what was checked so far.
+-- Chains: what is after an expression is checked with what was checked so far.
 use Rattle.std.specs.Prelude.{List, [], ◌∷◌, map, Ok, Option, None}
 use Rattle.idl_types.specs.declared.type_ref.TypeRef.{TypeRef}
 use Rattle.servant_scripts.specs.declared.phrase.At.{At}
@@ -19,7 +19,7 @@ abbrev pub chained : Scene → List Var → At → List Joint → Typed → Chec
 chained s vs at [] x = Ok x
 chained s vs at (j ∷ js) x = linked s vs at j x >>= chained s vs at js
 
--- the type that is due is asked of the first part only where nothing stands behind it
+-- the type that is due is asked of the first part only where nothing is after it
 abbrev pub want_first : Option TypeRef → List Joint → Option TypeRef
 want_first want [] = want
 want_first want (j ∷ js) = None

@@ -43,14 +43,14 @@ unfoldable mutual
   pub given : Scene → List Var → TypeRef → Said → Checks Term
   given s vs due (said at shape) = shaped s vs (Some due) at shape >>= needs (kind_at s.things due) at
 
-  -- members behind those so far, of the struct or the exception at a place
+  -- members after those so far, of the struct or the exception at a place
   pub fields : Scene → List Var → ℕ → Members → Fields → List run.Part → Checks (List run.Part)
   fields s vs place ms no_fields parts = Ok parts
   fields s vs place ms (field p e fs) parts =
       new_member ms parts p >>= λ n. given s vs (member_due place n) e
       >>= λ t. fields s vs place ms fs (parts ++ (n, kind_at s.things (member_due place n), t) ∷ [])
 
-  -- elements behind those so far
+  -- elements after those so far
   pub elements : Scene → List Var → TypeRef → Saids → List run.Part → Checks (List run.Part)
   elements s vs due no_saids parts = Ok parts
   elements s vs due (one_said e es) parts =

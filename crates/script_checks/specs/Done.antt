@@ -27,7 +27,7 @@ goal_of g = record { result = g.result; raises = g.raises.now }
 abbrev pub done_of : List Thing → Done → Step × Option Var × ℕ
 done_of ts d = (step_of ts d.stmt, option_map var_of d.new, d.lets)
 
--- statements, and the number of `let` behind them
+-- statements, and the number of `let` after them
 abbrev pub block_of : List Thing → Block → List Step × ℕ
 block_of ts b = (steps_view ts b.stmts.items, b.lets)
 

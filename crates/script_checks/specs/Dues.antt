@@ -1,5 +1,5 @@
 -- References to the types that are due (own profile). A reference counts to 2^32 - 1, and a repository is far smaller: where a
--- count were greater, that number would stand in its place.
+-- count were greater, that number would be in its place.
 use Rattle.std.specs.Prelude.{ℕ, ◌+◌, min}
 use Rattle.idl_types.specs.declared.type_ref.Part.TheVariants as part_of_thing
 use Rattle.idl_types.specs.declared.type_ref.TypeRef.{TypeRef}

@@ -32,7 +32,7 @@ param_set Both due = Some due
 abbrev pub param_var : ℕ → ℕ → ℕ → ParamView → Var
 param_var place o n p = record { name = p.name; kind = p.kind; due = param_set p.way (param_due place o n) }
 
--- the parameters as variables, behind those so far
+-- the parameters as variables, after those so far
 abbrev pub params_behind : ℕ → ℕ → List Var → List ParamView → List Var
 params_behind place o vs [] = vs
 params_behind place o vs (p ∷ ps) = params_behind place o (vs ++ param_var place o (length vs) p ∷ []) ps
@@ -82,11 +82,11 @@ method_for s place o op m =
     >>= λ x. ends_well (due_of place o op).result (ends m.body) m.end
     >>= λ u. Ok (record { operation = o; lets = x.1; body = steps_of x.0 })
 
--- one method behind those before it
+-- one method after those before it
 abbrev pub method : Scene → ℕ → InterfaceView → List MethodView → MethodSaid → Checks MethodView
 method s place i done m = new_method done i m.name >>= λ o. method_for s place o.0 o.1 m
 
--- all methods behind those before them
+-- all methods after those before them
 abbrev pub methods : Scene → ℕ → InterfaceView → List MethodView → List MethodSaid → Checks (List MethodView)
 methods s place i done [] = Ok done
 methods s place i done (m ∷ ms) = method s place i done m >>= λ x. methods s place i (done ++ x ∷ []) ms

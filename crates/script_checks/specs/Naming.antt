@@ -17,12 +17,12 @@ use Rattle.script_checks.specs.declared.fault.CheckCause.TheVariants as cause
 use Rattle.script_checks.specs.Dues.{short}
 use Rattle.script_checks.specs.Scene.{Scene, Var, Typed, Checks, ◌>>=◌, refused, or_refused, find_var}
 
--- where the last part of a name stands
+-- where the last part of a name is
 abbrev pub last_of : At → List Part → At
 last_of at [] = at
 last_of at (p ∷ ps) = last_of p.at ps
 
--- where the last part of a scoped name stands
+-- where the last part of a scoped name is
 abbrev pub last_part : Scoped → At
 last_part n = last_of n.at n.parts
 

@@ -18,7 +18,7 @@ use Rattle.script_checks.specs.Naming.{as_struct}
 
 -- ---- one operand
 
--- an operator of one operand may stand before this kind
+-- an operator of one operand may be before this kind
 abbrev pub suits : Unary → Kind → Bool
 suits un.Negate k = same_kind number_kind k
 suits un.Not k = same_kind truth_kind k
@@ -36,7 +36,7 @@ gives un.Group k = k
 abbrev pub with_unary : Unary → At → Typed → Checks Typed
 with_unary o at x = if_holds (suits o x.1) cause.Kind at (unary o x.0, gives o x.1)
 
--- only parentheses hand on the type that is due, so that a list may stand in them
+-- only parentheses hand on the type that is due, so that a list may be in them
 abbrev pub want_in : Unary → Option TypeRef → Option TypeRef
 want_in un.Group want = want
 want_in o want = None

@@ -16,7 +16,7 @@ pub record Scene : Type 0 where
   pub known : Known
   pub interface : Name
 
--- a variable stands in the slot that has its place in the scope; one that may be set has the type that is due
+-- a variable is in the slot that has its place in the scope; one that may be set has the type that is due
 pub record Var : Type 0 where
   pub name : Name
   pub kind : Kind

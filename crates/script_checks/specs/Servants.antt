@@ -1,5 +1,5 @@
 -- The check of a whole script: servant by servant, and method by method, in the order of the text (own profile). That an operation
--- has no method is told behind all other faults of its servant.
+-- has no method is given after all other faults of its servant.
 use Rattle.std.specs.Prelude.{ℕ, ◌+◌, ◌==◌, ◌||◌, Bool, true, false, List, [], ◌∷◌, ◌++◌, slice_get, Ok, Option, Some, None, if◌then◌else◌}
 use Rattle.std.specs.Str.{bytes_eq}
 use Rattle.idl_types.specs.Things.{OperationView, InterfaceView, Thing, interface}
@@ -48,14 +48,14 @@ is_served (v ∷ vs) i = (v.interface == i) || is_served vs i
 abbrev pub new_servant : List ServantView → Scoped → ℕ × InterfaceView → Checks (ℕ × InterfaceView)
 new_servant done n i = if_holds (if bytes_eq i.1.id ping_id || is_served done i.0 then false else true) cause.Twice (last_part n) i
 
--- a servant behind those before it
+-- a servant after those before it
 abbrev pub servant : List Thing → Known → List ServantView → ServantSaid → Checks ServantView
 servant ts k done v =
     interface_named ts k v.name >>= new_servant done v.name
     >>= λ i. methods (record { things = ts; known = k; interface = i.1.id }) i.0 i.1 [] v.methods
     >>= λ ms. if_holds (all_there 0 i.1.operations ms) cause.Missing v.at (record { interface = i.0; methods = ms })
 
--- all servants behind those before them
+-- all servants after those before them
 abbrev pub servants : List Thing → Known → List ServantView → List ServantSaid → Checks (List ServantView)
 servants ts k done [] = Ok done
 servants ts k done (v ∷ vs) = servant ts k done v >>= λ x. servants ts k (done ++ x ∷ []) vs

@@ -73,7 +73,7 @@ named_of n = (n.place, kind_of n.kind.now)
 abbrev pub asked_of : Asked → Kind × Kind
 asked_of a = (sort_of a.need, sort_of a.gives)
 
--- the type that is due where a list stands
+-- the type that is due where a list is
 abbrev pub list_due_of : ListDue → TypeRef × Kind
 list_due_of l = (l.due, kind_of l.kind.now)
 

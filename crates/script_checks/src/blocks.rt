@@ -26,7 +26,7 @@ use servant_scripts::{At, Field, Line, Part, Phrase, ScopedName};
 /// How many `let` a method may have.
 const MOST_LETS: usize = 64;
 
-/// One more `let`, whose word stands there.
+/// One more `let`, whose word is there.
 fn one_let(at: At, lets: usize) -> Result<usize, CheckError>
     ensures { Gives (λ n. n) result (Spec.one_let at lets) }
 {
@@ -204,7 +204,7 @@ fn check_raise<'r>(
     })
 }
 
-/// Puts the variable that a statement brings behind the others.
+/// Puts the variable that a statement brings after the others.
 fn declare<'r>(vars: &mut Vec<Variable<'r>>, new: Option<Variable<'r>>) -> Result<(), NoMemory>
     ensures items { OnOk result (vars.new.items ≡ vars.old.items ++ option_to_list new.entry) }
     ensures view { OnOk result (vars_view vars.new.items ≡ vars_view vars.old.items ++ option_to_list (option_map var_of new.entry)) }
@@ -267,7 +267,7 @@ fn check_line<'r>(
     }
 }
 
-/// The check of a block, in front of which so many `let` stand. The variables are as before where it answers.
+/// The check of a block, before which so many `let` are. The variables are as before where it answers.
 #[cycle(block)]
 #[tactic(auto, unfolding(crate::specs::Blocks::lines))]
 pub(crate) fn check_lines<'r>(

@@ -36,7 +36,7 @@ fn is_given(elements: &[Element], place: usize) -> bool
     false
 }
 
-/// The index of the member that a field gives, behind those that were given.
+/// The index of the member that a field gives, after those that were given.
 pub(crate) fn new_member(
     members: &[Member],
     elements: &[Element],
@@ -91,7 +91,7 @@ pub(crate) fn due_sort(repository: &Repository, due: TypeRef) -> Option<Sort<'_>
     }
 }
 
-/// The type of lists that is due, or the fault of a list that stands there.
+/// The type of lists that is due, or the fault of a list that is there.
 fn list_due_at(repository: &Repository, due: TypeRef, at: At) -> Result<ListDue<'_>, CheckError>
     ensures { Gives list_due_of result (Spec.list_due (things_of repository.now) (Some due) at) }
 {
@@ -104,7 +104,7 @@ fn list_due_at(repository: &Repository, due: TypeRef, at: At) -> Result<ListDue<
     }
 }
 
-/// The type of lists that is due, or the fault of a list that stands there.
+/// The type of lists that is due, or the fault of a list that is there.
 pub(crate) fn list_due<'r>(
     repository: &'r Repository,
     want: Option<TypeRef>,

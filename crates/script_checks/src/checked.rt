@@ -7,7 +7,7 @@ use script_values::Stmt;
 pub struct CheckedMethod {
     /// The index of its operation in the interface.
     pub operation: usize,
-    /// How many `let` it has. A run needs as many slots behind those of the parameters, which stand in order.
+    /// How many `let` it has. A run needs as many slots after those of the parameters, which are in order.
     pub lets: usize,
     pub body: Vec<Stmt>,
 }

@@ -39,7 +39,7 @@ fn words<'r>(text: &Text, alloc: Global) -> Result<Checked<'r>, NoMemory>
     })
 }
 
-/// The type that is due in front of these.
+/// The type that is due before these.
 fn want_first(want: Option<TypeRef>, links: &[Link]) -> Option<TypeRef>
     ensures { result ≡ want_in_front want (joints_view links.now) }
 {

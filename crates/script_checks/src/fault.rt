@@ -5,8 +5,8 @@ use orb_base::NoMemory;
 use std::alloc::{AllocError, AllocFailed};
 use thiserror::Error;
 
-/// What is wrong with a script. The first fault in the order of the text is told; that an operation has no method comes
-/// behind all other faults of its servant.
+/// What is wrong with a script. The first fault in the order of the text is given; that an operation has no method comes
+/// after all other faults of its servant.
 #[derive(Clone, Copy, Debug, PartialEq, Eq, Error)]
 pub enum CheckCause {
     /// A servant's name is that of no interface: at its first part that isn't declared, else at its last part.
@@ -47,7 +47,7 @@ pub enum CheckCause {
     TooManyLets,
 }
 
-/// A cause, and where the token begins at which it is told. It is printed as `LINE:COLUMN: CAUSE`.
+/// A cause, and where the token begins at which it is given. It is printed as `LINE:COLUMN: CAUSE`.
 #[derive(Clone, Copy, Debug, PartialEq, Eq, Error)]
 #[error("{line}:{column}: {cause}")]
 pub struct CheckFault {

@@ -1,7 +1,7 @@
 //! The check of scripts: which faults a script has, and what is run in its place (own profile).
 //!
 //! Names become slots, indexes and values, and each place where a value must fit a type has a reference to that type, so
-//! that a checked script compares no names when it runs. The first fault in the order of the text is told, at its token.
+//! that a checked script compares no names when it runs. The first fault in the order of the text is given, at its token.
 #![tactic(auto)]
 
 mod blocks;

@@ -113,7 +113,7 @@ fn new_method<'r>(
     }
 }
 
-/// The check of a method behind those before it.
+/// The check of a method after those before it.
 fn check_method<'r>(
     method: &'r Method,
     done: &[CheckedMethod],

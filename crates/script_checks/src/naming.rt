@@ -37,7 +37,7 @@ pub(crate) fn refuse(cause: CheckCause, at: At) -> CheckError
     })
 }
 
-/// Where the last part of a name stands.
+/// Where the last part of a name is.
 pub(crate) fn last_part(name: &ScopedName) -> At
     ensures { result ≡ Spec.last_part (scoped_of name.now) }
 {
@@ -64,7 +64,7 @@ pub(crate) fn place<'r>(variables: &[Variable<'r>], name: &[u8]) -> Option<Place
     None
 }
 
-/// What a name means where it stands.
+/// What a name means where it is.
 pub(crate) fn meaning(name: &ScopedName, ground: &Ground<'_>) -> Result<Meaning, CheckError>
     ensures { Gives (λ m. m) result (Spec.meaning_at (ground_of ground.now) (scoped_of name.now)) }
 {
@@ -167,7 +167,7 @@ fn constant_at(
     }
 }
 
-/// The enumerator with a number, where a type stands at a place.
+/// The enumerator with a number, where a type is at a place.
 fn enumerator_at(
     repository: &Repository,
     place: usize,

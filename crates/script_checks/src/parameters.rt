@@ -54,7 +54,7 @@ pub(crate) fn param_vars<'r>(
     Ok(vars)
 }
 
-/// Whether a parameter has the name that stands at its place.
+/// Whether a parameter has the name that is at its place.
 fn is_named(param: Option<&Param>, part: &Part) -> bool
     ensures { result ≡ Spec.is_named (option_map param_of (option_copied param.entry)) part.now }
 {

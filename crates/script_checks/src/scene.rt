@@ -58,7 +58,7 @@ pub struct Named<'r> {
     pub kind: &'r IdlType,
 }
 
-/// The type that is due where a list stands, and what it is.
+/// The type that is due where a list is, and what it is.
 #[derive(Drop)]
 pub struct ListDue<'r> {
     pub due: TypeRef,

@@ -112,7 +112,7 @@ fn are_there(operations: &[Operation], methods: &[CheckedMethod]) -> bool
     true
 }
 
-/// The check of a servant behind those before it.
+/// The check of a servant after those before it.
 fn check_servant<'r>(
     servant: &'r Servant,
     done: &[CheckedServant],
@@ -166,7 +166,7 @@ fn check_servants<'r>(
 }
 
 /// Checks a script over a repository, which the built-in module is put into beforehand: what is run in its place, or its
-/// first fault in the order of the text. That an operation has no method is told behind all other faults of its servant.
+/// first fault in the order of the text. That an operation has no method is given after all other faults of its servant.
 ///
 /// A place in what is checked is one of this repository. Indexes all names of the repository first; then each name of the
 /// script costs a look-up, and each single one a comparison for each variable that is alive. A member costs a comparison

@@ -23,7 +23,7 @@ use script_values::{Expr, Form, Link};
 use servant_scripts::{At, Part};
 use std::alloc::Global;
 
-/// Whether an operator of one operand may stand before this kind.
+/// Whether an operator of one operand may be before this kind.
 fn suits(op: Unary, sort: Sort<'_>) -> bool
     ensures { result ≡ Spec.suits op (sort_of sort.entry) }
 {
@@ -58,7 +58,7 @@ pub(crate) fn single(form: Form, alloc: Global) -> Expr
     }
 }
 
-/// The type that is due behind it: only parentheses hand it on.
+/// The type that is due after it: only parentheses hand it on.
 pub(crate) fn want_in(op: Unary, want: Option<TypeRef>) -> Option<TypeRef>
     ensures { result ≡ Spec.want_in op want }
 {

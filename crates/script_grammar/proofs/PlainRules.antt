@@ -42,7 +42,7 @@ plain_inside act judge inner.ListItems = refl
 pub script_plain : {B : Type 0} (act : ScriptLabel → Placed Kind → B → Result B ScriptFault) (judge : ScriptLabel → B → Result B ScriptFault) → IsPlainScript act judge
 script_plain act judge = record { rules = record { same_is = same_is; inside_is = plain_inside act judge }; whole = plain_file act judge; ends = file_ends act judge; breaks = file_breaks act judge }
 
--- and a rule that isn't is told as such: a name that may stand once or twice
+-- and a rule that isn't is given as such: a name that may stand once or twice
 not_plain : {B : Type 0} (act : ScriptLabel → Placed Kind → B → Result B ScriptFault) (judge : ScriptLabel → B → Result B ScriptFault) → is_plain (script act judge) (maybe (one token.Name l.Skip) then one token.Name l.Skip) ≡ false
 unfolding same_kind
 not_plain act judge = refl

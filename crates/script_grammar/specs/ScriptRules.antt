@@ -1,4 +1,4 @@
--- The grammar of servant scripts: own profile. Each rule stands below its published line, where what is in quotes is a word
+-- The grammar of servant scripts: own profile. Each rule is below its published line, where what is in quotes is a word
 -- or a mark, [ ] is once or not at all, and { } any number of times.
 use Rattle.std.specs.Prelude.{true, false}
 use Rattle.grammar.specs.Rules.{Rule, one, does, ◌then◌, ◌or◌, maybe, many, chained, nested}
@@ -21,7 +21,7 @@ ScriptRule = Rule Kind ScriptLabel Inner
 abbrev pub word : Kind → ScriptRule
 word kind = one kind l.Skip
 
--- a sign or a word in front of an operand
+-- a sign or a word before an operand
 abbrev pub before : Kind → Unary → ScriptRule
 before kind operator = one kind (l.Unary operator)
 
@@ -118,7 +118,7 @@ given =
     (one token.Let l.Place then (one token.Name l.Named then (word token.Equals then (expression then one token.Semicolon l.Let))))
     or (word token.Set then (one token.Name l.Named then (word token.Equals then (expression then one token.Semicolon l.Set))))
 
--- "if" expr block [ "else" block ]: behind the first block that of `else` is open, which stays empty where there is none
+-- "if" expr block [ "else" block ]: after the first block that of `else` is open, which stays empty where there is none
 abbrev pub choice : ScriptRule
 choice =
     word token.If then (expression then (braced l.OpenBlock inner.Statements l.OpenBlock

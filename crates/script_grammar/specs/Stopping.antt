@@ -1,4 +1,4 @@
--- Tokens that stand where they may not: own profile.
+-- Tokens that are where they may not be: own profile.
 use Rattle.idl_tokens.specs.Placed.{Placed}
 use Rattle.idl_tokens.specs.declared.kind.Kind.{Kind}
 use Rattle.script_grammar.specs.declared.fault.ScriptFault.{ScriptFault}

@@ -16,7 +16,7 @@ pub struct ScriptFault {
     pub column: u32,
 }
 
-/// The fault of a token that stands where it may not.
+/// The fault of a token that is where it may not.
 pub fn stop_at(token: Token<'_>) -> ScriptFault
     ensures { result ≡ stop (seen token.entry) }
 {

@@ -2,7 +2,7 @@
 
 use crate::{Binary, Unary};
 
-/// The rules that stand in brackets.
+/// The rules that are in brackets.
 #[derive(Clone, Copy, Debug, PartialEq, Eq)]
 pub enum Inner {
     ServantBody,
@@ -26,7 +26,7 @@ pub enum ScriptLabel {
     Unary(Unary),
     /// The newest expression is the operand of the newest such operator.
     Wrap,
-    /// An operator behind its first operand.
+    /// An operator after its first operand.
     Binary(Binary),
     /// The two newest expressions are the operands of the newest such operator.
     Join,

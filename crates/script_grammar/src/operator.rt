@@ -1,11 +1,11 @@
 //! Operators of scripts.
 
-/// What stands around one expression.
+/// What is around one expression.
 #[derive(Clone, Copy, Debug, PartialEq, Eq)]
 pub enum Unary {
-    /// `-` in front of it.
+    /// `-` before it.
     Negate,
-    /// `!` in front of it.
+    /// `!` before it.
     Not,
     /// `len` and parentheses around it.
     Len,
@@ -13,7 +13,7 @@ pub enum Unary {
     Group,
 }
 
-/// What stands between two expressions.
+/// What is between two expressions.
 #[derive(Clone, Copy, Debug, PartialEq, Eq)]
 pub enum Binary {
     Or,

@@ -255,7 +255,7 @@ fn statements() -> &'static ScriptRule
     &STATEMENTS_RULE
 }
 
-/// The rule of this name, which stands in brackets.
+/// The rule of this name, which is in brackets.
 pub fn inside(inner: Inner) -> &'static ScriptRule
     ensures { rule_of result.now ≡ Spec.inside inner }
 {

@@ -1,4 +1,4 @@
--- Things that a repository takes one by one, with the built-in interface behind them, are sound.
+-- Things that a repository takes one by one, with the built-in interface after them, are sound.
 use Rattle.std.proofs.Common.{◌≡◌, ◌⊎◌, inl, inr, ⊎_elim, ◌≤◌, ◌^◌, ℕ, zero, suc, ◌+◌, ◌||◌, not, Bool, true, false, cond, List, [], ◌∷◌, ◌++◌, length, find, Option, Some, None, refl, sym, ap, ◌∙◌, subst, slice_get, is_some, bytes_eq, length-append, arith}
 use Rattle.std.specs.Prelude.{if◌then◌else◌}
 use Rattle.std.specs.List.{list_any, position_or_len}
@@ -36,7 +36,7 @@ get_last : {A : Type 0} (xs : List A) (x : A) → slice_get (xs ++ x ∷ []) (le
 get_last [] x = refl
 get_last (y ∷ xs) x = get_last xs x
 
--- what stands in a list with one more is in the list, or that one
+-- what is in a list with one more is in the list, or that one
 either_at : {A : Type 0} (xs : List A) (y : A) (i : ℕ) (x : A) → slice_get (xs ++ y ∷ []) i ≡ Some x → (slice_get xs i ≡ Some x) ⊎ (y ≡ x)
 either_at [] y zero x e = inr (same_Some y x e)
 either_at [] y (suc i) x e = absurd (none-some x e)

@@ -1,4 +1,4 @@
--- The variables of a scope, and the slots in which they stand.
+-- The variables of a scope, and the slots in which they are.
 use Rattle.std.proofs.Common.{◌≡◌, ◌⊎◌, inl, inr, ⊎_elim, ◌<◌, ◌≤◌, ℕ, suc, ◌+◌, Bool, true, false, cond, List, [], ◌∷◌, ◌++◌, length, Option, Some, None, refl, sym, ap, ◌∙◌, subst, slice_set, arith}
 use Rattle.std.specs.Str.{bytes_eq}
 use Rattle.std.proofs.lemmas.Option.{none-some, same_Some}
@@ -43,7 +43,7 @@ stands_long ts [] os h = omega arith
 stands_long ts (x ∷ xs) [] h = absurd h
 stands_long ts (x ∷ xs) (o ∷ os) h = let l = stands_long ts xs os h.1 in omega (arith, l)
 
--- a new variable is put behind the living ones
+-- a new variable is put after the living ones
 pub stands_new : (ts : List Thing) (xs : List Var) (x : Var) (os : List (Option Value)) (v : Value) → Stands ts xs os → length xs < length os → HasKind x.kind v → FitsDue ts x.kind x.due v
     → Stands ts (xs ++ x ∷ []) (slice_set os (length xs) (Some v))
 stands_new ts [] x [] v h l k d = absurd (omega (arith, l))
@@ -51,7 +51,7 @@ stands_new ts [] x (o ∷ os) v h l k d = ((k, d), tt)
 stands_new ts (y ∷ ys) x [] v h l k d = absurd h
 stands_new ts (y ∷ ys) x (o ∷ os) v h l k d = (h.0, stands_new ts ys x os v h.1 (omega (arith, l)) k d)
 
--- the living ones still stand
+-- the living ones still are
 pub stands_front : (ts : List Thing) (xs ys : List Var) (os : List (Option Value)) → Stands ts (xs ++ ys) os → Stands ts xs os
 stands_front ts [] ys os h = tt
 stands_front ts (x ∷ xs) ys [] h = absurd h

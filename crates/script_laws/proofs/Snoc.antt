@@ -1,4 +1,4 @@
--- One more part behind those so far.
+-- One more part after those so far.
 use Rattle.std.proofs.Common.{◌≡◌, ◌<◌, ℕ, suc, ◌==◌, false, List, [], ◌∷◌, ◌++◌, length, refl, sym, ap, arith}
 use Rattle.std.proofs.lemmas.Bool.{eqb-false, ne_eqb}
 use Rattle.script_values.specs.Trees as run

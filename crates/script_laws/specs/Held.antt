@@ -35,7 +35,7 @@ abbrev mutual
   cases_have_labels no_cases = true
   cases_have_labels (case labels is_default name k cs) = has_labels k && cases_have_labels cs
 
--- a repository takes each thing behind those before it, behind these
+-- a repository takes each thing after those before it, after these
 abbrev pub AreDeclared : List Thing → List Thing → Type 0
 AreDeclared before [] = Unit {0}
 AreDeclared before (t ∷ ts) = (may_declare before t ≡ true) × AreDeclared (before ++ t ∷ []) ts

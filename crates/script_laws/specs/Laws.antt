@@ -29,7 +29,7 @@ use Rattle.script_laws.specs.Held.{AreDeclared, AreCounted, ArePlain}
 use Rattle.script_laws.specs.Outcome.{defined_work, defined_outcome}
 
 -- A checked expression, over slots that hold values of the variables: what its evaluation gives is defined without defaults, and a value
--- that it gives is of the kind that the check has told.
+-- that it gives is of the kind that the check has given.
 abbrev pub ExpressionsAreDefined : Type 0
 ExpressionsAreDefined =
     (s : Scene) (vars : List Var) (want : Option TypeRef) (e : Said) (x : Typed) (priority : ℕ) (slots : List (Option Value))
@@ -61,14 +61,14 @@ ServedAreDefined =
     → IsSound ts → HaveZeros ts → HasBuiltIn ts → AreBytes job.body → served_by ts script ≡ Ok s
     → defined_outcome s id job ≡ Some (outcome_of s id job)
 
--- The same of servants that were checked over the things that a repository takes one by one, with the built-in interface behind them.
+-- The same of servants that were checked over the things that a repository takes one by one, with the built-in interface after them.
 abbrev pub ScriptsAreDefined : Type 0
 ScriptsAreDefined =
     (ts : List Thing) (script : List ServantSaid) (s : Served) (id : Name) (job : JobRecord)
     → AreDeclared [] ts → ArePlain ts → AreBytes job.body → served_by (with_ping ts) script ≡ Ok s
     → defined_outcome s id job ≡ Some (outcome_of s id job)
 
--- The same of servants that were checked over the things that a text declares, with the built-in interface behind them. Of the things
+-- The same of servants that were checked over the things that a text declares, with the built-in interface after them. Of the things
 -- only counts are asked.
 abbrev pub TextsAreDefined : Type 0
 TextsAreDefined =

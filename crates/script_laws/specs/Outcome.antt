@@ -41,7 +41,7 @@ defined_out Input k o = Some []
 defined_out Output k o = option_map (λ v. (k, v) ∷ []) o
 defined_out Both k o = option_map (λ v. (k, v) ∷ []) o
 
--- the one behind the other, where both are there
+-- the one after the other, where both are there
 abbrev pub both_lists : Option (List Typed) → Option (List Typed) → Option (List Typed)
 both_lists a b = option_and_then (λ xs. option_map (λ ys. xs ++ ys) b) a
 

@@ -2,7 +2,7 @@
 ghost use Rattle.script_laws.specs.Laws.{ExpressionsAreDefined, MethodsAreDefined, ScriptsAreDefined, ServedAreDefined, TextsAreDefined};
 
 /// What a checked expression evaluates to, over slots that hold values of their variables, is defined without defaults, and
-/// its value is of the kind that the check has told.
+/// its value is of the kind that the check has given.
 pub fn checked_expressions_are_defined()
     ensures { ExpressionsAreDefined }
 {}
@@ -17,7 +17,7 @@ pub fn checked_servants_are_defined()
     ensures { ServedAreDefined }
 {}
 
-/// The same over the things that a repository takes one by one, with the built-in interface behind them.
+/// The same over the things that a repository takes one by one, with the built-in interface after them.
 pub fn checked_scripts_are_defined()
     ensures { ScriptsAreDefined }
 {}

@@ -78,7 +78,7 @@ stays n x ns there = on (list_any (bytes_eq x) ns)
     on true = there
     on false = list_any-append (bytes_eq n) ns (x ∷ []) ∙ ap (λ (b : Bool). b || list_any (bytes_eq n) (x ∷ [])) there
 
--- names behind names that have this one already
+-- names after names that have this one already
 skip : (n : Name) (ns xs : Names) → list_any (bytes_eq n) ns ≡ true → with_names ns (filter (λ m. not (bytes_eq m n)) xs) ≡ with_names ns xs
 skip n ns [] there = refl
 skip n ns (x ∷ xs) there = elim (cases_Bool (bytes_eq x n)) [
@@ -97,7 +97,7 @@ put_there x ns = elim (cases_Bool (list_any (bytes_eq x) ns)) [
       ∙ list_any-append (bytes_eq x) ns (x ∷ []) ∙ or_right (list_any (bytes_eq x) ns) (list_any (bytes_eq x) (x ∷ [])) (ap (λ (b : Bool). b || false) ((bytes_eq-Decides x x).1 refl))
 ]
 
--- names each once, one by one behind others
+-- names each once, one by one after others
 each_once : (ns xs : Names) → with_names ns (once xs) ≡ with_names ns xs
 each_once ns [] = refl
 each_once ns (x ∷ xs) = skip x (with_name ns x) (once xs) (put_there x ns) ∙ each_once (with_name ns x) xs
@@ -114,7 +114,7 @@ behind_each f ns (b ∷ bs) =
 once_each : (f : Name → Names) (bs : Names) → once (flat_map (λ b. b ∷ once (f b)) bs) ≡ once (flat_map (λ b. b ∷ f b) bs)
 once_each f bs = sym (one_by_one (flat_map (λ b. b ∷ once (f b)) bs)) ∙ behind_each f [] bs ∙ one_by_one (flat_map (λ b. b ∷ f b) bs)
 
--- one thing more behind the others
+-- one thing more after the others
 one_thing : (older : List Thing) (t : Thing) (id : Name) → with_thing (λ n. once (inherited older n)) t id ≡ once (inherited (t ∷ older) id)
 one_thing older (constant c) id = refl
 one_thing older (named t) id = refl

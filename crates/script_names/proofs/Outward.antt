@@ -34,12 +34,12 @@ last_apart xs some =
     let e : length xs ≡ length xs - 1 + 1 = omega arith in
     sym (take_all (length xs) xs (omega arith)) ∙ ap (λ (n : ℕ). take n xs) e ∙ take_more xs (length xs - 1) 0 (omega arith)
 
--- before a `/` stands a scope
+-- before a `/` is a scope
 pub at_slash : (rest : List ℕ) → 1 ≤ length rest → get_or rest (length rest - 1) 0 ≡ 47 → around rest ≡ take (length rest - 1) rest ∷ around (take (length rest - 1) rest)
 at_slash rest some is =
     around_slash rest (take (length rest - 1) rest) (get_or rest (length rest - 1) 0) (last_apart rest some) (eq-eqb (get_or rest (length rest - 1) 0) 47 is)
 
--- before another byte stands none
+-- before another byte is none
 pub at_other : (rest : List ℕ) → 1 ≤ length rest → (get_or rest (length rest - 1) 0 ≡ 47 → ⊥) → around rest ≡ around (take (length rest - 1) rest)
 at_other rest some not =
     around_other rest (take (length rest - 1) rest) (get_or rest (length rest - 1) 0) (last_apart rest some)

@@ -48,14 +48,14 @@ put_new k m (e ∷ es) none =
 pub put_again : (id : List ℕ) (m : Meaning) (es : List Entry) → is_some (lookup (λ (k : Vec ℕ Global). bytes_eq id k.items) es) ≡ true → pairs_of es ≡ with_pair (pairs_of es) (id, m)
 put_again id m es there = sym (ap (λ (b : Bool). if b then pairs_of es else pairs_of es ++ (id, m) ∷ []) (sym (there_is id es) ∙ there))
 
--- and one that isn't there goes behind the others
+-- and one that isn't there goes after the others
 pub put_behind : (k : Vec ℕ Global) (m : Meaning) (es : List Entry) → is_some (lookup (λ (x : Vec ℕ Global). bytes_eq k.items x.items) es) ≡ false
     → pairs_of (insert_entry same es k m) ≡ with_pair (pairs_of es) (k.items, m)
 put_behind k m es none =
     let h : is_in k.items (pairs_of es) ≡ false = sym (there_is k.items es) ∙ none in
     put_new k m es h ∙ sym (ap (λ (b : Bool). if b then pairs_of es else pairs_of es ++ (k.items, m) ∷ []) h)
 
--- pairs behind others, a part at a time
+-- pairs after others, a part at a time
 pub with_both : (ps xs ys : List Pair) → with_pairs ps (xs ++ ys) ≡ with_pairs (with_pairs ps xs) ys
 with_both ps [] ys = refl
 with_both ps (x ∷ xs) ys = with_both (with_pair ps x) xs ys

@@ -38,7 +38,7 @@ first_inside k name (scope ∷ scopes) = or_else (inside k name scope) (first_in
 abbrev pub looked_up : Known → Name → Name → Option Pair
 looked_up k name scope = or_else (first_inside k name (scope ∷ around scope)) (own k name [])
 
--- the first part of a name: behind `::` in the file's scope alone
+-- the first part of a name: after `::` in the file's scope alone
 abbrev pub first_part : Known → Bool → Name → Name → Option Pair
 first_part k true name scope = own k name []
 first_part k false name scope = looked_up k name scope
@@ -64,7 +64,7 @@ abbrev pub stands_for : Result Pair At → Result Meaning At
 stands_for (Ok found) = Ok found.1
 stands_for (Err at) = Err at
 
--- What a scoped name means where it stands in the interface of an id, or where its first unknown part stands. An empty id is that
+-- What a scoped name means where it is in the interface of an id, or where its first unknown part is. An empty id is that
 -- of the file's scope.
 abbrev pub meant : Known → Name → Scoped → Result Meaning At
 meant k interface name = stands_for (all_parts k (path_of interface) name name.parts)

@@ -6,8 +6,8 @@ use Rattle.cdr_values.specs.Trees.{Name, Names}
 use Rattle.idl_types.specs.Names.{once}
 use Rattle.idl_types.specs.Things.{Thing, constant, named, exception, interface}
 
--- What the interface of an id inherits, where the things stand the newest first: its bases in order, and behind each of them what
--- that one inherits. A base is declared before the interface, so it stands behind it here.
+-- What the interface of an id inherits, where the things are the newest first: its bases in order, and after each of them what
+-- that one inherits. A base is declared before the interface, so it is after it here.
 abbrev pub inherited : List Thing → Name → Names
 inherited [] id = []
 inherited (constant c ∷ older) id = inherited older id

@@ -20,7 +20,7 @@ Pair = Name × Meaning
 abbrev pub unused : Name → Names → List Pair
 unused scope names = map (λ n. (id_in scope n, means.Other)) names
 
--- the enumerators of the enum at a place stand in the scope around it, and have the numbers from one on
+-- the enumerators of the enum at a place are in the scope around it, and have the numbers from one on
 abbrev pub enumerators : ℕ → Name → ℕ → Names → List Pair
 enumerators place scope n [] = []
 enumerators place scope n (label ∷ labels) = (id_in scope label, means.Enumerator place n) ∷ enumerators place scope (n + 1) labels

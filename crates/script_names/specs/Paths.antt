@@ -2,11 +2,11 @@
 use Rattle.std.specs.Prelude.{ℕ, ◌-◌, ◌==◌, List, [], ◌∷◌, ◌++◌, length, take, drop, map, reverse, codes, if◌then◌else◌}
 use Rattle.cdr_values.specs.Trees.{Name, Names}
 
--- the path of an id: what stands behind its `IDL:` and before its `:1.0`
+-- the path of an id: what is after its `IDL:` and before its `:1.0`
 abbrev pub path_of : Name → Name
 path_of id = take (length id - 8) (drop 4 id)
 
--- the path of a scope, with a `/` behind it; the file's scope has none
+-- the path of a scope, with a `/` after it; the file's scope has none
 abbrev pub front_of : Name → Name
 front_of [] = []
 front_of (c ∷ cs) = (c ∷ cs) ++ codes "/"
@@ -15,7 +15,7 @@ front_of (c ∷ cs) = (c ∷ cs) ++ codes "/"
 abbrev pub id_in : Name → Name → Name
 id_in scope name = ((codes "IDL:" ++ front_of scope) ++ name) ++ codes ":1.0"
 
--- what stands before each `/`, the shortest first
+-- what is before each `/`, the shortest first
 abbrev pub fronts : Name → Names
 fronts [] = []
 fronts (c ∷ cs) = if c == 47 then [] ∷ map (λ p. c ∷ p) (fronts cs) else map (λ p. c ∷ p) (fronts cs)

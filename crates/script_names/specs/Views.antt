@@ -32,7 +32,7 @@ abbrev pub listed : List (Vec ℕ Global × Bases) → Name → Names
 listed [] id = []
 listed (e ∷ es) id = if bytes_eq id e.0.items then names_in e.1.ids.keys else listed es id
 
--- the lists of ids with one thing more: an interface has its bases in order, and behind each of them what that one has
+-- the lists of ids with one thing more: an interface has its bases in order, and after each of them what that one has
 abbrev pub with_thing : (Name → Names) → Thing → Name → Names
 with_thing known (constant c) id = known id
 with_thing known (named t) id = known id

@@ -114,7 +114,7 @@ fn meanings_in(
     Ok(index)
 }
 
-/// Lists the bases of the thing at a place, behind those of the things before it.
+/// Lists the bases of the thing at a place, after those of the things before it.
 fn put_bases_at(
     alloc: Global,
     index: &mut IndexMap<Vec<u8>, Bases>,

@@ -165,10 +165,10 @@ impl Names {
         }
     }
 
-    /// What a scoped name means where it stands in the interface of an id, which is empty for the file's scope; or the place
+    /// What a scoped name means where it is in the interface of an id, which is empty for the file's scope; or the place
     /// of its first part that isn't declared there. A name without parts is unknown where it begins.
     ///
-    /// The first part is looked up in the interface's scope, then in its bases in order, then outwards, or behind `::` in
+    /// The first part is looked up in the interface's scope, then in its bases in order, then outwards, or after `::` in
     /// the file's scope alone; each further part inside what those before it have found, and in the bases of that. Names
     /// are compared by their spelling. One or two ids are hashed and copied for each scope that is tried.
     pub fn find(&self, interface: &[u8], name: &ScopedName) -> Result<Meaning, FindError>

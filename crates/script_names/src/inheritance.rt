@@ -23,7 +23,7 @@ pub(crate) fn listed<'a>(index: &'a IndexMap<Vec<u8>, Bases>, id: &[u8]) -> &'a 
     }
 }
 
-/// Puts an id behind the others where it isn't there.
+/// Puts an id after the others where it isn't there.
 fn put_id(alloc: Global, ids: &mut IndexSet<Vec<u8>>, id: &[u8]) -> Result<(), NoMemory>
     ensures { OnOk result (names_in ids.new.keys ≡ with_name (names_in ids.old.keys) id.now) }
 {
@@ -32,7 +32,7 @@ fn put_id(alloc: Global, ids: &mut IndexSet<Vec<u8>>, id: &[u8]) -> Result<(), N
     Ok(())
 }
 
-/// Puts ids behind the others, each where it isn't there.
+/// Puts ids after the others, each where it isn't there.
 fn put_ids(alloc: Global, ids: &mut IndexSet<Vec<u8>>, more: &[Vec<u8>]) -> Result<(), NoMemory>
     ensures { OnOk result (names_in ids.new.keys ≡ with_names (names_in ids.old.keys) (names_in more.now)) }
 {
@@ -42,7 +42,7 @@ fn put_ids(alloc: Global, ids: &mut IndexSet<Vec<u8>>, more: &[Vec<u8>]) -> Resu
     Ok(())
 }
 
-/// Puts a base behind the others, and behind it what that one has.
+/// Puts a base after the others, and after it what that one has.
 fn put_base(
     alloc: Global,
     ids: &mut IndexSet<Vec<u8>>,

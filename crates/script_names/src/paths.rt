@@ -16,7 +16,7 @@ pub(crate) fn path_of(id: &[u8]) -> &[u8]
     &id[4..id.len() - 4]
 }
 
-/// Appends the path of a scope, with a `/` behind it; of the file's scope nothing.
+/// Appends the path of a scope, with a `/` after it; of the file's scope nothing.
 fn put_front(scope: &[u8], out: &mut Vec<u8>) -> Result<(), NoMemory>
     ensures { OnOk result (out.new.items ≡ out.old.items ++ front_of scope.now) }
 {

@@ -19,7 +19,7 @@ use indexmap::IndexMap;
 use orb_base::{NoMemory, Text};
 use std::alloc::Global;
 
-/// Puts an id with what it stands for behind the others, unless it is there. One hash.
+/// Puts an id with what it stands for after the others, unless it is there. One hash.
 pub(crate) fn put(
     index: &mut IndexMap<Vec<u8>, Meaning>,
     id: Vec<u8>,

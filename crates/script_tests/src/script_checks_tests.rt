@@ -228,7 +228,7 @@ fn scripts_without_a_fault_are_checked(rt: HostRuntime) {
     assert!(rt; all_bodies_pass(rt.alloc(), CHECKED));
 }
 
-/// A body of so many `let`, each on a line of its own behind the first.
+/// A body of so many `let`, each on a line of its own after the first.
 fn lets(alloc: Global, count: u32) -> Result<Vec<u8>, NoMemory> {
     let mut body = Vec::new(alloc);
     for _ in 0..count {

@@ -55,7 +55,7 @@ fn linked(alloc: Global, form: Form, link: Link) -> Result<Expr, NoMemory> {
     }
 }
 
-/// An operator, and the number behind it.
+/// An operator, and the number after it.
 type Then = (Binary, i128);
 
 fn links(alloc: Global, rows: &[Then]) -> Result<Vec<Link>, NoMemory> {
@@ -68,7 +68,7 @@ fn links(alloc: Global, rows: &[Then]) -> Result<Vec<Link>, NoMemory> {
     Ok(all)
 }
 
-/// An expression whose first part has these behind it.
+/// An expression whose first part has these after it.
 pub fn joined(alloc: Global, form: Form, rows: &[Then]) -> Result<Expr, NoMemory> {
     match both(form, links(alloc, rows)) {
         Ok((form, links)) => Ok(Expr { form, links }),
@@ -281,7 +281,7 @@ fn indexed(alloc: Global, at: i128) -> Result<Expr, NoMemory> {
     done_to_a_list(alloc, 40, 32_767, link)
 }
 
-/// Indexes, and what stands there.
+/// Indexes, and what is there.
 const INDEXED: &[(i128, Result<i128, Stop>)] = &[
     (0, Ok(40)),
     (1, Ok(32_767)),

@@ -35,7 +35,7 @@ blanks_of es = replicate (terms_len es) blank
 abbrev pub truth_from : Comes Value → Comes Value
 truth_from v = v >>= λ x. Ok (truth (as_truth x))
 
--- what an operator makes of a value and of what comes behind it, which is asked only where the value doesn't decide
+-- what an operator makes of a value and of what comes after it, which is asked only where the value doesn't decide
 abbrev pub beside : Binary → Comes Value → Value → Comes Value
 beside op.And b x = if as_truth x then truth_from b else Ok (truth false)
 beside op.Or b x = if as_truth x then Ok (truth true) else truth_from b

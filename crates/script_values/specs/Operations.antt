@@ -1,4 +1,4 @@
--- What operations give. The check leaves no operation at a value of another kind; there any value stands.
+-- What operations give. The check leaves no operation at a value of another kind; there any value is.
 use Rattle.std.specs.Prelude.{ℕ, ℤ, pos, negsuc, ◌+ℤ◌, ◌-ℤ◌, ◌*ℤ◌, neg_ℤ, ◌^◌, int_div, int_rem, int_lt, int_le, Bool, false, not, List, [], ◌∷◌, length, nat_lt, nat_eq, Result, Ok, Err, Option, Some, None, if◌then◌else◌, slice_get}
 use Rattle.std.specs.Str.{bytes_eq}
 use Rattle.std.specs.Ordering.{int_eq}

@@ -1,4 +1,4 @@
--- Expressions and statements as plain trees, in which a reference to a type is that type. What stands between operands is
+-- Expressions and statements as plain trees, in which a reference to a type is that type. What is between operands is
 -- grouped to the left.
 use Rattle.std.specs.Prelude.{ℕ, List, [], ◌∷◌, Option}
 use Rattle.cdr_values.specs.Trees.{Kind, Value}
@@ -30,7 +30,7 @@ abbrev pub terms_of : List Part → Terms
 terms_of [] = no_terms
 terms_of (p ∷ ps) = term p.0 p.1 p.2 (terms_of ps)
 
--- what is done to the expression in front: an operator with its second operand, or a member
+-- what is done to the expression before: an operator with its second operand, or a member
 pub data Joint : Type 0 where
   operand : Binary → Term → Joint
   member_at : ℕ → Joint

@@ -17,7 +17,7 @@ use Rattle.script_values.specs.declared.tree.Stmt.TheFolds.{fold-Stmt}
 use Rattle.script_values.specs.declared.tree.Stmt.TheOpen.{Stmt-F}
 use Rattle.script_values.specs.Trees.{Term, literal, priority, slot, unary, build, Part, terms_of, Joint, operand, member_at, spine, Step, let_be, set, branch, leave, give, raise, steps_of}
 
--- a value that stands somewhere, or one that was made
+-- a value that is somewhere, or one that was made
 abbrev pub seen_of : Seen → Value
 seen_of (Here v) = value_of v.now
 seen_of (Made v) = value_of v

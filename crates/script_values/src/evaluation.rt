@@ -156,7 +156,7 @@ fn eval_links<'a>(
     Ok(value)
 }
 
-/// The value of an expression, lent where it stands: `slots` are the variables. What is built takes memory, and each of its
+/// The value of an expression, lent where it is: `slots` are the variables. What is built takes memory, and each of its
 /// members and elements that is lent is copied; nothing else is. At each `new` and list the leaves of what is built are
 /// counted.
 #[cycle(eval)]
@@ -216,7 +216,7 @@ fn places(elements: &[Element], alloc: Global) -> Result<Vec<IdlValue>, NoMemory
     blanks(elements.len(), alloc)
 }
 
-/// The values of elements, each in its place: one behind the other, up to the first that has none or doesn't fit.
+/// The values of elements, each in its place: one after the other, up to the first that has none or doesn't fit.
 #[cycle(eval)]
 #[tactic(auto, using(crate::proofs::Parts::part_is), unfolding(crate::specs::Evaluation::filled))]
 pub fn fill(

@@ -31,7 +31,7 @@ fn room_after_all(room: u32, values: &[IdlValue]) -> Option<u32>
     Some(left)
 }
 
-/// What is left of this room behind the leaves of a value, or None where they are more. Stops at the first leaf too many.
+/// What is left of this room after the leaves of a value, or None where they are more. Stops at the first leaf too many.
 #[cycle(leaves)]
 fn room_after(room: u32, value: &IdlValue) -> Option<u32>
     ensures { result ≡ less room (leaves (value_of value.now)) }

@@ -1,8 +1,8 @@
 //! Servant scripts as they are run, and what they come to: own profile.
 //!
 //! Names and kinds are resolved: a variable is the number of its slot, a member its index, and a type a reference into the
-//! repository. The meaning is total: where the check leaves no operation at a value of another kind, any value stands. So
-//! the faults of a run are the four limits of operations, and want of memory.
+//! repository. The meaning is total: where the check leaves no operation at a value of another kind, any value is. So
+//! the faults of a run are the four limits of operations, and out of memory.
 #![tactic(auto)]
 
 mod evaluation;

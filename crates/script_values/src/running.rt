@@ -135,8 +135,8 @@ fn run_stmt(
     }
 }
 
-/// Runs a block on the variables up to its first `return`, `raise` or limit. At a limit or want of memory nothing is said of
-/// what `slots` hold. A `let` or `set` of a value that stands in another variable copies it.
+/// Runs a block on the variables up to its first `return`, `raise` or limit. At a limit or out of memory nothing is said of
+/// what `slots` hold. A `let` or `set` of a value that is in another variable copies it.
 #[cycle(run)]
 #[tactic(auto, unfolding(crate::specs::Running::run))]
 pub fn run(

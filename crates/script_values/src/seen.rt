@@ -7,7 +7,7 @@ use cdr_values::{IdlValue, copy_value};
 use orb_base::NoMemory;
 use std::alloc::Global;
 
-/// A value that is lent where it stands, or one that was made.
+/// A value that is lent where it is, or one that was made.
 #[derive(Drop)]
 pub enum Seen<'a> {
     Here(&'a IdlValue),
@@ -25,7 +25,7 @@ impl Seen<'_> {
         }
     }
 
-    /// The value for itself: one that was made is moved; one that stands elsewhere is copied, at the cost of its size.
+    /// The value for itself: one that was made is moved; one that is elsewhere is copied, at the cost of its size.
     pub fn own(self, alloc: Global) -> Result<IdlValue, NoMemory>
         ensures { IfOk result (λ v. value_of v ≡ seen_of self.entry) }
     {

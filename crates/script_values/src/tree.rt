@@ -28,7 +28,7 @@ pub enum Form {
     Build(Vec<Element>),
 }
 
-/// What is done to the value in front of it.
+/// What is done to the value before it.
 #[cycle(expr)]
 #[derive(Drop)]
 pub enum Link {

@@ -12,7 +12,7 @@ above a d m lt =
     let second : min (a * 10 + d) m ≡ m = omega arith in
     ap (λ n. min (n * 10 + d) m) e ∙ first ∙ sym second
 
--- one more digit, behind a number that is above the limit, stays above it
+-- one more digit, after a number that is above the limit, stays above it
 cap_step : (a d m : ℕ) → min (min a m * 10 + d) m ≡ min (a * 10 + d) m
 cap_step a d m =
     elim (leb_tells a m) [

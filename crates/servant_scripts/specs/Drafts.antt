@@ -35,11 +35,11 @@ pub record Draft : Type 0 where
 abbrev pub empty : Draft
 empty = record { places = []; unaries = []; binaries = []; waiting = []; names = []; phrases = []; lists = []; fields = []; blocks = []; methods = []; servants = [] }
 
--- where a token stands
+-- where a token is
 abbrev pub place : Placed Kind → At
 place t = record { line = t.line; column = t.column }
 
--- a name, and where it stands
+-- a name, and where it is
 abbrev pub part : Placed Kind → Part
 part t = record { at = place t; name = t.text }
 
@@ -76,7 +76,7 @@ wrap d =
       phrases = said (first_or d.places no_place) (say_unary (first_or d.unaries Group) (first_or d.phrases no_phrase)) ∷ rest_of d.phrases;
     }
 
--- an operator stands behind its first operand
+-- an operator is after its first operand
 abbrev pub begin_binary : Binary → Draft → Draft
 begin_binary o d = record d { binaries = o ∷ d.binaries }
 

@@ -10,7 +10,7 @@ number_behind n (c ∷ cs) = number_behind (n * 10 + (c - 48)) cs
 abbrev pub number : List ℕ → ℕ
 number cs = number_behind 0 cs
 
--- a number that is decimal: no 0 stands before other bytes
+-- a number that is decimal: no 0 is before other bytes
 abbrev pub is_decimal : List ℕ → Bool
 is_decimal [] = false
 is_decimal (c ∷ cs) = not (c == 48) || (length cs == 0)

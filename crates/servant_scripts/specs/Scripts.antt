@@ -56,7 +56,7 @@ ReadsEachScript = (text : List ℕ) (servants : List ServantSaid) → Spells tex
 abbrev pub StopsAtFirstFault : Type 0
 StopsAtFirstFault = (text : List ℕ) (fault : ScriptFault) → script_reading text ≡ Err fault → HasFault text fault
 
--- the fault that is told is the text's first one
+-- the fault that is given is the text's first one
 abbrev pub TellsFault : List ℕ → ScriptError → Type 0
 TellsFault text (answer.Refused fault) = HasFault text fault
 TellsFault text answer.NoMemory = Unit {0}

@@ -1,4 +1,4 @@
--- Scripts as plain trees: what the grammar spells, with the place of each token that a check may name. What stands between
+-- Scripts as plain trees: what the grammar spells, with the place of each token that a check may name. What is between
 -- two operands is grouped to the left.
 use Rattle.std.specs.Prelude.{ℕ, ℤ, Bool, List, [], ◌∷◌}
 use Rattle.script_grammar.specs.declared.operator.Unary.{Unary}
@@ -76,7 +76,7 @@ abbrev pub says_of : List Say → Says
 says_of [] = no_says
 says_of (s ∷ ss) = one_say s (says_of ss)
 
--- a method: its name, its parameters with the place of the `)` behind them, and its statements with that of the `}`
+-- a method: its name, its parameters with the place of the `)` after them, and its statements with that of the `}`
 pub record MethodSaid : Type 0 where
   pub name : Part
   pub parameters : List Part

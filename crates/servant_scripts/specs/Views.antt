@@ -23,7 +23,7 @@ use Rattle.servant_scripts.specs.Trees.{Scoped, Said, said, Shape, say_number, s
 abbrev pub scoped_of : ScopedName → Scoped
 scoped_of n = record { at = n.at; rooted = n.rooted; parts = n.parts.items }
 
--- what is done to the expression in front: an operator with its second operand, or a member
+-- what is done to the expression before: an operator with its second operand, or a member
 pub data Joint : Type 0 where
   operator : Binary → Said → Joint
   member : Part → Joint

@@ -57,7 +57,7 @@ pub fn no_phrase(alloc: Global) -> Phrase
     phrase(alloc, no_place(), Form::Priority)
 }
 
-/// Where a token stands.
+/// Where a token is.
 pub fn place_of(token: Token<'_>) -> At
     ensures { result ≡ Spec.place (seen token.entry) }
 {

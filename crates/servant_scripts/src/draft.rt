@@ -9,7 +9,7 @@ use crate::{At, Field, Line, Method, Part, Phrase, ScopedName, Script, Servant};
 use script_grammar::{Binary, Unary};
 use std::alloc::Global;
 
-/// What is built in the middle of a text: each stack has what waits for something behind it.
+/// What is built in the middle of a text: each stack has what waits for something after it.
 #[derive(Drop)]
 pub struct Draft {
     pub alloc: Global,

@@ -63,7 +63,7 @@ impl Draft {
             .push(phrase(self.alloc, at, Form::Unary(operator, operand)))
     }
 
-    /// Begins an operator behind its first operand.
+    /// Begins an operator after its first operand.
     pub fn begin_binary(&mut self, operator: Binary) -> Result<(), NoMemory>
         ensures { OnOk result (draft_of self.new ≡ Spec.begin_binary operator (draft_of self.old)) }
     {

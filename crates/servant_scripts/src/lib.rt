@@ -1,7 +1,7 @@
 //! The reader of servant scripts: own profile.
 //!
-//! A text is a script exactly where the grammar has it, and else its first token at fault is told. The script is a tree
-//! that keeps the place of each token that a check may name. What stands between operands is a first part with a list
+//! A text is a script exactly where the grammar has it, and else its first token at fault is given. The script is a tree
+//! that keeps the place of each token that a check may name. What is between operands is a first part with a list
 //! of links, so that neither reading a tree nor dropping it goes deeper than its brackets allow.
 #![tactic(auto)]
 

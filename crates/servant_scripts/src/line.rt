@@ -6,15 +6,15 @@ use crate::{At, Field, Part, Phrase, ScopedName};
 #[cycle(line)]
 #[derive(Drop)]
 pub enum Line {
-    /// `let`, where the word stands, the variable and its value.
+    /// `let`, where the word is, the variable and its value.
     Let(At, Part, Phrase),
     /// `set`, the parameter and its value.
     Set(Part, Phrase),
     /// `if`, what is done where the expression is true, and what otherwise, which is nothing without an `else`.
     If(Phrase, Vec<Line>, Vec<Line>),
-    /// `return` without a value, and where the word stands.
+    /// `return` without a value, and where the word is.
     Leave(At),
-    /// `return`, where the word stands, and the value.
+    /// `return`, where the word is, and the value.
     Return(At, Phrase),
     /// `raise`, the exception, its members, and the place of the closing brace.
     Raise(ScopedName, Vec<Field>, At),
@@ -25,10 +25,10 @@ pub enum Line {
 pub struct Method {
     pub name: Part,
     pub parameters: Vec<Part>,
-    /// The `)` behind the parameters.
+    /// The `)` after the parameters.
     pub close: At,
     pub body: Vec<Line>,
-    /// The `}` behind the body.
+    /// The `}` after the body.
     pub end: At,
 }
 

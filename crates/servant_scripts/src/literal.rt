@@ -19,7 +19,7 @@ fn number(digits: &[u8]) -> u128
     n
 }
 
-/// Whether no 0 stands before other bytes.
+/// Whether no 0 is before other bytes.
 fn is_decimal(text: &[u8]) -> bool
     ensures { result ≡ Spec.is_decimal text.now }
 {

@@ -5,8 +5,8 @@ use orb_base::NoMemory;
 use std::alloc::Global;
 use std::marker::Model;
 
-/// The bytes of a name, without the marks around it: a letter, then letters, digits and `_`; behind `op` one `_` may
-/// stand in front.
+/// The bytes of a name, without the marks around it: a letter, then letters, digits and `_`; after `op` one `_` may
+/// come before.
 #[derive(Drop)]
 pub struct Name {
     bytes: Vec<u8>,

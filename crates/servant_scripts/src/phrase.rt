@@ -11,7 +11,7 @@ pub struct At {
     pub column: u32,
 }
 
-/// A name, and where it stands.
+/// A name, and where it is.
 #[derive(Drop)]
 pub struct Part {
     pub at: At,
@@ -58,7 +58,7 @@ pub enum Form {
     List(Vec<Phrase>),
 }
 
-/// What is done to the expression in front of it.
+/// What is done to the expression before it.
 #[cycle(phrase)]
 #[derive(Drop)]
 pub enum Link {

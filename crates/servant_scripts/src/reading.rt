@@ -47,7 +47,7 @@ pub fn read_script(alloc: Global, text: &[u8]) -> Result<Script, ScriptError>
     ensures spelled { IfOk result (λ s. Spells text.now (script_of s)) }
     // A text that spells a script isn't refused, and answers no other one.
     ensures only { (servants : List ServantSaid) → Spells text.now servants → Tells result (Ok servants) }
-    // A refusal stands at the first token at fault.
+    // A refusal is at the first token at fault.
     ensures fault { IfErr result (λ e. TellsFault text.now e) }
     // All of it as one reading.
     ensures reading { Tells result (script_reading text.now) }

@@ -23,7 +23,7 @@ abbrev pub end_of : NetFault → ServeEnd
 end_of fault.Failed = NetFailed
 end_of fault.NoMemory = NoMemory
 
--- the line was written, or a front of it up to a fault; nothing where memory was wanting
+-- the line was written, or a prefix of it up to a fault; nothing where memory was wanting
 abbrev pub WritesSummary : ServeEnd → List ℕ → SinkState → SinkState → Type 0
 WritesSummary Done line out out' = WroteText line out out' × (out'.faults ≡ out.faults)
 WritesSummary WriteFault line out out' = WroteFrontOf line out out' × Rose out.faults out'.faults
@@ -32,7 +32,7 @@ WritesSummary NetFailed line out out' = ⊥
 
 module _ {A I O : Type 0} (state : A → AcceptorState I O) (source : I → SourceState) (sink : O → SinkState)
     (setup : SetupData) (outcome : List ℕ → JobRecord → Outcome) where
-  -- a run over acceptors, which stood like this before and behind it: all calls are one legal history, in which each was fit for its
+  -- a run over acceptors, which was like this before and after it: all calls are one legal history, in which each was fit for its
   -- caller; each connection's calls are what its bytes mean, and its output is what the history says; each admitted request that its client
   -- did not withdraw ran once, as the servants do, on a thread of its lane or one lent from a lower lane
   pub record Ran (run : Run I O) (before behind : List A) : Type 0 where

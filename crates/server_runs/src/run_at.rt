@@ -25,7 +25,7 @@ pub enum ServeEnd {
     Done,
     /// The net failed, and nothing was served.
     NetFault,
-    /// It ended, and a front of its summary was written before the sink failed.
+    /// It ended, and a prefix of its summary was written before the sink failed.
     WriteFault,
     /// Memory was wanting: for the run, and then nothing was served; or for its summary.
     NoMemory,
@@ -37,7 +37,7 @@ pub struct Served<A, I, O> {
     pub end: ServeEnd,
     /// What the run left, if there was one.
     pub run: Option<Run<I, O>>,
-    /// The acceptors that the net gave, as they stand at the end.
+    /// The acceptors that the net gave, as they are at the end.
     pub acceptors: List<A>,
 }
 

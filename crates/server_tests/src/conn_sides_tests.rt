@@ -125,7 +125,7 @@ fn source_of(alloc: Global, bytes: Octets, cut: usize, reads: &[u64]) -> Option<
     }
 }
 
-/// Puts these parts behind the bytes; whether there was memory.
+/// Puts these parts after the bytes; whether there was memory.
 fn join(bytes: &mut Octets, parts: &[&[u8]]) -> bool {
     for part in parts {
         if bytes.append(part).is_err() {
@@ -453,7 +453,7 @@ fn failed_reads_and_writes_are_told(rt: HostRuntime) {
     assert!(&rt; all_hold(&rt, rt.alloc(), 48, FAULTS));
 }
 
-/// Whether the bytes are these parts, one behind the other.
+/// Whether the bytes are these parts, one after the other.
 fn is_joined(bytes: &[u8], parts: &[&[u8]]) -> bool {
     let mut rest = bytes;
     for part in parts {

@@ -21,7 +21,7 @@ fn link(alloc: Global, bytes: Octets) -> MemLink {
     )
 }
 
-/// Puts a link by which these bytes come behind the others; whether there was memory.
+/// Puts a link by which these bytes come after the others; whether there was memory.
 fn add_link(alloc: Global, links: &mut LinkedList<MemLink>, bytes: &[u8]) -> bool {
     match Vec::from_slice(alloc, bytes) {
         Ok(bytes) => links.push_back(link(alloc, List::from_vec(bytes))).is_ok(),

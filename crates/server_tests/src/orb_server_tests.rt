@@ -59,7 +59,7 @@ const REPLY_7: &[u8] = b"GIOP\x01\x02\0\x01\0\0\0\x0c\0\0\0\x07\0\0\0\0\0\0\0\0"
 /// A request for `current`: its id, and the key of its object, of 4 bytes.
 type Asked = (u8, &'static [u8]);
 
-/// Puts a request of 48 bytes behind the bytes; whether there was memory.
+/// Puts a request of 48 bytes after the bytes; whether there was memory.
 fn put_request(bytes: &mut Octets, id: u8, key: &[u8]) -> bool {
     bytes.append(b"GIOP\x01\x02\0\0\0\0\0\x24\0\0\0").is_ok()
         && bytes.push(id).is_ok()
@@ -525,7 +525,7 @@ fn many_connections_are_served_over_three_lanes(rt: HostRuntime) {
     assert!(&rt; holds(&rt, rt.alloc(), &OVER_THREE_LANES));
 }
 
-/// One connection: the requests that it begins with, and the piece behind them, which comes once so many bytes were written; the number that
+/// One connection: the requests that it begins with, and the piece after them, which comes once so many bytes were written; the number that
 /// the gate waits for, which is 1 at the latest when the input has met its end; and its replies.
 struct Talk {
     first: &'static [Asked],
@@ -634,7 +634,7 @@ fn a_cancelled_request_never_runs(rt: HostRuntime) {
     assert!(&rt; talks(&rt, rt.alloc(), &CANCELLED));
 }
 
-/// Whether the bytes are these parts, one behind the other.
+/// Whether the bytes are these parts, one after the other.
 fn is_joined(bytes: &[u8], parts: &[&[u8]]) -> bool {
     let mut rest = bytes;
     for part in parts {

@@ -1,4 +1,4 @@
-//! Jobs with ample memory: each is done once, and what they leave stands in their order.
+//! Jobs with ample memory: each is done once, and what they leave is in their order.
 use side_by_side::*;
 use std::alloc::Global;
 use std::test::*;

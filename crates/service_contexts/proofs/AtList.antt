@@ -1,4 +1,4 @@
--- What contexts tell that a reader stands at, taken one by one.
+-- What contexts tell that a reader is at, taken one by one.
 use Rattle.std.proofs.Common.{◌≡◌, ℕ, ◌-◌, ◌+◌, ◌≤◌, ◌<◌, List, [], ◌∷◌, ◌++◌, None, Ok, Err, is_ok, IsOk, refl, sym, ap, subst, ◌∙◌, append_assoc, arith}
 use Rattle.orb_base.specs.Tagged.{Context}
 use Rattle.cdr_core.specs.declared.fault.CdrFault.{CdrFault}
@@ -14,13 +14,13 @@ use Rattle.service_contexts.proofs.Firsts.{empty_tells}
 
 -- ---- the count
 
--- behind the count of a list stand so many
+-- after the count of a list are so many
 pub counted_list : (c : Cursor) (n : ℕ) (d : Cursor) → count_at c ≡ Ok (n, d)
     → list_at (made_at context_of) c ≡ times (made_at context_of) n d
 unfolding list_at
 counted_list c n d e = ap (λ (r : Reads ℕ). r >>= λ x. times (made_at context_of) x.0 x.1) e
 
--- no list stands where no count does
+-- no list is where no count is
 pub no_count : (c : Cursor) (f : CdrFault) → count_at c ≡ Err f → IsAtList context_of c → ⊥
 unfolding list_at
 no_count c f e there =
@@ -31,7 +31,7 @@ no_count c f e there =
 
 -- ---- one context more
 
--- some contexts in front told this, and the reading of the others leads to that of all
+-- some contexts before given this, and the reading of the others leads to that of all
 pub record SoFar (told : Contexts) (left : ℕ) (c : Cursor) (total : Reads (List Context)) : Type 0 where
   pub front : List Context
   pub leads : with_front front (times (made_at context_of) left c) ≡ total
@@ -68,7 +68,7 @@ goes_on_so told more count i c x d total lt e h next = record {
   tells = next h.front h.tells;
 }
 
--- each of those that are counted stands there
+-- each of those that are counted is there
 pub none_missing : (told : Contexts) (count i : ℕ) (c : Cursor) (f : CdrFault) (total : Reads (List Context)) → i < count
     → item_at c ≡ Err f → SoFar told (count - i) c total → IsOk total → ⊥
 none_missing told count i c f total lt e h there =
@@ -76,14 +76,14 @@ none_missing told count i c f total lt e h there =
     let no = sym (ap (λ (r : Reads (List Context)). is_ok r) none) ∙ there in
     absurd cc
 
--- what is read is what stands in front, and more
+-- what is read is what comes before, and more
 others_read : (front : List Context) (others total : Reads (List Context)) → with_front front others ≡ total → IsOk total
     → (rest : List Context) × (read_or_none total ≡ front ++ rest)
 others_read front (Ok x) total e there = (x.0, ap (λ (r : Reads (List Context)). read_or_none r) (sym e))
 others_read front (Err f) total e there =
     let no = ap (λ (r : Reads (List Context)). is_ok r) e ∙ there in absurd cc
 
--- the fault of a context that stands there is the first one of all
+-- the fault of a context that is there is the first one of all
 pub fault_so : (told : Contexts) (f : ContextFault) (count i : ℕ) (c : Cursor) (x : Item) (d : Cursor)
     (total : Reads (List Context)) → i < count → item_at c ≡ Ok (x, d) → SoFar told (count - i) c total → IsOk total
     → ((list behind : List Context) → Tells list told → IsFirstFault (list ++ context_of x ∷ behind) f)
@@ -95,7 +95,7 @@ fault_so told f count i c x d total lt e h there faulty =
     rest.1 ∙ append_assoc h.front (context_of x ∷ []) rest.0 in
     subst (λ (l : List Context). IsFirstFault l f) (sym parts) (faulty h.front rest.0 h.tells)
 
--- all of them tell what was told at the end
+-- all of them tell what was given at the end
 pub told_so : (told : Contexts) (count i : ℕ) (c : Cursor) (total : Reads (List Context)) → count ≤ i
     → SoFar told (count - i) c total → Tells (read_or_none total) told
 told_so told count i c total le h =

@@ -30,7 +30,7 @@ unfolding bytes_of
 or_bytes (Some x) b = refl
 or_bytes None b = refl
 
--- one more behind the others
+-- one more after the others
 first_behind : (kind : ℕ) (seen : List Tagged) (p : Tagged) → first_bytes kind (seen ++ p ∷ []) ≡ option_or
     (first_bytes kind seen) (first_bytes kind (p ∷ []))
 unfolding first_bytes bytes_of

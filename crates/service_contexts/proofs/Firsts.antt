@@ -1,4 +1,4 @@
--- What contexts tell, with one more behind them.
+-- What contexts tell, with one more after them.
 use Rattle.std.proofs.Common.{◌≡◌, ◌≢◌, ℕ, Bool, eqb, List, [], ◌∷◌, ◌++◌, Option, Some, None, refl, arith, inl, inr}
 use Rattle.std.proofs.lemmas.Bool.{eq-eqb, ne_eqb}
 use Rattle.std.proofs.lemmas.List.Folds.{find-append}
@@ -95,7 +95,7 @@ band_counts list next told band is none carried h =
 
 -- ---- the first without a reading
 
--- a context that counts and has no reading, behind those that told so much
+-- a context that counts and has no reading, after those that told so much
 faulty_next : (list behind : List Context) (next : Context) (told : Contexts) → first_of next.id list ≡ None
     → IsFaulty next → Tells list told → IsFirstFault (list ++ next ∷ behind) (record { id = next.id })
 faulty_next list behind next told counts faulty h = record {

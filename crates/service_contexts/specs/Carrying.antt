@@ -1,4 +1,4 @@
--- What bytes carry: an encapsulation of the fields of a value, with any bytes behind. CORBA 3.0.3, section 15.3.3.
+-- What bytes carry: an encapsulation of the fields of a value, with any bytes after. CORBA 3.0.3, section 15.3.3.
 use Rattle.std.specs.Prelude.{ℕ, List}
 use Rattle.orb_base.specs.Span.{Span}
 use Rattle.orb_base.specs.declared.order.Order.{Order}
@@ -7,7 +7,7 @@ use Rattle.cdr_core.specs.Encapsulation.{Encapsulates}
 use Rattle.service_contexts.specs.Layout.{IsPriority, IsBand, ModelValue, IsModelValue, AreBands}
 use Rattle.service_contexts.specs.Layout.{priority_fields, band_fields, model_fields, bands_fields}
 
--- the bytes are an encapsulation, in either order, of the fields of a value that may be carried, and any bytes behind
+-- the bytes are an encapsulation, in either order, of the fields of a value that may be carried, and any bytes after
 pub record Carries (A : Type 0) (IsLawful : A → Type 0) (fields : A → List Field) (value : A) (bytes : List ℕ)
     : Type 0 where
   pub lawful : IsLawful value

@@ -40,6 +40,6 @@ band_fields band = number w16 band.low ∷ number w16 band.high ∷ []
 abbrev pub model_fields : ModelValue → List Field
 model_fields value = number w32 (model_number value.0) ∷ number w16 value.1 ∷ []
 
--- bands: their number, and one band behind the other
+-- bands: their number, and one band after the other
 abbrev pub bands_fields : List Span → List Field
 bands_fields = list_fields band_fields

@@ -4,7 +4,7 @@ use Rattle.orb_base.specs.Room.{Room}
 use Rattle.cdr_core.specs.Cursor.{Cursor}
 use Rattle.service_contexts.specs.Reading.{Taken}
 
--- the call answers what the reading takes, and stands behind it
+-- the call answers what the reading takes, and is after it
 abbrev pub Moves : {A : Type 0} → Option A → Cursor → Taken A → Type 0
 Moves (Some value) new reading = reading ≡ Some (value, new)
 Moves None new reading = reading ≡ None

@@ -11,6 +11,6 @@ use Rattle.service_contexts.specs.Reading.{Taken}
 abbrev pub CarriesPolicies : List Tagged → List ℕ → Type 0
 CarriesPolicies = Carries (List Tagged) (FitsList FitsTagged) (list_fields tagged_fields)
 
--- policies behind their number
+-- policies after their number
 unfoldable pub policies_at : Cursor → Taken (List Tagged)
 policies_at c = result_ok (list_at (made_at tagged_of) c)

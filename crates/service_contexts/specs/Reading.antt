@@ -11,12 +11,12 @@ use Rattle.cdr_core.specs.Reading.{number_at, count_at, entered}
 use Rattle.cdr_core.specs.Sequence.{Parsed, times}
 use Rattle.service_contexts.specs.Layout.{ModelValue}
 
--- a value and the cursor behind it, or no reading
+-- a value and the cursor after it, or no reading
 abbrev pub Taken : Type 0 → Type 0
 Taken A = Option (A × Cursor)
 
 infixl 10 ◌>>=◌
--- one reading behind another; both want a value
+-- one reading after another; both want a value
 abbrev pub ◌>>=◌ : {A B : Type 0} → Option A → (A → Option B) → Option B
 taken >>= f = option_and_then f taken
 
@@ -45,13 +45,13 @@ model_at c = do
 abbrev pub or_refused : {A : Type 0} → (Cursor → Taken A) → Cursor → Parsed (Unit {0}) A
 or_refused one c = ok_or (one c) tt
 
--- bands behind their number
+-- bands after their number
 unfoldable pub bands_at : Cursor → Taken (List Span)
 bands_at c = do
   count ← result_ok (count_at c)
   result_ok (times (or_refused band_at) count.0 count.1)
 
--- a value in the encapsulation that the bytes are; what stands behind it is ignored
+-- a value in the encapsulation that the bytes are; what is after it is ignored
 unfoldable pub carried : {A : Type 0} → (Cursor → Taken A) → List ℕ → Option A
 carried one bytes = do
   inner ← result_ok (entered bytes)

@@ -30,7 +30,7 @@ IsFaulty context =
     ((context.id ≡ PRIORITY_CONTEXT) × ((level : ℕ) → ¬ CarriesPriority level context.bytes))
     ⊎ ((context.id ≡ RANGE_CONTEXT) × ((band : Span) → ¬ CarriesBand band context.bytes))
 
--- the first context in the list that counts, since none of its id stands before it, and has no reading
+-- the first context in the list that counts, since none of its id is before it, and has no reading
 pub record IsFirstFault (list : List Context) (f : ContextFault) : Type 0 where
   pub before : List Context
   pub context : Context

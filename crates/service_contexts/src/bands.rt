@@ -42,7 +42,7 @@ fn put_band(into: &mut Writer, band: Band) -> Result<(), NoMemory>
     into.put_u16(band.high().level())
 }
 
-/// Puts one band behind the other.
+/// Puts one band after the other.
 fn put_bands(into: &mut Writer, bands: &[Band]) -> Result<(), NoMemory>
     ensures { Puts result into.old into.new (flat_map band_fields bands.now) }
 {
@@ -53,7 +53,7 @@ fn put_bands(into: &mut Writer, bands: &[Band]) -> Result<(), NoMemory>
 }
 
 /// The bands that the value of a priority banded connection policy carries, in either byte order. Ok(None) exactly
-/// where the bytes have no reading; bytes behind are ignored. Takes memory for the bands alone, as they are read. Work
+/// where the bytes have no reading; bytes after are ignored. Takes memory for the bands alone, as they are read. Work
 /// grows with their number.
 #[tactic(auto, unfolding(crate::specs::Reading::carried))]
 pub fn read_bands_policy(
@@ -70,7 +70,7 @@ pub fn read_bands_policy(
     }
 }
 
-/// Takes bands behind their number.
+/// Takes bands after their number.
 #[tactic(auto, unfolding(crate::specs::Reading::bands_at))]
 fn take_bands(
     alloc: Global,

@@ -51,7 +51,7 @@ pub fn contexts_of(list: &orb_base::List<Context>) -> Result<Contexts, ContextFa
     Ok(told)
 }
 
-/// What the contexts tell that a reader stands at, by the count of their list, which has a reading: the answer of
+/// What the contexts tell that a reader is at, by the count of their list, which has a reading: the answer of
 /// `contexts_of` for that list. Takes no memory; one pass over the list.
 pub fn contexts_at(mut list: Reader<'_>) -> Result<Contexts, ContextFault>
     requires { IsAtList context_of list }
@@ -61,7 +61,7 @@ pub fn contexts_at(mut list: Reader<'_>) -> Result<Contexts, ContextFault>
 {
     match list.take_count() {
         Ok(count) => told_by(count, &mut list),
-        // A count stands there, since the list has a reading.
+        // A count is there, since the list has a reading.
         Err(_) => Ok(Contexts {
             priority: None,
             range: None,
@@ -69,7 +69,7 @@ pub fn contexts_at(mut list: Reader<'_>) -> Result<Contexts, ContextFault>
     }
 }
 
-/// What so many contexts tell that stand there.
+/// What so many contexts tell that are there.
 fn told_by(count: u32, reader: &mut Reader<'_>) -> Result<Contexts, ContextFault>
     requires { IsOk (times (made_at context_of) count reader.old) }
     ensures told { (told : Contexts)
@@ -84,14 +84,14 @@ fn told_by(count: u32, reader: &mut Reader<'_>) -> Result<Contexts, ContextFault
     for _ in 0..count {
         match reader.take_item() {
             Ok((id, bytes)) => told = with_item(told, id, bytes)?,
-            // Each of them stands there.
+            // Each of them is there.
             Err(_) => return Ok(told),
         }
     }
     Ok(told)
 }
 
-/// What is told with one more context behind those that told so much.
+/// What is given with one more context after those that told so much.
 fn with_next(told: Contexts, next: &Context) -> Result<Contexts, ContextFault>
     ensures told { IfOk result (λ more. (list : List Plain.Context)
         → Tells list told → Tells (list ++ next.now ∷ []) more) }

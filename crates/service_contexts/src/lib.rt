@@ -1,7 +1,7 @@
 //! Service contexts that carry priorities, the values of two policies, and the component that carries policies, read and
 //! written (Real-time CORBA 1.2, CORBA priorities, Priority models and Priority banded connections).
 //!
-//! Each is an encapsulation of a few fields. What bytes carry stands in `specs/Carrying.antt`, and which of a message's
+//! Each is an encapsulation of a few fields. What bytes carry is in `specs/Carrying.antt`, and which of a message's
 //! contexts count in `specs/Telling.antt`.
 #![tactic(auto)]
 

@@ -33,7 +33,7 @@ fn model_bytes(model: PriorityModel) -> [u8; 4]
 }
 
 /// The model and the server's priority that the value of a priority model policy carries, in either byte order. None
-/// exactly where the bytes have no reading; bytes behind are ignored. Takes no memory.
+/// exactly where the bytes have no reading; bytes after are ignored. Takes no memory.
 #[tactic(auto, unfolding(crate::specs::Reading::carried))]
 pub fn read_model_policy(bytes: &[u8]) -> Option<(PriorityModel, Priority)>
     ensures exact { result ≡ carried model_at bytes.now }

@@ -36,7 +36,7 @@ pub fn policies_component(alloc: Global, policies: &[Tagged]) -> Result<Octets, 
 }
 
 /// The policies that the data of a component of policies carries, in either byte order: of each its type as the tag and
-/// its value as the octets, which are copied. Ok(None) exactly where the bytes have no reading; bytes behind are
+/// its value as the octets, which are copied. Ok(None) exactly where the bytes have no reading; bytes after are
 /// ignored. Takes memory as policies come. Work grows with the bytes.
 #[tactic(auto, unfolding(crate::specs::Reading::carried))]
 pub fn read_policies_component(
@@ -53,7 +53,7 @@ pub fn read_policies_component(
     }
 }
 
-/// Takes policies behind their number.
+/// Takes policies after their number.
 #[tactic(auto, unfolding(crate::specs::Policies::policies_at))]
 fn take_policies(
     alloc: Global,

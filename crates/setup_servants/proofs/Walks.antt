@@ -9,12 +9,12 @@ use Rattle.adapter_policies.specs.declared.object_spec.ObjectSpec.{ObjectSpec}
 use Rattle.dynamic_servants.specs.Outcome.{Served}
 use Rattle.setup_servants.specs.Serving.{is_unserved}
 
--- what is left of a list begins with what stands there
+-- what is left of a list begins with what is there
 pub left_some : {X : Type 0} (xs : List X) (n : ℕ) (x : X) → slice_get xs n ≡ Some x → drop n xs ≡ x ∷ drop (n + 1) xs
 left_some xs n x at =
     drop_more xs n x (slice_get_within xs n x at) ∙ ap (λ y. y ∷ drop (n + 1) xs) (get_or_from_slice_get xs n x x at)
 
--- nothing is left behind the end
+-- nothing is left after the end
 pub left_none : {X : Type 0} (xs : List X) (n : ℕ) → slice_get xs n ≡ None → drop n xs ≡ []
 left_none [] zero none = refl
 left_none [] (suc n) none = refl
@@ -45,7 +45,7 @@ found_there served setup n o found at is so_far =
     sym (here (is_unserved served) n o (drop (n + 1) setup.objects) true is)
     ∙ ap (position_from (is_unserved served) n) (sym (left_some setup.objects n o at)) ∙ so_far
 
--- behind the last object none is found
+-- after the last object none is found
 pub none_there : (served : Served) (setup : SetupData) (n : ℕ) (found : Option ℕ) → slice_get setup.objects n ≡ None
     → position_from (is_unserved served) n (drop n setup.objects) ≡ found → None ≡ found
 none_there served setup n found at so_far = ap (position_from (is_unserved served) n) (sym (left_none setup.objects n at)) ∙ so_far

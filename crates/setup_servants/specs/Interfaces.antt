@@ -18,7 +18,7 @@ pub record InterfacesGive (files : FilesState) (name : Option (List ℕ)) (answe
   pub text : IsText files name bytes
   pub gives : text_things bytes ≡ answer
 
--- what bytes declare, or their first fault; want of memory tells nothing
+-- what bytes declare, or their first fault; out of memory says nothing
 abbrev pub Declares : Result Repository ServingFault → List ℕ → Type 0
 Declares (Ok r) bytes = text_things bytes ≡ Ok (things_of r)
 Declares (Err (fault.Idl f)) bytes = text_things bytes ≡ Err f

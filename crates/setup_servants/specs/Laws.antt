@@ -13,6 +13,6 @@ use Rattle.setup_servants.specs.declared.fault.ServingFault.TheVariants as fault
 abbrev pub BuiltInIsServed : Type 0
 BuiltInIsServed = (s : Servants) (old new : FilesState) → GivesServants (Ok s) built_in old new → ServesPing (served_of s)
 
--- and nothing but want of memory leaves it without servants
+-- and nothing but out of memory leaves it without servants
 abbrev pub BuiltInHasServants : Type 0
 BuiltInHasServants = (f : ServingFault) (old new : FilesState) → GivesServants (Err f) built_in old new → f ≡ fault.NoMemory

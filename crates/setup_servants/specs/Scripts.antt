@@ -18,7 +18,7 @@ pub record ScriptsGive (files : FilesState) (name : Option (List ℕ)) (answer :
   pub text : IsText files name bytes
   pub gives : script_reading bytes ≡ answer
 
--- what bytes say, or their first token at fault; want of memory tells nothing
+-- what bytes say, or their first token at fault; out of memory says nothing
 abbrev pub Says : Result Script ServingFault → List ℕ → Type 0
 Says (Ok s) bytes = script_reading bytes ≡ Ok (script_of s)
 Says (Err (fault.Script f)) bytes = script_reading bytes ≡ Err f

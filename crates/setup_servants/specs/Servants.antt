@@ -18,7 +18,7 @@ use Rattle.setup_servants.specs.declared.fault.TextRole.TheVariants as role
 use Rattle.setup_servants.specs.declared.fault.ServingFault.{ServingFault}
 use Rattle.setup_servants.specs.declared.fault.ServingFault.TheVariants as fault
 
--- servants serve each object of a setup, or this is the first that none serves; want of memory tells nothing
+-- servants serve each object of a setup, or this is the first that none serves; out of memory says nothing
 abbrev pub JudgesObjects : Result Servants ServingFault → SetupData → Served → Type 0
 JudgesObjects (Ok s) setup served = (served_of s ≡ served) × (unserved_fault served setup ≡ None)
 JudgesObjects (Err (fault.Object f)) setup served = unserved_fault served setup ≡ Some (fault_of f)

@@ -15,7 +15,7 @@ pub enum TextRole {
 }
 
 /// Why a setup has no servants. The text of interfaces is read first, then that of scripts; the scripts are checked, and last the
-/// objects are judged. The first fault in this order is told.
+/// objects are judged. The first fault in this order is given.
 #[derive(Debug, Drop)]
 pub enum ServingFault {
     /// The text of interfaces has this first fault.

@@ -48,7 +48,7 @@ fn check_script(
 
 /// The servants of a setup: those that its scripts give its interfaces, and that of the built-in interface. Each text is that of
 /// the file that the setup names, of at most 1,048,576 bytes, or the empty one where it names none; and each object of the setup
-/// is of an interface that they serve. The first fault is told in the order of work, as `ServingFault` has it. Work and memory
+/// is of an interface that they serve. The first fault is given in the order of work, as `ServingFault` has it. Work and memory
 /// grow with the texts and with what they declare, and each object costs a look-up and a comparison of numbers for each servant.
 #[tactic(auto, using(crate::proofs::Ends::both_read, crate::proofs::Ends::scripts_not, crate::proofs::Ends::interfaces_not))]
 pub fn servants_of<F: Files>(

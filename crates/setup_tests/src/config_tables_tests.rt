@@ -13,7 +13,7 @@ fn document(alloc: Global, text: &[u8]) -> Option<Table> {
     }
 }
 
-/// A cause, and the path at which it is told.
+/// A cause, and the path at which it is given.
 type Fault = (ConfigCause, &'static str);
 
 /// Whether an error is a refusal with this cause at this path.
@@ -362,7 +362,7 @@ enum AskText {
     Due,
     /// It has nine bytes at most, and is due where this holds.
     Along(bool),
-    /// The same where a key stands.
+    /// The same where a key is.
     AlongKey(&'static str),
     /// It has nine bytes at most.
     Free,

@@ -74,7 +74,7 @@ fn file_of(alloc: Global, name: &str, content: Content) -> Option<MemFile> {
     }
 }
 
-/// Puts a file behind the others, where it has content. Whether there was memory.
+/// Puts a file after the others, where it has content. Whether there was memory.
 fn puts(alloc: Global, files: &mut List<MemFile>, name: &str, content: Content) -> bool {
     match file_of(alloc, name, content) {
         Some(file) => files.push(file).is_ok(),
@@ -243,7 +243,7 @@ fn the_first_fault_is_told(rt: HostRuntime) {
 /// One byte more than a text may have.
 const LONG: Content = Content::Spaces(1_048_577);
 
-/// What is stored for `UNSERVED`: the texts of interfaces and of scripts and the reads that fail, with what is told.
+/// What is stored for `UNSERVED`: the texts of interfaces and of scripts and the reads that fail, with what is given.
 const UNREAD: &[(Content, Content, &[u64], Due)] = &[
     (
         Content::Absent,

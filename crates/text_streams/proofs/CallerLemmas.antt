@@ -68,7 +68,7 @@ wrote_whole bytes rest o o' so_far none =
 pub gave_few : (limit : ℕ) (bytes : List ℕ) (s s' : SourceState) → Gave bytes s s' → length bytes ≤ limit → GaveFew limit s s'
 gave_few limit bytes s s' so_far few = record { bytes = bytes; few = few; gave = so_far }
 
--- one more piece, which stands at the front of a buffer with other bytes behind it
+-- one more piece, which is at the front of a buffer with other bytes after it
 pub gave_step : (bytes into behind after : List ℕ) (n : ℕ) (s s' s'' : SourceState) → Gave bytes s s' → n ≤ length into → s'.left ≡ option_map (λ rest. take n into ++ rest) s''.left → s''.taken ≡ option_map (λ seen. seen ++ take n into) s'.taken → after ≡ bytes ++ take n (into ++ behind) → Gave after s s''
 gave_step bytes into behind after n s s' s'' so_far few from to is =
     subst (λ (b : List ℕ). Gave b s s'') (sym (is ∙ ap (λ (x : List ℕ). bytes ++ x) (take-append-le n into behind few)))
@@ -86,12 +86,12 @@ gave_last limit bytes into n s s' s'' so_far few from to = record {
 pub gave_none : (limit : ℕ) (s : SourceState) → GaveFew limit s s
 gave_none limit s = record { bytes = []; few = omega arith; gave = gave_start s }
 
--- bytes were written behind others
+-- bytes were written after others
 pub wrote_behind : (a b : List ℕ) (o o' o'' : SinkState) → WroteText a o o' → WroteText b o' o'' → WroteText (a ++ b) o o''
 wrote_behind a b o o' o'' first then =
     then ∙ ap (option_map (λ h. h ++ b)) first ∙ map_map (λ h. h ++ b) (λ h. h ++ a) o.held ∙ map_as (λ h. (h ++ a) ++ b) (λ h. h ++ (a ++ b)) (λ h. append_assoc h a b) o.held
 
--- and of those a front alone
+-- and of those a prefix alone
 pub wrote_all : (a b rest : List ℕ) (o o' o'' : SinkState) → WroteText a o o' → WroteSome b rest o' o'' → WroteSome (a ++ b) rest o o''
 wrote_all a b rest o o' o'' first some = record {
   front = a ++ some.front;

@@ -12,6 +12,6 @@ unfoldable pub shown_octet : ℕ → List ℕ
 shown_octet octet =
     if is_plain octet then octet ∷ [] else 0x25 ∷ digit_glyph true (octet / 16) ∷ digit_glyph true (octet % 16) ∷ []
 
--- one behind the other
+-- one after the other
 unfoldable pub shown : List ℕ → List ℕ
 shown octets = flat_map shown_octet octets

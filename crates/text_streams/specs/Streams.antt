@@ -17,13 +17,13 @@ pub record GaveFew (limit : ℕ) (old new : SourceState) : Type 0 where
   pub few : length bytes ≤ limit
   pub gave : Gave bytes old new
 
--- a front of the bytes was written, and this is the rest
+-- a prefix of the bytes was written, and this is the rest
 pub record WroteSome (bytes rest : List ℕ) (old new : SinkState) : Type 0 where
   pub front : List ℕ
   pub parts : bytes ≡ front ++ rest
   pub wrote : new.held ≡ option_map (λ h. h ++ front) old.held
 
--- a read has answered the end, behind which nothing is left
+-- a read has answered the end, after which nothing is left
 abbrev pub AtEnd : SourceState → SourceState → Type 0
 AtEnd old new = Rose old.ends new.ends × IfSome new.left (λ rest. rest ≡ [])
 
@@ -46,11 +46,11 @@ ReadsAll limit read.NoMemory old new = GaveFew (limit + 1) old new × (new.ends 
 abbrev pub WroteText : List ℕ → SinkState → SinkState → Type 0
 WroteText bytes old new = new.held ≡ option_map (λ h. h ++ bytes) old.held
 
--- a front of these bytes was written
+-- a prefix of these bytes was written
 abbrev pub WroteFrontOf : List ℕ → SinkState → SinkState → Type 0
 WroteFrontOf bytes old new = (rest : List ℕ) × WroteSome bytes rest old new
 
--- all bytes were written, or a front of them up to a fault
+-- all bytes were written, or a prefix of them up to a fault
 abbrev pub WritesAll : WriteAll → List ℕ → SinkState → SinkState → Type 0
 WritesAll write.Whole bytes old new = WroteText bytes old new × (new.faults ≡ old.faults)
 WritesAll write.Failed bytes old new = WroteFrontOf bytes old new × Rose old.faults new.faults

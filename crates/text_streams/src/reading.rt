@@ -11,7 +11,7 @@ pub enum ReadAll {
     Whole(Octets),
     /// More bytes came than may be read.
     TooLong,
-    /// The source failed behind these bytes.
+    /// The source failed after these bytes.
     Failed(Octets),
     /// Memory was wanting.
     NoMemory,

@@ -8,7 +8,7 @@ use orb_base::{Put, Sink};
 pub enum WriteAll {
     /// All were written.
     Whole,
-    /// The sink failed behind a front of them.
+    /// The sink failed after a prefix of them.
     Failed,
 }
 

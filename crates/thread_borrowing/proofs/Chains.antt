@@ -21,7 +21,7 @@ or_second : (a b : Bool) → (a || b) ≡ true → a ≡ false → b ≡ true
 or_second a b either first = elim (or_cases a b either) [ inl t ↦ absurd (both_ways a first t) | inr t ↦ t ]
 
 module _ {X : Type 0} where
-  -- the place of one that passes and stands before each other that passes; or none passes
+  -- the place of one that passes and is before each other that passes; or none passes
   abbrev IsTop : (X → Bool) → (X → ℕ) → List X → Option ℕ → Type 0
   IsTop p w xs None = (k : ℕ) (x : X) → slice_get xs k ≡ Some x → p x ≡ false
   IsTop p w xs (Some i) =
@@ -73,7 +73,7 @@ module _ {X : Type 0} where
   alike_top p r w xs None same top = λ k x g. same x ∙ top k x g
   alike_top p r w xs (Some i) same top = (top.0, top.1, same top.0 ∙ top.2, λ k y g t. top.3 k y g (sym (same y) ∙ t))
 
-  -- those of one test stand before those of the other
+  -- those of one test are before those of the other
   else_top : (p q : X → Bool) (w : X → ℕ) (bound : ℕ) (xs : List X) (a b : Option ℕ) → ((x : X) → p x ≡ true → bound ≤ w x) → ((y : X) → q y ≡ true → w y < bound)
       → IsTop p w xs a → IsTop q w xs b → IsTop (λ x. p x || q x) w xs (option_or a b)
   else_top p q w bound xs None None above below s t = λ k x g. or_from (p x) (q x) (s k x g) (t k x g)
@@ -93,7 +93,7 @@ module _ {X : Type 0} where
 abbrev is_here : ℕ → Thread → Bool
 is_here lane thread = is_free thread.doing && (thread.lane == lane)
 
--- the rank of one that stands so
+-- the rank of one that is so
 rank_here : (lane how : ℕ) (thread : Thread) → stands_in lane how thread ≡ true → rank thread ≡ 3 * lane + how
 rank_here lane how thread e =
     let a = and_parts (is_here lane thread) (standing thread == how) e in
@@ -102,7 +102,7 @@ rank_here lane how thread e =
     let so : standing thread ≡ how = eqb-true (standing thread) how a.1 in
     omega arith
 
--- a thread stands in one of three ways
+-- a thread is in one of three ways
 three_ways : (here static started : Bool)
     → here ≡ ((here && ((if static then 2 else (if started then 1 else 0)) == 2))
     || ((here && ((if static then 2 else (if started then 1 else 0)) == 1)) || (here && ((if static then 2 else (if started then 1 else 0)) == 0))))
@@ -222,7 +222,7 @@ pub lane_alone : (lane : ℕ) (threads : List Thread) (t : ℕ) (thread : Thread
     → thread.lane ≡ lane
 lane_alone lane threads t thread e g = eqb-true thread.lane lane (sym (alone_runs thread.lane lane) ∙ chosen_runs false lane threads t thread e g)
 
--- of two ranks the greater one stands first
+-- of two ranks the greater one is first
 before : (t k : ℕ) (x y : Thread) → rank y ≤ rank x → (rank y ≡ rank x → t ≤ k) → StandsBefore t x k y
 before t k x y le even =
     let a = few x.is_static x.started in let b = few y.is_static y.started in

@@ -46,7 +46,7 @@ built_more lanes at spec threads statics next within item with_statics with_both
     ap (λ specs. threads.items ++ pool_threads at specs) (sym rest) ∙ so_far.is in
     record { is = rw (with_both, with_statics) (simp append_assoc (simp append_assoc at all)) }
 
--- behind the last lane they are all
+-- after the last lane they are all
 pub built_all : (lanes : List LaneSpec) (threads : Room Thread)
     → BuiltUpTo lanes (length lanes) threads → threads.items ≡ pool_threads 0 lanes
 built_all lanes threads so_far =

@@ -11,7 +11,7 @@ use Rattle.orb_base.proofs.Places.{cond_is_none}
 use Rattle.thread_borrowing.specs.Choice.{greatest, first_greatest}
 
 module _ {X : Type 0} where
-  -- what stands at a place that was looked up
+  -- what is at a place that was looked up
   pub at_place : (p : X → Bool) (xs : List X) (i : ℕ) → position p xs ≡ Some i → (x : X) × (slice_get xs i ≡ Some x) × (p x ≡ true)
   at_place p xs i e = let h = cond_some (ltb (position_or_len p xs) (length xs)) (position_or_len p xs) i e in let w = ltb-true (position_or_len p xs) (length xs) h.0 in
       elim (slice_get_cases xs i).1 [

@@ -4,7 +4,7 @@ use Rattle.std.specs.Option.{option_or}
 use Rattle.thread_borrowing.specs.ThreadList.{Thread, is_free}
 use Rattle.thread_borrowing.specs.Choice.{standing}
 
--- a thread of a lane that has no task and stands so
+-- a thread of a lane that has no task and is so
 abbrev pub stands_in : ℕ → ℕ → Thread → Bool
 stands_in lane how thread = is_free thread.doing && (thread.lane == lane) && (standing thread == how)
 
@@ -22,7 +22,7 @@ down_from false lane threads = in_lane lane threads
 down_from true zero threads = in_lane zero threads
 down_from true (suc lane) threads = option_or (in_lane (suc lane) threads) (down_from true lane threads)
 
--- this thread stands before the other: in a higher lane, or of higher standing in the same, or of a smaller number
+-- this thread is before the other: in a higher lane, or of higher standing in the same, or of a smaller number
 abbrev pub StandsBefore : ℕ → Thread → ℕ → Thread → Type 0
 StandsBefore t thread k other =
     (other.lane < thread.lane)

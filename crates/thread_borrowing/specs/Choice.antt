@@ -16,7 +16,7 @@ first_greatest passes weight xs = position (λ x. passes x && (weight x == great
 abbrev pub may_run : Bool → ℕ → ℕ → Bool
 may_run borrowing thread_lane job_lane = (thread_lane == job_lane) || (borrowing && nat_lt thread_lane job_lane)
 
--- in a lane a static thread stands before a started dynamic one, and that before one that is not started
+-- in a lane a static thread is before a started dynamic one, and that before one that is not started
 abbrev pub standing : Thread → ℕ
 standing thread = if thread.is_static then 2 else (if thread.started then 1 else 0)
 

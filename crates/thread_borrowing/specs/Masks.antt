@@ -34,7 +34,7 @@ IsProbed set (Some (thread, starts)) =
     ⊎ ((IsLeast set.statics None × IsLeast set.started (Some thread) × (starts ≡ false))
     ⊎ (IsLeast set.statics None × IsLeast set.started None × IsLeast set.resting (Some thread) × (starts ≡ true)))
 
--- a set gained a thread that stands so, and kept the others
+-- a set gained a thread that is so, and kept the others
 abbrev pub IsPut : ℕ → Standing → LaneSet → LaneSet → Type 0
 IsPut thread Static old new = Gained thread old.statics new.statics × (new.started ≡ old.started) × (new.resting ≡ old.resting)
 IsPut thread Started old new = (new.statics ≡ old.statics) × Gained thread old.started new.started × (new.resting ≡ old.resting)

@@ -22,7 +22,7 @@ pub fn all_threads(alloc: Global, lanes: &[LaneSpec]) -> Result<List<LaneThread>
     Ok(threads)
 }
 
-/// Puts so many threads of a lane behind the last one.
+/// Puts so many threads of a lane after the last one.
 #[tactic(auto, using(crate::proofs::Growing::grew_none, crate::proofs::Growing::grew_more))]
 fn add_threads(
     threads: &mut List<LaneThread>,

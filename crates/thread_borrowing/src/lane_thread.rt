@@ -16,7 +16,7 @@ use std::marker::Model;
 pub struct LaneThread {
     /// Its lane, from 0.
     lane: u8,
-    /// Whether it stands ready from the start.
+    /// Whether it is ready from the start.
     is_static: bool,
     /// Whether it was started.
     started: bool,
@@ -62,7 +62,7 @@ impl LaneThread {
         self.lane
     }
 
-    /// How it stands among the threads of its lane.
+    /// How it is among the threads of its lane.
     pub fn standing(&self) -> Standing
         ensures { level result ≡ standing self.now }
     {

@@ -17,7 +17,7 @@ pub fn choice_goes_down()
         → thread.lane ≡ lane }
 {}
 
-/// The chosen thread can start and stands before each other that can, and there is none only where none can. The
+/// The chosen thread can start and is before each other that can, and there is none only where none can. The
 /// body is empty: the contract is a law of the definitions.
 pub fn choice_stands_first()
     ensures some { (borrowing : Bool) (lane : ℕ) (threads : List Thread) (t : ℕ)

@@ -1,6 +1,6 @@
 //! Probes of a lane for a thread without a task, and their count.
 //!
-//! `LaneSet::probe` alone reads a set, and it alone adds a step: what can tick stands in this file.
+//! `LaneSet::probe` alone reads a set, and it alone adds a step: what can tick is in this file.
 ghost use Rattle.std.specs.Prelude.{◌≡◌, ◌+◌, ◌<◌, ◌≤◌, None};
 ghost use Rattle.thread_borrowing.specs.Masks.{IsLeast, IsProbed, IsPut, IsCleared};
 

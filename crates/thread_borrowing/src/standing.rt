@@ -1,9 +1,9 @@
-//! How a thread stands among those of its lane.
+//! How a thread is among those of its lane.
 
-/// How a thread stands among those of its lane.
+/// How a thread is among those of its lane.
 #[derive(Clone, Copy, Debug, PartialEq, Eq)]
 pub enum Standing {
-    /// It stands ready from the start.
+    /// It is ready from the start.
     Static,
     /// It is dynamic and was started.
     Started,

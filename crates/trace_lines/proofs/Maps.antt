@@ -26,7 +26,7 @@ first_map p w f xs =
     position_map (λ y. p y && (w y == greatest p w (map f xs))) (λ x. p (f x) && (w (f x) == greatest (λ z. p (f z)) (λ z. w (f z)) xs)) f
     (λ x. ap (λ (n : ℕ). p (f x) && (w (f x) == n)) (greatest_map p w f xs)) xs
 
--- the first of greatest weight stands at the same place, where a view passes as what it is of
+-- the first of greatest weight is at the same place, where a view passes as what it is of
 pub first_same : {X Y : Type 0} (p : Y → Bool) (w : Y → ℕ) (q : X → Bool) (f : X → Y) → ((x : X) → p (f x) ≡ q x) → (xs : List X) → first_greatest p w (map f xs) ≡ first_greatest q (λ x. w (f x)) xs
 first_same {X} p w q f same xs = first_map p w f xs ∙ ap (λ (r : X → Bool). first_greatest r (λ x. w (f x)) xs) (λ i x. same x i)
 

@@ -42,7 +42,7 @@ number_is (j ∷ js) (suc k) job apart g = elim (cases_Bool (same_name j job)) [
   | inr f ↦ ap (λ (b : Bool). if b then 0 else 1 + number js job) f ∙ (let h = number_is js k job (apart_later j js apart) g in omega arith)
 ]
 
--- and there its plain form stands
+-- and there its plain form is
 pub plain_there : (jobs : List Job) (job : Job) → NoNameTwice jobs → Among jobs job → slice_get (map plain jobs) (number jobs job) ≡ Some (plain job)
 plain_there jobs job apart at =
     ap (slice_get (map plain jobs)) (number_is jobs at.0 job apart at.1) ∙ (slice_get-map plain jobs at.0 ∙ ap (option_map plain) at.1)

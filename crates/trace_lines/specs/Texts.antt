@@ -1,5 +1,5 @@
 -- The text of a trace: the pool of the run, a line for each lane and for each entry, and how many entries there are. Each line ends
--- with a line feed; numbers are decimal, without a zero in front. Own profile.
+-- with a line feed; numbers are decimal, without a zero before. Own profile.
 use Rattle.std.specs.Prelude.{ℕ, Bool, if◌then◌else◌, List, ◌++◌, length, map, codes, Option, Some, None}
 use Rattle.std.specs.List.{flat_map}
 use Rattle.std.specs.Fmt.{decimal}

@@ -41,7 +41,7 @@ two = (
   ),
 )
 
--- the heirs of the first seat stand in the team
+-- the heirs of the first seat are in the team
 stands : (k : ℕ) → k < 7 → Has (k + 1) (team 7)
 stands zero l = inr (inl refl)
 stands (suc zero) l = inr (inr (inl refl))

@@ -32,7 +32,7 @@ module _ {O C R : Type 0} where
   abbrev pub gone : SeatView O C R → Gone O C R
   gone other = record { number = other.number; calls = other.mine; splits = other.splits }
 
-  -- the longer of what was seen and what was told is seen, and both begin it
+  -- the longer of what was seen and what was given is seen, and both begin it
   abbrev pub Hears : List (Entry O C R) → SeatView O C R → SeatView O C R → Type 0
   Hears told old new =
       (new.cell ≡ old.cell) × (new.terms ≡ old.terms) × (new.number ≡ old.number) × (new.mine ≡ old.mine)

@@ -18,7 +18,7 @@ module _ {O C R : Type 0} (ready : O → C → Bool) (sound : O → C → Type 0
       opens terms.opening × Legal ready sound step terms.opening h × FitFrom fit terms.opening [] h × (length h ≤ terms.length)
 
 module _ {O C R : Type 0} (step : O → C → O × R) (terms : Terms O) (history : List (Entry O C R)) where
-  -- the slot's value is the object behind the history, beside the history
+  -- the slot's value is the object after the history, beside the history
   abbrev pub Fresh : Core O C R → Type 0
   Fresh core = (core.history.list.items ≡ history) × (core.history.length ≡ terms.length)
       × (core.object ≡ replay step terms.opening history)

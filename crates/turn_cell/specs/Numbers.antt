@@ -11,7 +11,7 @@ pub data Made (heir : ℕ → ℕ → Option ℕ) (splits_of : ℕ → ℕ) : �
   first : Made heir splits_of 0
   next : (n k m : ℕ) → Made heir splits_of n → k < splits_of n → heir n k ≡ Some m → Made heir splits_of m
 
--- the number stands in a list of numbers, each beside its splits
+-- the number is in a list of numbers, each beside its splits
 abbrev pub Has : ℕ → List (ℕ × ℕ) → Type 0
 Has n [] = ⊥
 Has n (p ∷ ps) = (p.0 ≡ n) ⊎ Has n ps

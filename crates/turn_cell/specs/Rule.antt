@@ -1,4 +1,4 @@
--- The rule of the table behind a turn cell. Word 0 is twice the length of the one history, plus 1 while a seat holds the
+-- The rule of the table after a turn cell. Word 0 is twice the length of the one history, plus 1 while a seat holds the
 -- turn. Slot 0 has the object beside the history, and is out with the seat that holds the turn.
 use Rattle.std.specs.Prelude.{◌≡◌, ◌≢◌, ℕ, ◌+◌, ◌*◌, Bool, true, false, if◌then◌else◌, List, length, slice_index, Option, Some}
 use mathlib.Core.Option.{some}
@@ -23,7 +23,7 @@ module _ {O C R : Type 0} (heir : ℕ → ℕ → Option ℕ) (splits_of : ℕ �
   IsNumbered n v = (v.terms ≡ Some terms) × (v.mine ≡ of n history) × (v.splits ≡ splits_of n) × Made heir splits_of n
       × Each IsGone v.ended
 
-  -- what the seat at a place knows: what it has seen and was told begins the history, and it holds the turn or does not
+  -- what the seat at a place knows: what it has seen and was given begins the history, and it holds the turn or does not
   abbrev pub Knows : Bool → ℕ → ℕ → Known O C R → Type 0
   Knows held holder j v = StartsWith history v.seen × ((n : ℕ) → v.number ≡ Some n → IsNumbered n v)
       × (v.turn ≡ true → (held ≡ true) × (j ≡ holder) × (v.seen ≡ history)) × StartsWith history v.told
@@ -31,7 +31,7 @@ module _ {O C R : Type 0} (heir : ℕ → ℕ → Option ℕ) (splits_of : ℕ �
 module _ {O C R : Type 0} (ready : O → C → Bool) (sound : O → C → Type 0) (step : O → C → O × R) (opens : O → Type 0)
     (fit : O → ℕ → List (Entry O C R) → C → Type 0) where
   -- the table's rule: one good history, of which the word tells the length and each seat knows a beginning; no two seats
-  -- have one number, and while nobody holds the turn the slot has the object behind the whole history
+  -- have one number, and while nobody holds the turn the slot has the object after the whole history
   pub record Kept (heir : ℕ → ℕ → Option ℕ) (terms : Terms O) (s : State (Option (Core O C R)) (Known O C R)) : Type 0 where
     pub history : List (Entry O C R)
     pub held : Bool

@@ -24,7 +24,7 @@ module _ {O C R : Type 0} (ready : O → C → Bool) (sound : O → C → Type 0
       × ((x : Terms O) (n : ℕ) → v.terms ≡ Some x → v.number ≡ Some n
       → Good ready sound step opens fit x h × Fresh step x h core × (v.mine ≡ of n h))
 
-  -- taking in what was told: what was seen and what was told both begin what is seen then
+  -- taking in what was given: what was seen and what was given both begin what is seen then
   abbrev pub heard : Step (Option (Core O C R)) → Me (Option (Core O C R)) (Known O C R) → ℕ
       → Me (Option (Core O C R)) (Known O C R) → Type 0
   heard st m r m' = (m' ≡ (hearing m.0, m.1)) × StartsWith (hearing m.0).seen m.0.seen × StartsWith (hearing m.0).seen m.0.told
@@ -44,7 +44,7 @@ module _ {O C R : Type 0} (ready : O → C → Bool) (sound : O → C → Type 0
   Took v m' word core =
       (h : List (Entry O C R)) × (m' ≡ (looking v h, (0, None) ∷ [])) × (word ≡ 2 * length h) × Learns v h core
 
-  -- what may go home: a good history that goes on from what was seen by calls of this seat alone, beside the object behind it
+  -- what may go home: a good history that goes on from what was seen by calls of this seat alone, beside the object after it
   abbrev pub MayGo : Known O C R → Core O C R → Type 0
   MayGo v core = (x : Terms O) × (n : ℕ) × (v.terms ≡ Some x) × (v.number ≡ Some n)
       × Good ready sound step opens fit x core.history.list.items

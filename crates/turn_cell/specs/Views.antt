@@ -100,10 +100,10 @@ module _ {O C R : Type 0} where
     ended = [];
   }
 
-  -- the first is told what the second saw
+  -- the first is given what the second saw
   abbrev pub telling : Known O C R → Known O C R → Known O C R
   telling v w = record v { told = w.seen }
 
-  -- what was told is taken in, if it is more
+  -- what was given is taken in, if it is more
   abbrev pub hearing : Known O C R → Known O C R
   hearing v = record v { seen = longer v.seen v.told; told = [] }

@@ -59,7 +59,7 @@ impl Bell {
         self.sleepers.load(SeqCst) > 0
     }
 
-    /// Waits for a ring behind the first `seen` ones, or for a while; how many looks were taken, where they were enough.
+    /// Waits for a ring after the first `seen` ones, or for a while; how many looks were taken, where they were enough.
     pub(crate) fn wait<R: Wait>(&self, rt: &R, seen: u64) -> Option<u64> {
         for looks in 0..self.budget() {
             if self.looks_behind(seen) {
@@ -72,7 +72,7 @@ impl Bell {
         None
     }
 
-    /// Looks for a ring behind the first `seen` ones.
+    /// Looks for a ring after the first `seen` ones.
     fn looks_behind(&self, seen: u64) -> bool {
         for _ in 0..READS {
             if self.rings() != seen {
@@ -83,7 +83,7 @@ impl Bell {
         false
     }
 
-    /// Sleeps for some milliseconds, unless the bell was rung behind the first `seen` rings.
+    /// Sleeps for some milliseconds, unless the bell was rung after the first `seen` rings.
     pub(crate) fn sleep<R: Wait>(&self, rt: &R, seen: u64, millis: u64) {
         self.enter();
         let low = (seen % 0x1_0000_0000) as u32;

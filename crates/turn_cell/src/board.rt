@@ -1,4 +1,4 @@
-//! What lies in the table behind a turn cell, and the table's rule.
+//! What lies in the table after a turn cell, and the table's rule.
 use crate::entry::Entry;
 use crate::log::Log;
 use crate::object::Object;

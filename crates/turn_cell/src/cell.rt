@@ -1,4 +1,4 @@
-//! The table behind a turn cell.
+//! The table after a turn cell.
 ghost use Rattle.std.specs.Prelude.{◌≡◌};
 
 use crate::bells::Bells;

@@ -10,7 +10,7 @@ use orb_base::NoMemory;
 /// An object whose calls are answered one after another.
 ///
 /// Its meaning is a step from state to state. A caller sees only its own calls, so a call is asked to be `fit` by
-/// them, and the law `enough` says that a fit call is `sound` behind every legal history that fits.
+/// them, and the law `enough` says that a fit call is `sound` after every legal history that fits.
 pub trait Object: Drop {
     type Call: Drop;
 
@@ -22,7 +22,7 @@ pub trait Object: Drop {
     /// What a ready call needs of the state.
     ghost sound: { Self → Self.Call → Type 0 };
 
-    /// The state behind a call, and its reply.
+    /// The state after a call, and its reply.
     ghost step: { Self → Self.Call → Self × Self.Reply };
 
     /// The states that a cell may open with.
@@ -56,7 +56,7 @@ pub trait Object: Drop {
     }
 
     /// Whether an entry of this call with this reply rings a bell, 0 to 63, at which callers sleep; `self` is the
-    /// state behind the entry. A hint alone.
+    /// state after the entry. A hint alone.
     fn rings(&self, _call: &Self::Call, _reply: &Self::Reply, _bell: u32) -> bool {
         true
     }

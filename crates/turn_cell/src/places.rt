@@ -14,7 +14,7 @@ use crate::object::Object;
 use crate::plays::{Hear, Joining, Parting, Telling};
 
 impl<O: Object> Board<O> {
-    // Takes in what was told.
+    // Takes in what was given.
     pub(crate) fn hear(&self, place: &mut Place<O>)
         requires place { (place.old.table_id ≡ self.now.table.shared.table_id) × (place.old.me.0.turn ≡ false) }
         requires counts { (n : ℕ) → place.old.me.0.number ≡ Some n → length place.old.me.0.mine ≤ length (of n place.old.me.0.seen) }

@@ -26,7 +26,7 @@ impl<O: Object> Play<Option<Core<O>>, Known<O>> for Release<O> {
     ghost then = { released };
 }
 
-/// Takes in what was told.
+/// Takes in what was given.
 pub struct Hear<O> {
     object: PhantomData<O>,
 }

@@ -18,7 +18,7 @@ use std::alloc::Global;
 use std::marker::Model;
 use std::sync::Wait;
 
-/// An object behind one turn, beside the history of its calls. Contracts see which cell it is, and what it was opened with.
+/// An object after one turn, beside the history of its calls. Contracts see which cell it is, and what it was opened with.
 #[derive(Drop)]
 pub struct TurnCell<O: Object> {
     board: Board<O>,
@@ -37,7 +37,7 @@ impl<O: Object> Model for TurnCell<O> {
 pub struct Worn<C>(pub C);
 
 impl<O: Object> TurnCell<O> {
-    /// Opens a cell, whose history has room for `length` entries, and gives its first seat. For want of memory it hands
+    /// Opens a cell, whose history has room for `length` entries, and gives its first seat. When out of memory it hands
     /// the object back.
     pub fn new(alloc: Global, object: O, length: u32) -> Result<(TurnCell<O>, Seat<O>), O>
         requires opens { O.opens object }
@@ -144,7 +144,7 @@ impl<O: Object> TurnCell<O> {
         self.board.hear(&mut into.place);
     }
 
-    /// Tells the hearer what the teller has seen, so that its next call stands behind that. Takes no memory.
+    /// Tells the hearer what the teller has seen, so that its next call is after that. Takes no memory.
     pub fn meet(&self, teller: &mut Seat<O>, hearer: &mut Seat<O>)
         requires { IsOf self.now teller.old × IsOf self.now hearer.old }
         ensures teller { teller.new ≡ teller.old }

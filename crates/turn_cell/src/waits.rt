@@ -12,7 +12,7 @@ use std::{hint, thread};
 /// How long a call sleeps whose object wanted memory, in milliseconds.
 const WANT_OF_MEMORY: u64 = 1;
 
-/// Where a call stands that isn't answered yet.
+/// Where a call is that isn't answered yet.
 #[derive(Clone, Copy)]
 pub(crate) struct Watch {
     /// Its bell.
@@ -117,7 +117,7 @@ impl<O: Object> Board<O> {
         turn.leave();
     }
 
-    /// The bells that a try rings, asked while the turn is held: a call that was answered stands last in the history.
+    /// The bells that a try rings, asked while the turn is held: a call that was answered is last in the history.
     pub(crate) fn rung_by(&self, core: &Core<O>, tried: &Tried<O>) -> Rung {
         match (tried, core.history.last()) {
             (Tried::Replied(_), Some(entry)) => self.bells.rung_by(&core.object, entry),

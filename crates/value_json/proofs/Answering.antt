@@ -132,7 +132,7 @@ none_when (x ∷ xs) b e t = let zero : length (x ∷ xs) ≡ 0 = eqb-true (leng
 pub some_when : {A : Type 0} (xs : List A) (b : Bool) → b ≡ (length xs == 0) → b ≡ false → xs ≡ [] → ⊥
 some_when xs b e f none = true≢false (sym (ap (λ ys. length ys == 0) none) ∙ sym e ∙ f)
 
--- the result in front of what comes after it
+-- the result before what comes after it
 pub result_shown : (k : Kind) (ks : List Kind) (vs later : List IdlValue) (v : IdlValue) (d : Value) (list none : List Value) → vs ≡ v ∷ later → view d ≡ shown (value_of v) k
     → none ≡ [] → list ≡ none ++ d ∷ [] → ahead (map view list) (shown_of_each ks (values_view later)) ≡ shown_of_each (k ∷ ks) (values_view vs)
 unfolding shown_of_each

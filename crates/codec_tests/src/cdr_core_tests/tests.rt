@@ -39,7 +39,7 @@ fn is_put(alloc: Global, order: Order, place: usize, bytes: &[u8]) -> bool
     is_spelled(out, put, bytes)
 }
 
-/// Whether the values are spelled so at the row's place and 8 behind it.
+/// Whether the values are spelled so at the row's place and 8 after it.
 fn row_is_put(alloc: Global, row: &Row) -> bool {
     let (order, at, bytes) = *row;
     let at = usize::from(at);
@@ -70,7 +70,7 @@ fn takes_values(reader: &mut Reader<'_>) -> bool {
         && reader.take_string() == Ok(b"hi".as_slice())
 }
 
-/// Whether a reader stands at this place and has so many bytes left.
+/// Whether a reader is at this place and has so many bytes left.
 fn stands(reader: &Reader<'_>, place: usize, left: usize) -> bool {
     reader.place() == place && reader.left() == left
 }
@@ -156,7 +156,7 @@ fn fault_of(reader: &mut Reader<'_>, take: &Take) -> Option<CdrFault> {
 /// Bytes from a place on of which this can't be taken, for this cause at this place.
 type Refusal = (u8, &'static [u8], Take, CdrCause, usize);
 
-/// Whether the fault is told, and the reader stays where it stood.
+/// Whether the fault is given, and the reader stays where it was.
 fn refuses(order: Order, row: &Refusal) -> bool {
     let (at, bytes, take, cause, place) = row;
     let mut reader = Reader::new(order, usize::from(*at), bytes);
@@ -173,7 +173,7 @@ fn refuses_each(order: Order, rows: &[Refusal]) -> bool {
     true
 }
 
-/// Behind a pad a number of the size lacks its last byte.
+/// After a pad a number of the size lacks its last byte.
 const SHORT: &[Refusal] = &[
     (7, &[], Take::U8, CdrCause::Short, 7),
     (7, &[], Take::Bool, CdrCause::Short, 7),
@@ -212,7 +212,7 @@ fn a_boolean_is_0_or_1(rt: HostRuntime) {
     assert!(rt; takes_booleans());
 }
 
-/// Each stands at place 1, so that its count stands at 4.
+/// Each is at place 1, so that its count is at 4.
 const STRINGS: &[(&[u8], &[u8])] = &[
     (&[0, 0, 0, 0, 0, 0, 1, 0], b""),
     (&[0, 0, 0, 0, 0, 0, 3, 104, 105, 0, 9], b"hi"),
@@ -304,7 +304,7 @@ fn a_count_is_at_most_what_is_left(rt: HostRuntime) {
 }
 
 /// The content of a priority context for priority 100, in either order, as a sequence at a place whose remainder by 4
-/// is 2: the short stands at place 2 of its encapsulation.
+/// is 2: the short is at place 2 of its encapsulation.
 const ENCAPSULATIONS: &[&[u8]] = &[
     &[9, 9, 0, 0, 0, 4, 0, 0, 0, 100, 5],
     &[9, 9, 0, 0, 0, 4, 1, 0, 100, 0, 5],
@@ -474,7 +474,7 @@ fn runs_are_padded_to_their_alignment(rt: HostRuntime) {
 /// An order, and bytes.
 type Spelt = (Order, &'static [u8]);
 
-/// A tag of 4 bytes, the length 3, and three octets, behind a byte that stands at place 9.
+/// A tag of 4 bytes, the length 3, and three octets, after a byte that is at place 9.
 const ITEMS: &[Spelt] = &[
     (
         Order::Big,

@@ -163,7 +163,7 @@ fn reads_short_kinds(rt: HostRuntime) {
     assert!(rt; all_read(rt.alloc(), SHORT));
 }
 
-/// Reserved flag bits, reserved octets and a pad; two bytes of a pad behind the contexts, and no body; the pad, and a
+/// Reserved flag bits, reserved octets and a pad; two bytes of a pad after the contexts, and no body; the pad, and a
 /// body of one byte.
 const ANY_PADS: &[Row] = &[
     Row {
@@ -235,7 +235,7 @@ fn reads_replies_of_exceptions(rt: HostRuntime) {
     assert!(rt; all_read(rt.alloc(), EXCEPTIONS));
 }
 
-/// An answer of any status and a CancelRequest, each with bytes behind it.
+/// An answer of any status and a CancelRequest, each with bytes after it.
 const BEHIND: &[Row] = &[
     Row {
         order: Order::Big,

@@ -64,7 +64,7 @@ fn refuses_a_request_at_its_head(rt: HostRuntime) {
     assert!(rt; all_refused(rt.alloc(), HEADS));
 }
 
-/// Requests without a reading behind their target.
+/// Requests without a reading after their target.
 const BEHIND_TARGETS: &[Refused] = &[
     // An operation of no bytes, not even a NUL.
     (
@@ -90,7 +90,7 @@ const BEHIND_TARGETS: &[Refused] = &[
             place: 28,
         }),
     ),
-    // No contexts behind the operation and its pad.
+    // No contexts after the operation and its pad.
     (
         b"GIOP\x01\x02\0\0\0\0\0\x15\0\0\0\x01\x03\0\0\0\0\0\0\0\0\0\0\0\0\0\0\x01\0",
         MessageFault::Cdr(CdrFault {

@@ -56,7 +56,7 @@ pub(crate) struct Row {
     pub said: Said,
 }
 
-/// Requests: without a context; with a priority in either order; with the ends of a band; with a body behind a pad.
+/// Requests: without a context; with a priority in either order; with the ends of a band; with a body after a pad.
 pub(crate) const REQUESTS: &[Row] = &[
     Row {
         order: Order::Big,

@@ -35,7 +35,7 @@ pub(crate) const TRANSIENT_REPLY: &[u8] =
 pub(crate) const BIND_BAND_REQUEST: &[u8] =
     b"GIOP\x01\x02\0\0\0\0\0>\0\0\0\x01\x03\0\0\0\0\0\0\0\0\0\0\x04ping\0\0\0\x14_bind_priority_band\0\0\0\0\x01\0\0\0\x0b\0\0\0\x06\0\0\0d\0\xc8";
 
-/// A request for `twice` of the object `v`: the long 21 is its body, behind a pad.
+/// A request for `twice` of the object `v`: the long 21 is its body, after a pad.
 pub(crate) const TWICE_REQUEST: &[u8] =
     b"GIOP\x01\x02\0\0\0\0\0(\0\0\0\x01\x03\0\0\0\0\0\0\0\0\0\0\x01v\0\0\0\0\0\0\x06twice\0\0\0\0\0\0\0\0\0\0\x15";
 

@@ -45,7 +45,7 @@ fn contexts(alloc: Global, context: Option<(u32, &[u8])>) -> Option<List<Context
     Some(list)
 }
 
-/// Puts a profile behind those that stand there. False where memory is wanting.
+/// Puts a profile after those that are there. False where memory is wanting.
 fn put(alloc: Global, profiles: &mut List<Tagged>, tag: u32, bytes: &[u8]) -> bool {
     match octets(alloc, bytes) {
         Some(bytes) => profiles.push(Tagged { tag, bytes }).is_ok(),

@@ -30,7 +30,7 @@ fn text(alloc: Global, bytes: &[u8]) -> Option<Text>
     }
 }
 
-/// Puts tagged data behind those that stand there. False where memory is wanting.
+/// Puts tagged data after those that are there. False where memory is wanting.
 fn put(alloc: Global, list: &mut List<Tagged>, tag: u32, bytes: &[u8]) -> bool {
     match octets(alloc, bytes) {
         Some(bytes) => list.push(Tagged { tag, bytes }).is_ok(),

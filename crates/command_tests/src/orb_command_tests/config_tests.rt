@@ -209,7 +209,7 @@ const OVERTAKEN: &[Row<'static>] = &[
     },
 ];
 
-/// The first fault of a configuration is told.
+/// The first fault of a configuration is given.
 const REFUSED: &[Row<'static>] = &[
     Row {
         story: "a pool that is no table",

@@ -1,4 +1,4 @@
-//! Whatever a client sends, `orb pipe` answers by the rules: each refusal in its order, told where a reply is due; bands, flags, targets,
+//! Whatever a client sends, `orb pipe` answers by the rules: each refusal in its order, given where a reply is due; bands, flags, targets,
 //! other messages, and what breaks a rule. The rows were written by an encoder of their own, from the rules.
 
 use super::rows::{EMPTY, Row, first_wrong};
@@ -14,7 +14,7 @@ const CONFIGURED: Row<'static> = Row {
     ..EMPTY
 };
 
-/// Each refusal: told where a reply is due, early or late, and untold where none is.
+/// Each refusal: given where a reply is due, early or late, and untold where none is.
 const REFUSALS: &[Row<'static>] = &[
     Row {
         story: "no key, told and untold",

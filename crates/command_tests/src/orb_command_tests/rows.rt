@@ -37,7 +37,7 @@ pub struct Row<'a> {
     pub words: &'a [&'a str],
     /// The names of the files with their bytes.
     pub files: &'a [(&'a str, &'a [u8])],
-    /// How many blanks stand behind the bytes of each file.
+    /// How many blanks are after the bytes of each file.
     pub blanks: usize,
     /// The reads of files that fail.
     pub failed_files: &'a [u64],
@@ -46,7 +46,7 @@ pub struct Row<'a> {
     /// The calls of the net that fail.
     pub failed_calls: &'a [u64],
     pub input: &'a [u8],
-    /// How many times `a` stands behind the input.
+    /// How many times `a` is after the input.
     pub times: usize,
     /// How many bytes the reads of the input give at most.
     pub reads: &'a [usize],

@@ -158,7 +158,7 @@ fn first_wrong_of_refs<R: Wait + Threads + Sync>(
     ""
 }
 
-/// Of both commands each fault of a text is told, and nothing runs or is written then.
+/// Of both commands each fault of a text is given, and nothing runs or is written then.
 #[test]
 fn servants_of_scripts_answer_and_texts_have_their_faults(rt: HostRuntime) {
     assert_eq!(rt; first_wrong(&rt, rt.alloc(), ANSWERS), "");

@@ -14,7 +14,7 @@ const LITTLE_PING: &[u8] =
 
 const LITTLE_REPLY: &[u8] = b"GIOP\x01\x02\x01\x01\x0e\0\0\0\x01\0\0\0\0\0\0\0\0\0\0\0\x64\0";
 
-/// A big-endian ping of id 1, and behind it a little-endian one of id 1, and their replies.
+/// A big-endian ping of id 1, and after it a little-endian one of id 1, and their replies.
 const TWO_ORDERS: &[u8] =
     b"GIOP\x01\x02\0\0\0\0\0\x24\0\0\0\x01\x03\0\0\0\0\0\0\0\0\0\0\x04ping\0\0\0\x08current\0\0\0\0\0GIOP\x01\x02\x01\0\x24\0\0\0\x01\0\0\0\x03\0\0\0\0\0\0\0\x04\0\0\0ping\x08\0\0\0current\0\0\0\0\0";
 
@@ -196,7 +196,7 @@ const IDS: &[Row<'static>] = &[
     },
 ];
 
-/// Ample memory gives neither want of memory nor NO_MEMORY.
+/// Ample memory gives neither out of memory nor NO_MEMORY.
 #[test]
 fn the_pipe_answers_each_ping(rt: HostRuntime) {
     assert_eq!(rt; first_wrong(&rt, rt.alloc(), PINGS), "");

@@ -6,7 +6,7 @@ use super::rows::{EMPTY, Row, first_wrong};
 const PING: &[u8] =
     b"GIOP\x01\x02\0\0\0\0\0\x24\0\0\0\x01\x03\0\0\0\0\0\0\0\0\0\0\x04ping\0\0\0\x08current\0\0\0\0\0";
 
-/// The same, and behind it a reply of a status that there isn't.
+/// The same, and after it a reply of a status that there isn't.
 const BAD_STATUS: &[u8] =
     b"GIOP\x01\x02\0\0\0\0\0\x24\0\0\0\x01\x03\0\0\0\0\0\0\0\0\0\0\x04ping\0\0\0\x08current\0\0\0\0\0GIOP\x01\x02\0\x01\0\0\0\x0c\0\0\0\x01\0\0\0\x06\0\0\0\0";
 

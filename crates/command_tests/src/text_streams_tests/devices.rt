@@ -12,7 +12,7 @@ pub fn list<T: Copy>(alloc: Global, items: &[T]) -> Result<List<T>, NoMemory> {
     Ok(List::from_vec(Vec::from_slice(alloc, items)?))
 }
 
-/// Bytes, behind them an octet so many times, and behind that other bytes.
+/// Bytes, after them an octet so many times, and after that other bytes.
 pub fn spelled(
     alloc: Global,
     front: &[u8],
@@ -28,7 +28,7 @@ pub fn spelled(
     Ok(List::from_vec(bytes))
 }
 
-/// A source of these bytes, whose reads are cut and fail as told.
+/// A source of these bytes, whose reads are cut and fail as said.
 pub fn source(
     alloc: Global,
     bytes: Octets,
@@ -39,13 +39,13 @@ pub fn source(
     Ok(MemSource::new(bytes, cuts, list(alloc, failing)?))
 }
 
-/// A sink whose writes are cut and fail as told.
+/// A sink whose writes are cut and fail as said.
 pub fn sink(alloc: Global, cuts: &[usize], failing: &[u64]) -> Result<MemSink, NoMemory> {
     let cuts = list(alloc, cuts)?;
     Ok(MemSink::new(alloc, cuts, list(alloc, failing)?))
 }
 
-/// A file of these bytes, with so many blanks behind them.
+/// A file of these bytes, with so many blanks after them.
 fn file(alloc: Global, name: &str, bytes: &[u8], blanks: usize) -> Result<MemFile, NoMemory> {
     let bytes = spelled(alloc, bytes, b' ', blanks, b"")?;
     match Text::new(alloc, name.as_bytes()) {
@@ -54,7 +54,7 @@ fn file(alloc: Global, name: &str, bytes: &[u8], blanks: usize) -> Result<MemFil
     }
 }
 
-/// Whether a file could be put behind others.
+/// Whether a file could be put after others.
 fn puts_file(
     alloc: Global,
     all: &mut List<MemFile>,
@@ -82,7 +82,7 @@ fn puts_files(
     true
 }
 
-/// A store of these files, each with so many blanks behind its bytes, whose reads fail as told.
+/// A store of these files, each with so many blanks after its bytes, whose reads fail as said.
 pub fn store(
     alloc: Global,
     files: &[(&str, &[u8])],
@@ -96,7 +96,7 @@ pub fn store(
     Ok(MemFiles::new(all, list(alloc, failing)?))
 }
 
-/// Whether a word could be put behind others.
+/// Whether a word could be put after others.
 fn puts_word(alloc: Global, all: &mut Vec<String>, word: &str) -> bool {
     match String::from_str(alloc, word) {
         Ok(word) => all.push(word).is_ok(),
@@ -104,7 +104,7 @@ fn puts_word(alloc: Global, all: &mut Vec<String>, word: &str) -> bool {
     }
 }
 
-/// Whether the words of a command line could be put behind others.
+/// Whether the words of a command line could be put after others.
 pub fn puts_words(alloc: Global, all: &mut Vec<String>, words: &[&str]) -> bool {
     for word in words {
         if !puts_word(alloc, all, word) {

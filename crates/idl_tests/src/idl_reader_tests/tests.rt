@@ -16,7 +16,7 @@ fn read(alloc: Global, text: &[u8]) -> Result<Repository, ReadError<IdlFault>> {
     read_idl(alloc, text)
 }
 
-/// Appends the ids of the bases, each behind `<`, and the names of the operations, each behind a point.
+/// Appends the ids of the bases, each after `<`, and the names of the operations, each after a point.
 fn write_interface(out: &mut Vec<u8>, interface: &Interface) -> Result<(), NoMemory> {
     for base in interface.bases.as_slice() {
         out.extend_from_slice(b" <")?;
@@ -242,7 +242,7 @@ fn constants_have_values_of_their_types(rt: HostRuntime) {
     assert!(rt; has_constants(rt.alloc()));
 }
 
-/// Whether the first token at fault of a text has this cause and stands there.
+/// Whether the first token at fault of a text has this cause and is there.
 fn is_refused(alloc: Global, text: &[u8], cause: IdlCause, line: u32, column: u32) -> bool {
     match read(alloc, text) {
         Err(ReadError::Refused(fault)) => {

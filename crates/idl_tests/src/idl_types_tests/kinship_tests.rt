@@ -49,7 +49,7 @@ fn puts_two_arms<R: Abort>(rt: &R, alloc: Global, all: &mut Repository) -> bool 
 /// The operations of Bottom.
 const NAMES: &[&[u8]] = &[b"hear", b"left", b"right", b"low"];
 
-/// Behind both arms `interface Bottom : Left, Right { octet low(); };`
+/// After both arms `interface Bottom : Left, Right { octet low(); };`
 fn puts_diamond<R: Abort>(rt: &R, alloc: Global, all: &mut Repository) -> bool {
     puts_two_arms(rt, alloc, all)
         && puts(

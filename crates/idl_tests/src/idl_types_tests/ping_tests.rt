@@ -20,7 +20,7 @@ fn has_it_once(all: Repository) -> bool {
     }
 }
 
-/// Whether it is added behind one thing.
+/// Whether it is added after one thing.
 fn has_it_behind(all: Repository) -> bool {
     match all.with_ping() {
         Ok(all) => {

@@ -168,7 +168,7 @@ fn takes_as_many_leaves_and_levels_as_a_type_may_have(rt: HostRuntime) {
     assert!(rt; takes_sizes(&rt, rt.alloc()));
 }
 
-/// The name and the type of a member behind an octet x, and whether a struct and an exception of both are taken. A
+/// The name and the type of a member after an octet x, and whether a struct and an exception of both are taken. A
 /// struct is one level above its members, and an exception is none.
 const MEMBERS: &[(&[u8], Sample, bool, bool)] = &[
     (b"y", Sample::Octets(MOST - 1), true, true),

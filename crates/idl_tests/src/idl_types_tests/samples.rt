@@ -25,7 +25,7 @@ fn boxed<R: Abort>(rt: &R, alloc: Global, kind: IdlType) -> Box<IdlType> {
     }
 }
 
-/// Puts one thing more behind others.
+/// Puts one thing more after others.
 pub(crate) fn push<R: Abort, T: Drop>(rt: &R, list: &mut Vec<T>, item: T) {
     match list.push(item) {
         Ok(()) => {}

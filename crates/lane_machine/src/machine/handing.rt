@@ -45,7 +45,7 @@ impl Machine {
         }
     }
 
-    /// Tells a connection to close, if it was not told yet.
+    /// Tells a connection to close, if it was not given yet.
     fn tell(&mut self, conn: ConnId) -> Result<(LaneReply, LaneReply), NoMemory>
         ensures { Steps self.old (shut self.old conn (was_told self.old conn)) self.new result }
     {

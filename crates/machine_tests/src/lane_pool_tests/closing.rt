@@ -22,8 +22,8 @@ fn notice(conn: ConnId, id: u32) -> Notice
     }
 }
 
-/// Whether the reading side heard that the run is closing behind an answer that is owed, then what became of the next one,
-/// and whether it heard it behind that.
+/// Whether the reading side heard that the run is closing after an answer that is owed, then what became of the next one,
+/// and whether it heard it after that.
 #[tactic(auto, using(lane_pool::proofs::Turns::listens_on))]
 fn hear<R: Wait>(rt: &R, pool: &LanePool, reader: ReaderPass) -> Option<(bool, Posting, bool)>
     requires { Listens pool.now.cell reader }

@@ -100,7 +100,7 @@ fn is_due(conn: ConnId, slot: u8, nth: u32) -> bool {
     conn.slot == slot && u32::from(conn.nth) == nth && nth < 2
 }
 
-/// Whether the reading side of the slot was to make this call behind so many.
+/// Whether the reading side of the slot was to make this call after so many.
 fn is_next(call: &LaneCall, slot: u8, made: u32) -> bool {
     let nth = made / (CALLS + 1);
     let i = made % (CALLS + 1);

@@ -68,7 +68,7 @@ fn closed(cell: TurnCell<Register>, first: Seat<Register>) -> Option<([u32; 3], 
     }
 }
 
-/// What the first seat gets behind a join, and how the cell ended.
+/// What the first seat gets after a join, and how the cell ended.
 fn joined<R: Wait + Threads + Sync>(
     rt: &R,
     alloc: Global,

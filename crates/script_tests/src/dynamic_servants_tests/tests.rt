@@ -275,7 +275,7 @@ fn long_body(alloc: Global, piece: &Piece) -> Result<Vec<u8>, NoMemory> {
     Ok(body)
 }
 
-/// What stands before many bytes, how many these are, and what stands behind.
+/// What is before many bytes, how many these are, and what is after.
 type Piece = (&'static [u8], u32, &'static [u8]);
 
 /// Operations of the derived interface with a long body, and what is answered. A text of 65,536 bytes has 65,537 leaves.

@@ -56,7 +56,7 @@ pub fn text(alloc: Global, text: &str) -> Result<Text, NoMemory> {
     }
 }
 
-/// Puts an item behind the others.
+/// Puts an item after the others.
 pub fn put<T: Drop>(all: &mut Vec<T>, item: T) -> bool {
     all.push(item).is_ok()
 }

@@ -142,7 +142,7 @@ fn put_nested(text: &mut Vec<u8>, depth: usize) -> Result<(), NoMemory> {
     Ok(())
 }
 
-/// A script whose only expression stands in so many parentheses.
+/// A script whose only expression is in so many parentheses.
 fn nested(alloc: Global, depth: usize) -> Result<Vec<u8>, NoMemory> {
     let mut text = body(alloc, "return ")?;
     put_nested(&mut text, depth)?;

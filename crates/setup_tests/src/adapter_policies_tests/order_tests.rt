@@ -1,4 +1,4 @@
-//! Configurations with several faults: the first one in the order of the causes is told.
+//! Configurations with several faults: the first one in the order of the causes is given.
 
 use super::tests::all_refused;
 use adapter_policies::*;
@@ -86,7 +86,7 @@ const LINKS: &[(&str, ConfigCause, &str)] = &[
     ),
 ];
 
-/// Faults of priorities, lanes and the map, behind lanes 1 and 5, each with a fault that comes later beside it.
+/// Faults of priorities, lanes and the map, after lanes 1 and 5, each with a fault that comes later beside it.
 const LEVELS: &[(&str, ConfigCause, &str)] = &[
     (
         "adapter = [{ name = \"a\", model = \"CLIENT_PROPAGATED\", priority = 1 }, { name = \"b\", model = \"SERVER_DECLARED\", priority = 2 }]\nobject = [{ key = \"k\", adapter = \"b\", interface = \"i\", priority = 3 }, { key = \"l\", adapter = \"a\", interface = \"i\", priority = 5 }]",

@@ -106,7 +106,7 @@ const POOLS: &[(&str, ConfigCause, &str)] = &[
     ),
 ];
 
-/// Servers and maps that are refused, behind a pool.
+/// Servers and maps that are refused, after a pool.
 const HEADS: &[(&str, ConfigCause, &str)] = &[
     (
         "server = { slots = 2, per_slot = 65 }",

@@ -27,7 +27,7 @@ const NO_TOML: &[(&str, ConfigCause, &str)] = &[
     ("pool = { static = 1979-13-27 }", ConfigCause::NotToml, ""),
 ];
 
-/// Values of another kind than their key's, behind a pool and before an adapter and an object.
+/// Values of another kind than their key's, after a pool and before an adapter and an object.
 const KINDS: &[(&str, ConfigCause, &str)] = &[
     ("server = 1979-05-27", ConfigCause::WrongKind, "server"),
     (
@@ -101,11 +101,11 @@ fn a_byte_order_mark_is_passed_over(rt: HostRuntime) {
     assert!(rt; all_marked(rt.alloc()));
 }
 
-/// What stands before the objects.
+/// What is before the objects.
 const LISTED: &str =
     "pool = { static = 1, dynamic = 0, default_priority = 1 }\nadapter = [{ name = \"main\", model = \"CLIENT_PROPAGATED\", priority = 1 }]\nobject = [";
 
-/// Puts so many objects behind a text. Whether there was memory.
+/// Puts so many objects after a text. Whether there was memory.
 fn puts_objects(text: &mut String, count: u32) -> bool {
     for n in 0..count {
         let done = write!(

@@ -9,7 +9,7 @@ use Rattle.adapter_policies.proofs.publishing.show_bands.Goals as goal
 pub loop-band-preserved : goal.loop-band-preserved
 loop-band-preserved c = next_band c.args.bands.now c.loop-band.band-index c.band-item.result (omega arith) c.band-item.is c.show_band.ensures c.loop-band.invariant
 
--- behind the last one there is none
+-- after the last one there is none
 pub returns : goal.returns
 returns c =
     let none : drop c.loop-band.band-index c.args.bands.now ≡ [] = drop_all c.loop-band.band-index c.args.bands.now (omega arith) in

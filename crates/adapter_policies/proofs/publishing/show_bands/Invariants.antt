@@ -1,4 +1,4 @@
--- The bands before the index are bands: all are, where those behind it are.
+-- The bands before the index are bands: all are, where those after it are.
 use Rattle.std.proofs.Common.{drop}
 use Rattle.std.specs.List.{AllByRecursion}
 use Rattle.service_contexts.specs.Layout.{IsBand}

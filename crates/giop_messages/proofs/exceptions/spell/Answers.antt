@@ -1,4 +1,4 @@
--- The parts were put one behind the other into an empty writer.
+-- The parts were put one after the other into an empty writer.
 use Rattle.std.proofs.Common.{◌≡◌, ◌++◌, ◌∷◌, [], ap, ◌∙◌}
 use Rattle.std.specs.Int.{w32}
 use Rattle.cdr_core.specs.Field.{number, string_fields}

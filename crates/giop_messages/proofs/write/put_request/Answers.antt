@@ -10,7 +10,7 @@ use Rattle.giop_messages.specs.TargetView.{target_of}
 use Rattle.giop_messages.proofs.PutLaws.{room_first, room_between, text_fits}
 use Rattle.giop_messages.proofs.write.put_request.Goals as goal
 
--- the parts of a request, one behind the other
+-- the parts of a request, one after the other
 record Parts : Type 0 where
   pub head : List Field
   pub target : List Field

@@ -1,4 +1,4 @@
--- The lines of all operations stand behind the text.
+-- The lines of all operations are after the text.
 use Rattle.std.proofs.Common.{◌++◌, string_bytes, ap, ◌∙◌}
 use Rattle.idl_lines.proofs.Walks.{all_operations}
 use Rattle.idl_lines.proofs.lines.put_operations.Goals as goal

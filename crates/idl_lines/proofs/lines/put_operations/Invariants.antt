@@ -1,4 +1,4 @@
--- The lines of the operations so far stand behind the text.
+-- The lines of the operations so far are after the text.
 use Rattle.std.proofs.Common.{◌≡◌, ◌++◌, string_bytes, take}
 use Rattle.std.specs.List.{flat_map}
 use Rattle.idl_types.specs.Views.{operation_of}

@@ -1,4 +1,4 @@
--- The lines so far, and the listing of the things behind, are the whole listing.
+-- The lines so far, and the listing of the things after, are the whole listing.
 use Rattle.std.proofs.Common.{◌≡◌, ◌++◌, string_bytes, drop}
 use Rattle.idl_types.specs.Contents.{things_of}
 use Rattle.idl_lines.specs.Listing.{listing}

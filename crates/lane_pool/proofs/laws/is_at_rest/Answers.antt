@@ -1,4 +1,4 @@
--- The rule of the table, and the limits of the machine behind a legal history.
+-- The rule of the table, and the limits of the machine after a legal history.
 use Rattle.std.proofs.Common.{sym, subst}
 use Rattle.lane_pool.specs.Limits.{KeepsLimits}
 use Rattle.lane_pool.proofs.laws.is_at_rest.Goals as goal

@@ -1,4 +1,4 @@
--- The lines so far, and those of the objects behind, are all lines.
+-- The lines so far, and those of the objects after, are all lines.
 use Rattle.std.proofs.Common.{◌≡◌, ◌++◌, ◌≤◌, ◌-◌, length, drop}
 use Rattle.std.specs.List.{flat_map}
 use Rattle.object_lines.specs.Lines.{line_text, lines_text}

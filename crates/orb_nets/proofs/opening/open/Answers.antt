@@ -1,4 +1,4 @@
--- The next slot is the first behind those that are open.
+-- The next slot is the first after those that are open.
 use Rattle.std.proofs.Common.{◌≡◌, ◌+◌, [], ◌∷◌, ◌++◌, Some, take, drop, slice_index_or, ap, ◌∙◌, arith}
 use Rattle.orb_base.specs.MemLinks.{pairs}
 use Rattle.orb_nets.specs.MemNets.{slot_pairs}

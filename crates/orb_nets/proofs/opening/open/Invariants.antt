@@ -1,4 +1,4 @@
--- So many slots are open, those behind them are left, and there is room for all acceptors.
+-- So many slots are open, those after them are left, and there is room for all acceptors.
 use Rattle.std.proofs.Common.{◌≡◌, ◌≤◌, Some, drop}
 use Rattle.std.specs.Vec.{vec_capacity}
 use Rattle.orb_nets.specs.MemNets.{slot_pairs}

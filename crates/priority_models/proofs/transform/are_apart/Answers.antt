@@ -1,4 +1,4 @@
--- Each row is tested against those behind it.
+-- Each row is tested against those after it.
 use Rattle.std.proofs.Common.{sym, ap, ◌∙◌, arith, drop, length}
 use Rattle.std.proofs.lemmas.List.{drop_all}
 use Rattle.priority_models.proofs.Rows.{apart_goes, apart_of_none, apart_stops}
@@ -12,6 +12,6 @@ pub loop-at-preserved : goal.loop-at-preserved
 loop-at-preserved c =
     sym (apart_goes c.args.rows.now c.loop-at.at c.index-rows-at.result c.loop-at-test.true (sym c.meets_one.ensures ∙ c.if-meets_one.false)) ∙ c.loop-at.invariant
 
--- behind the last row there is none
+-- after the last row there is none
 pub returns : goal.returns
 returns c = sym (apart_of_none c.args.rows.now c.loop-at.at (omega arith)) ∙ c.loop-at.invariant
