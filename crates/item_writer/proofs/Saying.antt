@@ -23,3 +23,8 @@ failed_first a b o m x = (front_more a b o m x.0, x.1)
 
 pub says_start : (o : SinkState) → WritesAll Whole [] o o
 says_start o = (wrote_nothing o, refl)
+
+-- a head with the start of a body, and then what is left of the body
+pub whole_of_parts : (r : WriteAll) (head start rest body : List ℕ) (o n : SinkState) → body ≡ start ++ rest → WritesAll r ((head ++ start) ++ rest) o n → WritesAll r (head ++ body) o n
+whole_of_parts r head start rest body o n parts x =
+    subst (λ (z : List ℕ). WritesAll r z o n) (append_assoc head start rest ∙ ap (λ (z : List ℕ). head ++ z) (sym parts)) x

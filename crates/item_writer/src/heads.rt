@@ -20,6 +20,9 @@ pub const HEAD_LEN: usize = 128;
 /// The head of a message.
 pub type Head = ArrayVec<u8, HEAD_LEN>;
 
+/// Bytes of the first write of a message whose body doesn't fit into the head's bytes.
+const FIRST_LEN: usize = 4096;
+
 /// Appends bytes for which there is room.
 pub fn put(head: &mut Head, bytes: &[u8])
     requires { length head.old.items + length bytes.now ≤ 128 }
@@ -84,13 +87,36 @@ fn write_both<O: Sink>(sink: &mut O, head: &[u8], body: &[u8]) -> WriteAll
     }
 }
 
-/// Writes a head and the body after it, at once where both fit into the head's bytes.
+/// A head and the start of a body.
+fn first_of(head: &[u8], start: &[u8]) -> ArrayVec<u8, FIRST_LEN>
+    requires { length head.now + length start.now ≤ 4096 }
+    ensures { result.items ≡ head.now ++ start.now }
+{
+    let mut first = ArrayVec::new();
+    match (first.try_extend_from_slice(head), first.try_extend_from_slice(start)) {
+        (Ok(()), Ok(())) => first,
+        _ => unreachable!(),
+    }
+}
+
+/// Writes a head with as much of the body as one write has room for, and then what is left of the body from where it lies.
+#[tactic(auto, using(crate::proofs::Saying::whole_of_parts))]
+fn write_long<O: Sink>(sink: &mut O, head: &Head, body: &[u8]) -> WriteAll
+    ensures { WritesAll result (head.now.items ++ body.now) (O.state sink.old) (O.state sink.new) }
+{
+    let room = FIRST_LEN - head.len();
+    let (start, rest) = body.split_at(body.len().min(room));
+    let first = first_of(head.as_slice(), start);
+    write_both(sink, first.as_slice(), rest)
+}
+
+/// Writes a head and the body after it: at once where both fit into the head's bytes, and else as `write_long` does.
 pub fn write_message<O: Sink>(sink: &mut O, head: Head, body: &[u8]) -> WriteAll
     ensures { WritesAll result (head.items ++ body.now) (O.state sink.old) (O.state sink.new) }
 {
     let mut whole = head;
     match whole.try_extend_from_slice(body) {
         Ok(()) => write_all(sink, whole.as_slice()),
-        Err(_) => write_both(sink, whole.as_slice(), body),
+        Err(_) => write_long(sink, &whole, body),
     }
 }

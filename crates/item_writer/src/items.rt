@@ -97,8 +97,8 @@ fn write_notice<O: Sink>(sink: &mut O, notice: &Notice) -> WriteAll
     }
 }
 
-/// Writes an item. Takes no memory: its head is in 128 bytes of its own, and the body is written from the answer, with the head in one
-/// write where both fit in there.
+/// Writes an item. Takes no memory: its head is in 128 bytes of its own, and a body that fits in there goes out with it. Else the first
+/// write has the head and as much of the body as 4,096 bytes hold, and what is left is written from the answer.
 pub fn write_item<O: Sink>(sink: &mut O, item: &Item) -> WriteAll
     requires { IsShort item.now }
     ensures { WritesAll result (item_bytes item.now) (O.state sink.old) (O.state sink.new) }

@@ -1,5 +1,6 @@
-//! The writing of what a connection is owed: each item as the message that it is. Takes no memory: a head
-//! is in 128 bytes of its own, and a body is written from where it lies, at once with the head where both fit in there.
+//! The writing of what a connection is owed: each item as the message that it is. Takes no memory: a head is in 128 bytes of its
+//! own, with the body where it fits in there. Else 4,096 bytes have the head and the start of the body, and the rest is written from
+//! where it lies.
 //! CORBA 3.0.3, section 15.4.
 #![tactic(auto)]
 
