@@ -1,38 +1,45 @@
 //! What one message means.
 ghost use Rattle.std.specs.Prelude.{◌≡◌, IfOk};
 ghost use Rattle.giop_messages.specs.MessageReading.{IsMessage};
-ghost use Rattle.giop_messages.specs.TargetView.{target_of};
+ghost use Rattle.giop_messages.specs.PartsView.{parts_target};
+ghost use Rattle.request_judge.specs.Requests.{request_of};
 ghost use Rattle.heard_calls.specs.Meaning as Spec;
 ghost use Rattle.heard_calls.specs.declared.means.Means.TheVariants.{Goes};
 
 use crate::means::Means;
 use adapter_policies::Setup;
 use giop_frames::Whole;
-use giop_messages::{Fault, Locate, Message, Request, Target, read_message};
+use giop_messages::{Fault, PartTarget, Parts, read_parts};
 use lane_machine::LaneCall;
 use orb_base::{Band, ConnId, NoMemory, Notice, Order, What};
-use request_judge::{Refusal, Verdict, call_of, judge, served_at};
+use request_judge::{Asked, Refusal, Verdict, call_of, judge, served_at};
 use std::alloc::Global;
 
 /// Whether a target is the key of an object that an adapter serves.
-fn is_here(setup: &Setup, target: &Target) -> bool
-    ensures { result ≡ Spec.is_here setup.now (target_of target.now) }
+fn is_here(setup: &Setup, target: &PartTarget<'_>) -> bool
+    ensures { result ≡ Spec.is_here setup.now (parts_target target.now) }
 {
     match target {
-        Target::Key(key) => served_at(setup, key.as_slice()).is_some(),
-        Target::Profile(_) | Target::Addressing { .. } => false,
+        PartTarget::Key(key) => served_at(setup, key).is_some(),
+        PartTarget::Profile { .. } | PartTarget::Addressing { .. } => false,
     }
 }
 
-/// The answer to a question where an object is.
-fn located(setup: &Setup, conn: ConnId, order: Order, asked: &Locate) -> LaneCall
-    ensures { result ≡ Spec.where_is setup.now conn order asked.now }
+/// The answer to a question of this id where an object is.
+fn located(
+    setup: &Setup,
+    conn: ConnId,
+    order: Order,
+    id: u32,
+    target: &PartTarget<'_>,
+) -> LaneCall
+    ensures { result ≡ Spec.where_is setup.now conn order (record { id = id; target = parts_target target.now }) }
 {
     LaneCall::Post(Notice {
         conn,
         order,
-        id: asked.id,
-        what: What::Located(is_here(setup, &asked.target)),
+        id,
+        what: What::Located(is_here(setup, target)),
     })
 }
 
@@ -68,19 +75,19 @@ fn requested(
     serial: u32,
     order: Order,
     size: u32,
-    request: Request,
+    request: &Asked<'_>,
 ) -> Result<Means, NoMemory>
-    ensures { IfOk result (Spec.MeansRequest setup.now conn band serial order size request) }
+    ensures { IfOk result (Spec.MeansRequest setup.now conn band serial order size (request_of request.now)) }
 {
     let bound = band;
-    let verdict = judge(setup, band, &request);
+    let verdict = judge(setup, band, request);
     let again = verdict;
     let call = call_of(alloc, conn, serial, order, size, request, verdict)?;
     Ok(going(again, bound, call))
 }
 
 /// What a message means to a server of a setup, by the band that its connection has bound and by the number of the calls before
-/// it. The work per byte is constant, but for what `judge` takes for a request.
+/// it. The work per byte is constant, but for what `judge` takes for a request. Memory is taken for a request that runs alone.
 pub fn meaning_of(
     alloc: Global,
     setup: &Setup,
@@ -92,25 +99,41 @@ pub fn meaning_of(
     requires { IsMessage whole.now }
     ensures { IfOk result (Spec.IsMeant setup.now conn band serial whole.now) }
 {
-    match read_message(alloc, whole) {
-        Ok(Message::Request(request)) => {
+    match read_parts(whole) {
+        Ok(Parts::Request {
+            id,
+            flags,
+            target,
+            operation,
+            contexts,
+            body,
+        }) => {
             let size = whole.bytes.len() as u32;
-            requested(alloc, setup, conn, band, serial, whole.order, size, request)
+            let request = Asked {
+                id,
+                flags,
+                target,
+                operation,
+                contexts,
+                body,
+            };
+            requested(alloc, setup, conn, band, serial, whole.order, size, &request)
         }
-        Ok(Message::Cancel(id)) => Ok(Means::Goes {
+        Ok(Parts::Cancel(id)) => Ok(Means::Goes {
             band,
             call: Some(LaneCall::Cancel { conn, id }),
         }),
-        Ok(Message::Locate(asked)) => Ok(Means::Goes {
+        Ok(Parts::Locate { id, target }) => Ok(Means::Goes {
             band,
-            call: Some(located(setup, conn, whole.order, &asked)),
+            call: Some(located(setup, conn, whole.order, id, &target)),
         }),
-        Ok(Message::Reply(_)) => Ok(Means::Breaks(Fault::WrongWay)),
-        Ok(Message::Located(_)) => Ok(Means::Breaks(Fault::WrongWay)),
-        Ok(Message::Close) => Ok(Means::Ends),
-        Ok(Message::Error) => Ok(Means::Ends),
+        Ok(Parts::Reply { .. }) => Ok(Means::Breaks(Fault::WrongWay)),
+        Ok(Parts::Located { .. }) => Ok(Means::Breaks(Fault::WrongWay)),
+        Ok(Parts::Close) => Ok(Means::Ends),
+        Ok(Parts::Error) => Ok(Means::Ends),
         Err(fault) => match fault.cause() {
             Some(cause) => Ok(Means::Breaks(cause)),
+            // Reading in parts takes no memory.
             None => Err(NoMemory),
         },
     }

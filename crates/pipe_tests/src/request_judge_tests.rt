@@ -1,11 +1,16 @@
 //! Requests by hand: Real-time CORBA 1.2, Priority models and Priority banded connections.
 
+ghost use Rattle.std.specs.Prelude.{IfSome};
+ghost use Rattle.orb_base.specs.NulFree.{HasNoNul};
+ghost use Rattle.cdr_core.specs.Lists.{IsAtList, context_of};
+
 use adapter_policies::{Setup, read_setup};
-use giop_messages::{Request, Target};
+use cdr_core::{Reader, Writer, pass_list};
+use giop_messages::PartTarget;
 use lane_machine::LaneCall;
 use orb_base::{
-    Band, Completed, ConnId, Context, Due, Job, List, Notice, Octets, Order, Priority, SysName,
-    Tagged, Text, What,
+    Band, Completed, ConnId, Due, Job, NoMemory, Notice, Octets, Order, Priority, SysName, Text,
+    What,
 };
 use request_judge::*;
 use std::alloc::Global;
@@ -43,71 +48,59 @@ const CURRENT: &[u8] = b"current";
 
 const BIND: &[u8] = b"_bind_priority_band";
 
-fn octets(alloc: Global, bytes: &[u8]) -> Option<Octets> {
-    match Vec::from_slice(alloc, bytes) {
-        Ok(bytes) => Some(Octets::from_vec(bytes)),
+/// Puts a list of this context, or of none.
+fn put_contexts(out: &mut Writer, context: Option<(u32, &[u8])>) -> Result<(), NoMemory> {
+    match context {
+        Some((id, bytes)) => {
+            out.put_u32(1)?;
+            out.put_u32(id)?;
+            // No row has more than 8 octets.
+            out.put_octets(&bytes[..bytes.len().min(8)])
+        }
+        None => out.put_u32(0),
+    }
+}
+
+/// The list of this context, or of none, as it is spelled in the big order.
+fn contexts(alloc: Global, context: Option<(u32, &[u8])>) -> Option<Octets> {
+    let mut out = Writer::new(alloc, Order::Big, 0);
+    match put_contexts(&mut out, context) {
+        Ok(()) => Some(out.finish()),
         Err(_) => None,
     }
 }
 
-fn key(alloc: Global, bytes: &[u8]) -> Option<Target> {
-    match octets(alloc, bytes) {
-        Some(bytes) => Some(Target::Key(bytes)),
-        None => None,
-    }
-}
-
-/// The list of one context.
-fn one_context(alloc: Global, id: u32, bytes: Octets) -> Option<List<Context>> {
-    let mut list = List::new(alloc);
-    match list.push(Context { id, bytes }) {
+/// A reader at the list of these bytes, if they are one.
+#[tactic(auto, using(cdr_core::proofs::CallerLemmas::passed_list))]
+fn at_contexts(bytes: &[u8]) -> Option<Reader<'_>>
+    ensures { IfSome result (λ list. IsAtList context_of list) }
+{
+    let list = Reader::new(Order::Big, 0, bytes);
+    let mut copy = list.copy();
+    match pass_list(&mut copy) {
         Ok(()) => Some(list),
         Err(_) => None,
     }
 }
 
-fn contexts(alloc: Global, context: Option<(u32, &[u8])>) -> Option<List<Context>> {
-    match context {
-        Some((id, bytes)) => match octets(alloc, bytes) {
-            Some(bytes) => one_context(alloc, id, bytes),
-            None => None,
-        },
-        None => Some(List::new(alloc)),
-    }
-}
-
-/// A request of id 7, without a body.
-fn request(
-    alloc: Global,
+/// A request of a target, of id 7, without a body.
+fn request<'a>(
     flags: u8,
-    target: Target,
-    operation: &[u8],
-    contexts: List<Context>,
-) -> Option<Request> {
-    match Text::new(alloc, operation) {
-        Ok(operation) => Some(Request {
-            id: 7,
-            flags,
-            target,
-            operation,
-            contexts,
-            body: List::new(alloc),
-        }),
-        Err(_) => None,
+    target: PartTarget<'a>,
+    operation: &'a [u8],
+    contexts: Reader<'a>,
+) -> Asked<'a>
+    requires plain { HasNoNul operation.now }
+    requires listed { IsAtList context_of contexts }
+{
+    Asked {
+        id: 7,
+        flags,
+        target,
+        operation,
+        contexts,
+        body: &[],
     }
-}
-
-/// A request of a key, of id 7, without a body.
-fn asked(
-    alloc: Global,
-    flags: u8,
-    at: &[u8],
-    operation: &[u8],
-    context: Option<(u32, &[u8])>,
-) -> Option<Request> {
-    let target = key(alloc, at)?;
-    let contexts = contexts(alloc, context)?;
-    request(alloc, flags, target, operation, contexts)
 }
 
 fn band(low: i16, high: i16) -> Option<Band> {
@@ -153,7 +146,7 @@ fn is_shape(judged: Result<Verdict, Refusal>, want: Shape) -> bool {
 }
 
 /// Whether a request comes to this where a band of these ends is bound.
-fn comes_to(setup: &Setup, bound: Option<(i16, i16)>, request: &Request, want: Shape) -> bool {
+fn comes_to(setup: &Setup, bound: Option<(i16, i16)>, request: &Asked<'_>, want: Shape) -> bool {
     match bound {
         None => is_shape(judge(setup, None, request), want),
         Some((low, high)) => match band(low, high) {
@@ -163,11 +156,22 @@ fn comes_to(setup: &Setup, bound: Option<(i16, i16)>, request: &Request, want: S
     }
 }
 
-fn holds(alloc: Global, setup: &Setup, row: &Row) -> bool {
-    let (bound, key, operation, context, want) = *row;
-    match asked(alloc, 3, key, operation, context) {
-        Some(request) => comes_to(setup, bound, &request, want),
+/// Whether a request of these parts comes to this.
+fn asks(setup: &Setup, row: &Row, operation: &Text, contexts: &[u8]) -> bool {
+    let (bound, key, _, _, want) = *row;
+    match at_contexts(contexts) {
+        Some(list) => {
+            let request = request(3, PartTarget::Key(key), operation.as_slice(), list);
+            comes_to(setup, bound, &request, want)
+        }
         None => false,
+    }
+}
+
+fn holds(alloc: Global, setup: &Setup, row: &Row) -> bool {
+    match (Text::new(alloc, row.2), contexts(alloc, row.3)) {
+        (Ok(operation), Some(contexts)) => asks(setup, row, &operation, contexts.as_slice()),
+        _ => false,
     }
 }
 
@@ -404,20 +408,25 @@ fn a_transform_maps_what_a_client_sends(rt: HostRuntime) {
     assert!(rt; all_hold(rt.alloc(), TRANSFORMED, BINDING_TRANSFORMED));
 }
 
-/// A bind whose other context sends a priority that no row holds.
-fn bind_with_a_priority(alloc: Global) -> Option<Request> {
-    let target = key(alloc, b"ping")?;
-    let mut list = one_context(alloc, 10, octets(alloc, b"\0\0\0\x65")?)?;
-    let bytes = octets(alloc, b"\0\0\0\x14\0\x1e")?;
-    if list.push(Context { id: 11, bytes }).is_err() {
-        return None;
+/// The contexts of a bind of 20 to 30 that also sends the priority 101, which no row holds.
+const BIND_AND_PRIORITY: &[u8] = &[
+    0, 0, 0, 2, 0, 0, 0, 10, 0, 0, 0, 4, 0, 0, 0, 101, 0, 0, 0, 11, 0, 0, 0, 6, 0, 0, 0, 20, 0, 30,
+];
+
+/// Whether a bind of these contexts comes to this.
+fn binds(setup: &Setup, operation: &Text, want: Shape) -> bool {
+    match at_contexts(BIND_AND_PRIORITY) {
+        Some(list) => {
+            let request = request(3, PartTarget::Key(b"ping"), operation.as_slice(), list);
+            comes_to(setup, None, &request, want)
+        }
+        None => false,
     }
-    request(alloc, 3, target, BIND, list)
 }
 
 fn binds_whatever_is_sent(alloc: Global) -> bool {
-    match (read_setup(alloc, TRANSFORMED), bind_with_a_priority(alloc)) {
-        (Ok(setup), Some(request)) => comes_to(&setup, None, &request, Shape::Binds(20, 30)),
+    match (read_setup(alloc, TRANSFORMED), Text::new(alloc, BIND)) {
+        (Ok(setup), Ok(operation)) => binds(&setup, &operation, Shape::Binds(20, 30)),
         _ => false,
     }
 }
@@ -509,7 +518,12 @@ fn verdict(shape: Shape) -> Option<Result<Verdict, Refusal>> {
 }
 
 /// Whether a request means this by a verdict, as call 4 of its connection, in a message of 48 bytes.
-fn means(alloc: Global, request: Request, verdict: Result<Verdict, Refusal>, want: Said) -> bool {
+fn means(
+    alloc: Global,
+    request: &Asked<'_>,
+    verdict: Result<Verdict, Refusal>,
+    want: Said,
+) -> bool {
     let conn = ConnId { slot: 0, nth: 0 };
     match call_of(alloc, conn, 4, Order::Big, 48, request, verdict) {
         Ok(Some(call)) => says(&call, want),
@@ -544,9 +558,12 @@ fn is_meant(alloc: Global, flags: u8, shape: Shape, want: Said) -> bool {
     let Some(verdict) = verdict(shape) else {
         return false;
     };
-    match asked(alloc, flags, b"ping", CURRENT, None) {
-        Some(request) => means(alloc, request, verdict, want),
-        None => false,
+    match (Text::new(alloc, CURRENT), at_contexts(&[0, 0, 0, 0])) {
+        (Ok(operation), Some(list)) => {
+            let request = request(flags, PartTarget::Key(b"ping"), operation.as_slice(), list);
+            means(alloc, &request, verdict, want)
+        }
+        _ => false,
     }
 }
 
@@ -598,22 +615,18 @@ fn each_refusal_has_its_exception(rt: HostRuntime) {
     assert!(rt; all_are_told());
 }
 
-/// Whether a request of this target is refused, since that is no key.
-fn refuses(alloc: Global, setup: &Setup, target: Target, contexts: List<Context>) -> bool {
-    match request(alloc, 3, target, CURRENT, contexts) {
-        Some(asked) => is_shape(judge(setup, None, &asked), Shape::Refused(Refusal::NoKey)),
-        None => false,
-    }
-}
+/// A priority without a reading.
+const NO_PRIORITY: &[u8] = &[0, 0, 0, 1, 0, 0, 0, 10, 0, 0, 0, 0];
 
+/// Whether a request by a profile is refused, since that is no key.
 fn refuses_a_profile(alloc: Global, setup: &Setup) -> bool {
-    match contexts(alloc, Some((10, b""))) {
-        Some(contexts) => {
-            let bytes = List::new(alloc);
-            let target = Target::Profile(Tagged { tag: 0, bytes });
-            refuses(alloc, setup, target, contexts)
+    let target = PartTarget::Profile { tag: 0, bytes: &[] };
+    match (Text::new(alloc, CURRENT), at_contexts(NO_PRIORITY)) {
+        (Ok(operation), Some(list)) => {
+            let request = request(3, target, operation.as_slice(), list);
+            is_shape(judge(setup, None, &request), Shape::Refused(Refusal::NoKey))
         }
-        None => false,
+        _ => false,
     }
 }
 

@@ -1,4 +1,5 @@
 pub mod Served
+pub mod Requests
 pub mod Answers
 pub mod Judging
 pub mod Calls

@@ -1,31 +1,33 @@
 //! The judgement of a request.
 ghost use Rattle.std.specs.Prelude.{◌≡◌, ◌↔◌, IsTrue};
 ghost use Rattle.request_judge.specs.Judging as Spec;
+ghost use Rattle.request_judge.specs.Requests.{request_of};
 
 use crate::refusal::Refusal;
+use crate::request::Asked;
 use crate::served::{Served, served_at};
 use crate::verdict::{Place, Verdict};
 use adapter_policies::Setup;
 use banded_links::{BindAnswer, BindServer};
-use giop_messages::{Request, Target};
+use giop_messages::PartTarget;
 use orb_base::{Band, PoolSpec, Priority};
 use priority_models::{Misplaced, mandated, placed};
-use service_contexts::{Contexts, contexts_of};
+use service_contexts::{Contexts, contexts_at};
 
 /// The operation by which a client binds a band (Real-time CORBA 1.2, Priority banded connections).
 pub const BIND_OPERATION: &[u8] = b"_bind_priority_band";
 
 /// The object of a request, and what its contexts tell.
-fn asked<'a>(setup: &'a Setup, request: &Request) -> Result<(Served<'a>, Contexts), Refusal>
-    ensures { Spec.Asks setup.now request.now result }
+fn asked<'a>(setup: &'a Setup, request: &Asked<'_>) -> Result<(Served<'a>, Contexts), Refusal>
+    ensures { Spec.Asks setup.now (request_of request.now) result }
 {
-    let Target::Key(key) = &request.target else {
+    let PartTarget::Key(key) = &request.target else {
         return Err(Refusal::NoKey);
     };
-    let Ok(told) = contexts_of(&request.contexts) else {
+    let Ok(told) = contexts_at(request.contexts.copy()) else {
         return Err(Refusal::BadContext);
     };
-    match served_at(setup, key.as_slice()) {
+    match served_at(setup, key) {
         Some(served) => Ok((served, told)),
         None => Err(Refusal::UnknownObject),
     }
@@ -62,10 +64,10 @@ fn lane_for(setup: &Setup, band: Option<Band>, p: Priority) -> Result<u8, Refusa
 }
 
 /// Whether the request binds a band.
-fn is_bind(request: &Request) -> bool
-    ensures { IsTrue result ↔ Spec.IsBind request.now }
+fn is_bind(request: &Asked<'_>) -> bool
+    ensures { IsTrue result ↔ Spec.IsBind (request_of request.now) }
 {
-    request.operation.as_slice() == BIND_OPERATION
+    request.operation == BIND_OPERATION
 }
 
 /// Where a request runs that binds no band.
@@ -93,8 +95,8 @@ fn run(
 /// runs, the band that it binds, or why it is refused. Takes no memory. The work is one pass over the contexts, over the rows of
 /// the adapter's transform, of which there are at most 32, and over the lanes, of which there are at most 16, one look-up by the
 /// key's hash, and that of the map.
-pub fn judge(setup: &Setup, band: Option<Band>, request: &Request) -> Result<Verdict, Refusal>
-    ensures { Spec.Judges setup.now band request.now result }
+pub fn judge(setup: &Setup, band: Option<Band>, request: &Asked<'_>) -> Result<Verdict, Refusal>
+    ensures { Spec.Judges setup.now band (request_of request.now) result }
 {
     let (served, told) = asked(setup, request)?;
     if is_bind(request) {

@@ -10,6 +10,7 @@ mod calls;
 mod judging;
 mod laws;
 mod refusal;
+mod request;
 mod served;
 mod verdict;
 
@@ -17,5 +18,6 @@ pub use calls::call_of;
 pub use judging::{BIND_OPERATION, judge};
 pub use laws::requests_are_judged_one_way;
 pub use refusal::Refusal;
+pub use request::Asked;
 pub use served::{Served, served_at};
 pub use verdict::{Place, Verdict};
