@@ -2,12 +2,13 @@
 use Rattle.std.proofs.Common.{◌≡◌, ◌⊎◌, ℕ, zero, suc, ◌+◌, ◌<◌, Bool, true, false, not, List, [], ◌∷◌, ◌++◌, length, Option, Some, None, Result, Ok, Err, refl, sym, ap, subst, ◌∙◌, append_assoc, length-append, inl, inr, arith}
 use Rattle.std.proofs.lemmas.Bool.{or_parts, and_parts, not-true}
 use Rattle.std.specs.Prelude.{◌||◌, ◌&&◌}
-use Rattle.grammar.specs.Rules.{Rule, one, does, ◌then◌, ◌or◌, maybe, many, chained, nested}
+use Rattle.grammar.specs.Rules.{Rule, one, does, ◌then◌, ◌or◌, maybe, many, chained, nested, turn}
 use Rattle.grammar.specs.Language.{Placed, Language, RuleOf}
 use Rattle.grammar.specs.Reading.{Stream, stream, State, Reads, Readers, ◌>>=◌, front, first_or, behind, stop, acted, take_one, may_be_empty, begins, repeated, bracketed, by_rule, read_inner, read_rule}
 use Rattle.grammar.specs.Grammar.{Mark, took, did, MarkOf, Parts, Spelled, SpelledInner, tokens_of, Goes, acts_then, acts}
 use Rattle.grammar.specs.Plain.{goes_on, some_first, some_next, is_plain, IsPlain}
 use Rattle.grammar.proofs.Basics.{false_unless, ok_is, before, before_append, acts_one, acts_split}
+use Rattle.grammar.proofs.Chained.{empty_turn, next_turn, never_next, goes_chain}
 use Rattle.grammar.proofs.First.{first_has, next_has, Opens, opens}
 
 not_both : (g : Language) → IsPlain g → (such : g.Kind → Bool) (r : RuleOf g) (kind : g.Kind) → not (some_first g such r) ≡ true → such kind ≡ true → begins g r kind ≡ false
@@ -133,19 +134,26 @@ does_complete g inner spelled l ms h b c e s t goes over =
     let same : s ≡ t = goes ∙ ap (λ z. before z t) h in
     rw (judged, same) refl
 
+all_so : (a b c d : Bool) → a ≡ true → b ≡ true → c ≡ true → d ≡ true → (a && b && (c && d && true)) ≡ true
+all_so a b c d e f h k = rw (e, f, h, k) refl
+
 -- what makes a chain plain
 pub plain_long : (g : Language) (a o : RuleOf g) (l : g.Label) → is_plain g (chained a o l) ≡ true
-    → (not (some_next g (begins g (many (o then (a then does l)))) a) ≡ true) × (may_be_empty g (o then (a then does l)) ≡ false) × (not (some_next g (begins g (o then (a then does l))) (o then (a then does l))) ≡ true) × (is_plain g (o then (a then does l)) ≡ true) × (is_plain g a ≡ true)
+    → (not (some_next g (begins g (many (turn a o l))) a) ≡ true) × (may_be_empty g (turn a o l) ≡ false) × (not (some_next g (begins g (turn a o l)) (turn a o l)) ≡ true) × (is_plain g (turn a o l) ≡ true) × (is_plain g a ≡ true)
 plain_long g a o l plain =
-    let turn = o then (a then does l) in
-    let n = not (some_next g (begins g (many turn)) a) in
-    let one = and_parts (n && is_plain g a) (is_plain g (many turn)) plain in
-    let two = and_parts n (is_plain g a) one.0 in
-    let e = not (may_be_empty g turn) in
-    let m = not (some_next g (begins g turn) turn) in
-    let three = and_parts (e && m) (is_plain g turn) one.1 in
-    let four = and_parts e m three.0 in
-    (two.0, not-true (may_be_empty g turn) four.0, four.1, three.1, two.1)
+    let full = not (may_be_empty g o && may_be_empty g a) in
+    let second = not (some_next g (begins g (a then does l)) o) in
+    let on = not (some_next g (begins g (turn a o l)) a) in
+    let far = not (may_be_empty g a && some_next g (begins g (turn a o l)) o) in
+    let p = is_plain g a in
+    let q = is_plain g o in
+    let five = and_parts (p && q && full && second && on) far plain in
+    let four = and_parts (p && q && full && second) on five.0 in
+    let three = and_parts (p && q && full) second four.0 in
+    let two = and_parts (p && q) full three.0 in
+    let one = and_parts p q two.0 in
+    let last : not (some_next g (begins g (does l)) a) ≡ true = ap not (never_next g a) in
+    (four.1, empty_turn (may_be_empty g o) (may_be_empty g a) two.1, next_turn (may_be_empty g a) (some_next g (begins g (turn a o l)) a) (some_next g (begins g (turn a o l)) o) four.1 five.1, all_so second q (not (some_next g (begins g (does l)) a)) p three.1 one.1 last one.0, one.0)
 
 pub plain_turn : (g : Language) (a o : RuleOf g) (l : g.Label) → is_plain g (o then (a then does l)) ≡ true → (not (some_next g (begins g (a then does l)) o) ≡ true) × (is_plain g o ≡ true) × (not (some_next g (begins g (does l)) a) ≡ true)
 plain_turn g a o l plain =
@@ -205,7 +213,8 @@ by_rule_complete g p inner spelled f (chained x o l) plain ms h b c e s t goes o
     let of_o = by_rule_complete g p inner spelled f o r.1 in
     let of_turn : CompleteRule g inner spelled turn = then_complete g p inner spelled o (x then does l) r.0 of_o (then_complete g p inner spelled x (does l) r.2 of_x (does_complete g inner spelled l)) in
     then_complete g p inner spelled x (many turn) q.0 of_x
-    (λ ns k b' c' e' s' t' goes' over'. repeated_complete g p spelled turn (by_rule g inner turn) of_turn q.1 q.2 (length s'.tokens + 1) k.0 ns k.1 b' c' e' s' t' goes' over' (omega arith)) ms h b c e s t goes over
+    (λ ns k b' c' e' s' t' goes' over'. repeated_complete g p spelled turn (by_rule g inner turn) of_turn q.1 q.2 (length s'.tokens + 1) k.0 ns k.1 b' c' e' s' t' goes' over' (omega arith)) ms h b c e s t goes
+    (sym (goes_chain g x o l (front t).kind) ∙ over)
 by_rule_complete g p inner spelled f (nested k o r c l) plain ms h a b e s t goes over = bracketed_complete g p inner spelled f k o r c l (not-true (goes_on g (g.inside r) c) plain) ms h a b e s t goes over
 
 inner_complete : (g : Language) → IsPlain g → (depth : ℕ) → CompleteInner g (read_inner g depth) (SpelledInner g depth)

@@ -7,6 +7,7 @@ use Rattle.grammar.specs.Language.{Placed, Language, RuleOf}
 use Rattle.grammar.specs.Reading.{may_be_empty, begins}
 use Rattle.grammar.specs.Grammar.{Mark, took, did, MarkOf, Parts, Spelled, tokens_of}
 use Rattle.grammar.specs.Plain.{goes_on, some_first, some_next, is_plain, IsPlain}
+use Rattle.grammar.proofs.Chained.{first_chain, next_chain, goes_chain}
 use Rattle.grammar.proofs.Basics.{or_true, tokens_append}
 
 or_left : (a b : Bool) → a ≡ true → (a || b) ≡ true
@@ -62,7 +63,8 @@ first_has g is such (x or y) kind b h =
     ]
 first_has g is such (maybe x) kind b h = first_has g is such x kind b h
 first_has g is such (many x) kind b h = first_has g is such x kind b h
-first_has g is such (chained a o l) kind b h = then_first g such a (many (o then (a then does l))) (first_has g is such a) (turn_first g such a o l (first_has g is such a) (first_has g is such o)) kind b h
+first_has g is such (chained a o l) kind b h =
+    first_chain g such a o l ∙ then_first g such a (many (o then (a then does l))) (first_has g is such a) (turn_first g such a o l (first_has g is such a) (first_has g is such o)) kind b h
 first_has g is such (nested k o r c l) kind b h = such_at g is such kind k b h
 
 abbrev HasNext : (g : Language) → (g.Kind → Bool) → RuleOf g → Type 0
@@ -116,8 +118,8 @@ next_has g is such (many x) kind b h =
       | inr e ↦ or_right (some_first g such x) (some_next g such x) (next_has g is such x kind e h)
     ]
 next_has g is such (chained a o l) kind b h =
-    then_next g such a (many (o then (a then does l))) (next_has g is such a)
-    (many_next g such (o then (a then does l)) (turn_first g such a o l (first_has g is such a) (first_has g is such o)) (turn_next g such a o l (next_has g is such a) (next_has g is such o))) kind b h
+    next_chain g such a o l ∙ then_next g such a (many (o then (a then does l))) (next_has g is such a)
+    (many_next g such (o then (a then does l)) (turn_first g such a o l (first_has g is such a) (first_has g is such o)) (turn_next g such a o l (next_has g is such a) (next_has g is such o))) kind (sym (goes_chain g a o l kind) ∙ b) h
 next_has g is such (nested k o r c l) kind b h = absurd cc
 
 -- no tokens and the rule may be empty, or the first of them begins it

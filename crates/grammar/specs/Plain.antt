@@ -1,6 +1,6 @@
 -- Whether the choices of a grammar are told apart by one token.
 use Rattle.std.specs.Prelude.{◌≡◌, ◌||◌, ◌&&◌, Bool, true, false, not}
-use Rattle.grammar.specs.Rules.{Rule, one, does, ◌then◌, ◌or◌, maybe, many, chained, nested}
+use Rattle.grammar.specs.Rules.{Rule, one, does, ◌then◌, ◌or◌, maybe, many, chained, nested, turn}
 use Rattle.grammar.specs.Language.{Language, RuleOf}
 use Rattle.grammar.specs.Reading.{may_be_empty, begins}
 
@@ -12,7 +12,8 @@ goes_on g (a then b) kind = (may_be_empty g b && goes_on g a kind) || goes_on g 
 goes_on g (a or b) kind = goes_on g a kind || goes_on g b kind
 goes_on g (maybe a) kind = begins g a kind || goes_on g a kind
 goes_on g (many a) kind = begins g a kind || goes_on g a kind
-goes_on g (chained a o l) kind = (true && goes_on g a kind) || (((may_be_empty g o && ((may_be_empty g a && false) || begins g a kind)) || begins g o kind) || (((may_be_empty g a && true) && goes_on g o kind) || ((true && goes_on g a kind) || false)))
+-- after a chain what goes on after its first, a further turn, and where the first may be empty what goes on after the second
+goes_on g (chained a o l) kind = goes_on g a kind || (begins g (turn a o l) kind || (may_be_empty g a && goes_on g o kind))
 goes_on g (nested k o r c l) kind = false
 
 -- whether some kind that begins the rule is such
@@ -23,7 +24,7 @@ some_first g such (a then b) = (may_be_empty g a && some_first g such b) || some
 some_first g such (a or b) = some_first g such a || some_first g such b
 some_first g such (maybe a) = some_first g such a
 some_first g such (many a) = some_first g such a
-some_first g such (chained a o l) = (may_be_empty g a && ((may_be_empty g o && ((may_be_empty g a && false) || some_first g such a)) || some_first g such o)) || some_first g such a
+some_first g such (chained a o l) = some_first g such a || (may_be_empty g a && some_first g such o)
 some_first g such (nested k o r c l) = such k
 
 -- whether some kind that goes on after the rule is such
@@ -34,7 +35,8 @@ some_next g such (a then b) = (may_be_empty g b && some_next g such a) || some_n
 some_next g such (a or b) = some_next g such a || some_next g such b
 some_next g such (maybe a) = some_first g such a || some_next g such a
 some_next g such (many a) = some_first g such a || some_next g such a
-some_next g such (chained a o l) = (true && some_next g such a) || (((may_be_empty g o && ((may_be_empty g a && false) || some_first g such a)) || some_first g such o) || (((may_be_empty g a && true) && some_next g such o) || ((true && some_next g such a) || false)))
+some_next g such (chained a o l) =
+    some_next g such a || ((some_first g such o || (may_be_empty g o && some_first g such a)) || (may_be_empty g a && some_next g such o))
 some_next g such (nested k o r c l) = false
 
 -- one token tells which alternative it is, and whether an option or a repetition goes on
@@ -45,7 +47,10 @@ is_plain g (a then b) = not (some_next g (begins g b) a) && is_plain g a && is_p
 is_plain g (a or b) = not (may_be_empty g a) && not (may_be_empty g b) && not (some_first g (begins g b) a) && is_plain g a && is_plain g b
 is_plain g (maybe a) = not (may_be_empty g a) && is_plain g a
 is_plain g (many a) = not (may_be_empty g a) && not (some_next g (begins g a) a) && is_plain g a
-is_plain g (chained a o l) = not (some_next g (λ kind. (may_be_empty g o && ((may_be_empty g a && false) || begins g a kind)) || begins g o kind) a) && is_plain g a && (not (may_be_empty g o && (may_be_empty g a && true)) && not (((may_be_empty g a && true) && some_next g (λ kind. (may_be_empty g o && ((may_be_empty g a && false) || begins g a kind)) || begins g o kind) o) || ((true && some_next g (λ kind. (may_be_empty g o && ((may_be_empty g a && false) || begins g a kind)) || begins g o kind) a) || false)) && (not (some_next g (λ kind. (may_be_empty g a && false) || begins g a kind) o) && is_plain g o && (not (some_next g (λ kind. false) a) && is_plain g a && true)))
+-- in a chain it tells whether a turn goes on, and whether the first comes again after the second; a turn has a token
+is_plain g (chained a o l) =
+    is_plain g a && is_plain g o && not (may_be_empty g o && may_be_empty g a) && not (some_next g (begins g (a then does l)) o)
+    && not (some_next g (begins g (turn a o l)) a) && not (may_be_empty g a && some_next g (begins g (turn a o l)) o)
 is_plain g (nested k o r c l) = not (goes_on g (g.inside r) c)
 
 -- kinds that are given the same are one kind, and the rules in brackets are plain
