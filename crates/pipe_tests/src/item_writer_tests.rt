@@ -230,8 +230,15 @@ fn other_answers_are_their_messages(rt: HostRuntime) {
     assert!(rt; done_writes_nothing(rt.alloc()));
 }
 
-/// The bytes of a body, whether its reply is whole where the second write fails, and the bytes that are written then.
-const WRITES: [(usize, bool, usize); 3] = [(0, true, 24), (104, true, 128), (105, false, 24)];
+/// The bytes of a body, whether its reply is whole where the second write fails, and the bytes that are written then: 4,096 are
+/// the head of 24 bytes and 4,072 of the body.
+const WRITES: [(usize, bool, usize); 5] = [
+    (0, true, 24),
+    (104, true, 128),
+    (105, true, 129),
+    (4072, true, 4096),
+    (4073, false, 4096),
+];
 
 /// A reply with a body of so many bytes.
 fn long(alloc: Global, len: usize) -> Option<LaneReply> {
@@ -265,8 +272,8 @@ fn all_are_written(alloc: Global) -> bool {
     true
 }
 
-/// A head and a small body are one write: the second one fails, and isn't made. A larger body is written after its head.
+/// A reply of up to 4,096 bytes is one write: the second one fails, and isn't made. Of a longer one the rest is a second write.
 #[test]
-fn a_small_reply_is_one_write(rt: HostRuntime) {
+fn a_short_reply_is_one_write(rt: HostRuntime) {
     assert!(rt; all_are_written(rt.alloc()));
 }
