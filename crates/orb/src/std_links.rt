@@ -1,72 +1,136 @@
 //! Links over TCP, of which nothing is given but the counts.
-ghost use Rattle.std.specs.Prelude.{◌≡◌, None, IfSome};
+ghost use Rattle.std.specs.Prelude.{◌≡◌, ◌<◌, ◌≤◌, None, length, IfSome};
 ghost use Rattle.orb_base.specs.Outside.{IsNewSource, IsNewSink};
 
-use crate::std_source::StdSource;
 use orb_base::{Accepted, Acceptor, Got, Put, Sink, Source};
+use std::alloc::Global;
 use std::io;
-use std::io::Write;
+use std::io::{BufReader, Read, Write};
 use std::net::{Shutdown, TcpListener, TcpStream};
 
-/// The reading half of a link, with its counts.
+/// Bytes that a link reads ahead.
+const READ_AHEAD: usize = 65_536;
+
+/// The reading half of a link, with its counts. It reads ahead, and lets go of the link at its end and after a failed read.
 #[derive(Drop)]
 pub struct LinkSource {
-    source: StdSource<TcpStream>,
+    stream: Option<BufReader<TcpStream>>,
+    faults: u64,
+    ends: u64,
 }
 
-impl Source for LinkSource {
-    ghost state = { λ s. ⟦<StdSource<TcpStream> as Source>⟧.state s.source };
+impl LinkSource {
+    /// A source over a link, with its counts at 0.
+    fn new(stream: BufReader<TcpStream>) -> LinkSource
+        ensures { IsNewSource (⟦<LinkSource as Source>⟧.state result) }
+    {
+        LinkSource {
+            stream: Some(stream),
+            faults: 0,
+            ends: 0,
+        }
+    }
 
-    fn read(&mut self, into: &mut [u8]) -> Got {
-        self.source.read(into)
+    /// Reads from the link; no bytes once it was let go. None where the read failed.
+    fn bytes(&mut self, into: &mut [u8]) -> Option<usize>
+        requires { 0 < length into.old }
+        ensures some { IfSome result (λ n. n ≤ length into.old) }
+        ensures same { (self.new.faults ≡ self.old.faults) × (self.new.ends ≡ self.old.ends) }
+        ensures len { length into.new ≡ length into.old }
+    {
+        match &mut self.stream {
+            Some(stream) => stream.read(into).ok(),
+            None => Some(0),
+        }
     }
 }
 
-/// The writing half of a link, with its count of faults. A write that takes nothing is a fault, and a close lets go of the link in both
-/// directions.
+impl Source for LinkSource {
+    ghost state = { λ s. record { left = None; taken = None; faults = s.faults; ends = s.ends } };
+
+    fn read(&mut self, into: &mut [u8]) -> Got {
+        match self.bytes(into) {
+            Some(0) => {
+                self.stream = None;
+                self.ends = self.ends.saturating_add(1);
+                Got::End
+            }
+            Some(n) => Got::Bytes(n),
+            None => {
+                self.stream = None;
+                self.faults = self.faults.saturating_add(1);
+                Got::Failed
+            }
+        }
+    }
+}
+
+/// The writing half of a link, with its count of faults. A write that takes nothing is a fault. A close ends the link in both
+/// directions, and lets go of it: a write after that is a fault.
 #[derive(Drop)]
 pub struct LinkSink {
-    stream: TcpStream,
+    stream: Option<TcpStream>,
     faults: u64,
+}
+
+impl LinkSink {
+    /// How many bytes the link took; none once it was let go or where the write failed.
+    fn bytes(&mut self, piece: &[u8]) -> usize
+        ensures fits { result ≤ length piece.now }
+        ensures same { self.new.faults ≡ self.old.faults }
+    {
+        match &mut self.stream {
+            Some(stream) => stream.write(piece).unwrap_or(0),
+            None => 0,
+        }
+    }
 }
 
 impl Sink for LinkSink {
     ghost state = { λ s. record { held = None; faults = s.faults } };
 
     fn write(&mut self, piece: &[u8]) -> Put {
-        match self.stream.write(piece) {
-            Ok(n) if n > 0 => Put::Took(n),
-            _ => {
+        match self.bytes(piece) {
+            0 => {
                 self.faults = self.faults.saturating_add(1);
                 Put::Failed
             }
+            n => Put::Took(n),
         }
     }
 
     fn close(&mut self) {
-        let _ = self.stream.shutdown(Shutdown::Both);
+        if let Some(stream) = &self.stream {
+            let _ = stream.shutdown(Shutdown::Both);
+        }
+        self.stream = None;
     }
 }
 
+/// What reads a stream ahead; without memory for that, what reads it as it is. None where the system refuses.
+fn read_ahead(alloc: Global, stream: &TcpStream) -> Option<BufReader<TcpStream>> {
+    let first = stream.try_clone().ok()?;
+    if let Ok(reader) = BufReader::with_capacity(alloc, READ_AHEAD, first) {
+        return Some(reader);
+    }
+    let again = stream.try_clone().ok()?;
+    BufReader::with_capacity(alloc, 0, again).ok()
+}
+
 /// The halves of a stream, whose small writes go at once (TCP_NODELAY). None where the system refuses.
-pub fn halves(stream: TcpStream) -> Option<(LinkSource, LinkSink)>
+pub fn halves(alloc: Global, stream: TcpStream) -> Option<(LinkSource, LinkSink)>
     ensures source { IfSome result (λ link. IsNewSource (⟦<LinkSource as Source>⟧.state link.0)) }
     ensures sink { IfSome result (λ link. IsNewSink (⟦<LinkSink as Sink>⟧.state link.1)) }
 {
     let Ok(()) = stream.set_nodelay(true) else {
         return None;
     };
-    let Ok(other) = stream.try_clone() else {
-        return None;
-    };
-    let source = LinkSource {
-        source: StdSource::new(stream),
-    };
+    let reader = read_ahead(alloc, &stream)?;
     let sink = LinkSink {
-        stream: other,
+        stream: Some(stream),
         faults: 0,
     };
-    Some((source, sink))
+    Some((LinkSource::new(reader), sink))
 }
 
 /// How many peers in a row may be gone again when they are accepted.
@@ -95,17 +159,18 @@ fn next_stream(listener: &TcpListener) -> Option<TcpStream> {
 }
 
 /// The next link. None where the system refuses.
-fn next_link(listener: &TcpListener) -> Option<(LinkSource, LinkSink)>
+fn next_link(alloc: Global, listener: &TcpListener) -> Option<(LinkSource, LinkSink)>
     ensures source { IfSome result (λ link. IsNewSource (⟦<LinkSource as Source>⟧.state link.0)) }
     ensures sink { IfSome result (λ link. IsNewSink (⟦<LinkSink as Sink>⟧.state link.1)) }
 {
     let stream = next_stream(listener)?;
-    halves(stream)
+    halves(alloc, stream)
 }
 
 /// One slot's share of a listener, with its counts. It tells no links.
 #[derive(Drop)]
 pub struct StdAcceptor {
+    alloc: Global,
     listener: TcpListener,
     left: u32,
     faults: u64,
@@ -114,10 +179,11 @@ pub struct StdAcceptor {
 
 impl StdAcceptor {
     /// What accepts so many links, with its counts at 0.
-    pub fn new(listener: TcpListener, each: u32) -> StdAcceptor
+    pub fn new(alloc: Global, listener: TcpListener, each: u32) -> StdAcceptor
         ensures { ⟦<StdAcceptor as Acceptor>⟧.state result ≡ record { links = None; faults = 0; ends = 0 } }
     {
         StdAcceptor {
+            alloc,
             listener,
             left: each,
             faults: 0,
@@ -138,7 +204,7 @@ impl Acceptor for StdAcceptor {
             self.ends = self.ends.saturating_add(1);
             return Accepted::Done;
         }
-        match next_link(&self.listener) {
+        match next_link(self.alloc, &self.listener) {
             Some((source, sink)) => {
                 self.left -= 1;
                 Accepted::Link(source, sink)

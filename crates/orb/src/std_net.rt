@@ -58,13 +58,13 @@ fn bind<R: net::Net<Listener = TcpListener, Stream = TcpStream>>(
 /// What accepts at a share of a listener.
 trait OfListener: Acceptor {
     /// What accepts so many links there, with its counts at 0. It tells no links.
-    fn of_listener(listener: TcpListener, each: u32) -> Self
+    fn of_listener(alloc: Global, listener: TcpListener, each: u32) -> Self
         ensures { Self.state result ≡ record { links = None; faults = 0; ends = 0 } };
 }
 
 impl OfListener for StdAcceptor {
-    fn of_listener(listener: TcpListener, each: u32) -> StdAcceptor {
-        StdAcceptor::new(listener, each)
+    fn of_listener(alloc: Global, listener: TcpListener, each: u32) -> StdAcceptor {
+        StdAcceptor::new(alloc, listener, each)
     }
 }
 
@@ -84,7 +84,7 @@ fn shares<A: OfListener + Drop>(
         let Ok(share) = listener.try_clone() else {
             return Err(NetFault::Failed);
         };
-        all.push_reserved(A::of_listener(share, each));
+        all.push_reserved(A::of_listener(alloc, share, each));
     }
     Ok(List::from_vec(all))
 }
@@ -106,6 +106,7 @@ fn listen<R: net::Net<Listener = TcpListener, Stream = TcpStream>>(
 /// Connects to a host and a port.
 fn connect<R: net::Net<Listener = TcpListener, Stream = TcpStream>>(
     system: &R,
+    alloc: Global,
     host: &Text,
     port: u16,
 ) -> Result<(LinkSource, LinkSink), NetFault>
@@ -116,7 +117,7 @@ fn connect<R: net::Net<Listener = TcpListener, Stream = TcpStream>>(
         return Err(NetFault::Failed);
     };
     match TcpStream::connect(system, (host, port)) {
-        Ok(stream) => halves(stream).ok_or(NetFault::Failed),
+        Ok(stream) => halves(alloc, stream).ok_or(NetFault::Failed),
         Err(_) => Err(NetFault::Failed),
     }
 }
@@ -145,7 +146,7 @@ impl<'a, R: net::Net<Listener = TcpListener, Stream = TcpStream>> Net for StdNet
     }
 
     fn connect(&mut self, host: &Text, port: u16) -> Result<(LinkSource, LinkSink), NetFault> {
-        match connect(self.system, host, port) {
+        match connect(self.system, self.alloc, host, port) {
             Ok(link) => Ok(link),
             Err(NetFault::Failed) => Err(self.fault()),
             Err(NetFault::NoMemory) => Err(NetFault::NoMemory),
