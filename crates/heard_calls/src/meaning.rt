@@ -26,13 +26,7 @@ fn is_here(setup: &Setup, target: &PartTarget<'_>) -> bool
 }
 
 /// The answer to a question of this id where an object is.
-fn located(
-    setup: &Setup,
-    conn: ConnId,
-    order: Order,
-    id: u32,
-    target: &PartTarget<'_>,
-) -> LaneCall
+fn located(setup: &Setup, conn: ConnId, order: Order, id: u32, target: &PartTarget<'_>) -> LaneCall
     ensures { result ≡ Spec.where_is setup.now conn order (record { id = id; target = parts_target target.now }) }
 {
     LaneCall::Post(Notice {
@@ -100,14 +94,16 @@ pub fn meaning_of(
     ensures { IfOk result (Spec.IsMeant setup.now conn band serial whole.now) }
 {
     match read_parts(whole) {
-        Ok(Parts::Request {
-            id,
-            flags,
-            target,
-            operation,
-            contexts,
-            body,
-        }) => {
+        Ok(
+            Parts::Request {
+                id,
+                flags,
+                target,
+                operation,
+                contexts,
+                body,
+            },
+        ) => {
             let size = whole.bytes.len() as u32;
             let request = Asked {
                 id,
@@ -117,7 +113,16 @@ pub fn meaning_of(
                 contexts,
                 body,
             };
-            requested(alloc, setup, conn, band, serial, whole.order, size, &request)
+            requested(
+                alloc,
+                setup,
+                conn,
+                band,
+                serial,
+                whole.order,
+                size,
+                &request,
+            )
         }
         Ok(Parts::Cancel(id)) => Ok(Means::Goes {
             band,

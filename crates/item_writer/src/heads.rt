@@ -93,7 +93,10 @@ fn first_of(head: &[u8], start: &[u8]) -> ArrayVec<u8, FIRST_LEN>
     ensures { result.items ≡ head.now ++ start.now }
 {
     let mut first = ArrayVec::new();
-    match (first.try_extend_from_slice(head), first.try_extend_from_slice(start)) {
+    match (
+        first.try_extend_from_slice(head),
+        first.try_extend_from_slice(start),
+    ) {
         (Ok(()), Ok(())) => first,
         _ => unreachable!(),
     }

@@ -201,7 +201,8 @@ impl Acceptor for StdAcceptor {
 
     fn accept(&mut self) -> Accepted<LinkSource, LinkSink> {
         if self.left == 0 {
-            self.ends = self.ends.saturating_add(1);
+            let ends = self.ends.saturating_add(1);
+            self.ends = ends;
             return Accepted::Done;
         }
         match next_link(self.alloc, &self.listener) {
