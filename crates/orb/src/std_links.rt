@@ -7,6 +7,7 @@ use std::alloc::Global;
 use std::io;
 use std::io::{BufReader, Read, Write};
 use std::net::{Shutdown, TcpListener, TcpStream};
+use std::time::Duration;
 
 /// Bytes that a link reads ahead.
 const READ_AHEAD: usize = 65_536;
@@ -167,8 +168,58 @@ fn next_link(alloc: Global, listener: &TcpListener) -> Option<(LinkSource, LinkS
     halves(alloc, stream)
 }
 
-/// One slot's share of a listener, with its counts. It tells no links.
-#[derive(Drop)]
+/// CloseConnection: nothing of what the peer sent was run. CORBA 3.0.3, section 15.4.7.
+const CLOSE: &[u8] = b"GIOP\x01\x02\0\x05\0\0\0\0";
+
+/// How many links that wait are turned away at most.
+const MOST_TURNED_AWAY: u32 = 4_096;
+
+/// How many pieces of what such a peer sent are passed over at most.
+const MOST_PASSED_OVER: u32 = 64;
+
+/// How long such a peer is waited for, in milliseconds.
+const PATIENCE: u64 = 20;
+
+/// Passes over what a peer sent, up to its end: a link that is let go with bytes unread is reset, and the peer may lose what it was
+/// sent.
+fn pass_over(stream: &mut TcpStream) {
+    for _ in 0..MOST_PASSED_OVER {
+        let mut piece = [0u8; 4096];
+        match stream.read(&mut piece) {
+            Ok(n) if n > 0 => {}
+            _ => return,
+        }
+    }
+}
+
+/// Closes a link that wasn't served, so that its peer knows that nothing ran.
+fn turn_away(stream: TcpStream) {
+    let mut stream = stream;
+    let patience = Some(Duration::from_millis(PATIENCE));
+    if stream.set_write_timeout(patience).is_ok()
+        && stream.set_read_timeout(patience).is_ok()
+        && stream.write_all(CLOSE).is_ok()
+        && stream.shutdown(Shutdown::Write).is_ok()
+    {
+        pass_over(&mut stream);
+    }
+}
+
+/// Turns away the links that wait.
+fn turn_away_all(listener: &TcpListener) {
+    if listener.set_nonblocking(true).is_err() {
+        return;
+    }
+    for _ in 0..MOST_TURNED_AWAY {
+        match listener.accept() {
+            Ok((stream, _)) => turn_away(stream),
+            Err(fault) if is_passing(&fault) => {}
+            Err(_) => return,
+        }
+    }
+}
+
+/// One slot's share of a listener, with its counts. It tells no links. Where it is let go, the links that wait are turned away.
 pub struct StdAcceptor {
     alloc: Global,
     listener: TcpListener,
@@ -189,6 +240,19 @@ impl StdAcceptor {
             faults: 0,
             ends: 0,
         }
+    }
+}
+
+impl Drop for StdAcceptor {
+    fn drop(self) {
+        turn_away_all(&self.listener);
+        let StdAcceptor {
+            alloc: _,
+            listener: _,
+            left: _,
+            faults: _,
+            ends: _,
+        } = self;
     }
 }
 
