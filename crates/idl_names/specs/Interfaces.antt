@@ -13,6 +13,7 @@ use Rattle.idl_scopes.specs.Ids.{id_of}
 use Rattle.idl_types.specs.declared.way.Way.{Way}
 use Rattle.idl_types.specs.declared.way.Way.TheVariants.{Input, Output, Both}
 use Rattle.idl_types.specs.Things.{OperationView}
+use Rattle.idl_names.specs.declared.head.Head.TheVariants.{Parameters, Raises}
 use Rattle.idl_names.specs.Sizes.{Sized, plus, times}
 use Rattle.idl_names.specs.Each.{and_each}
 use Rattle.idl_names.specs.State.{Thing, nothing, interface, exception, operations, Parts, no_parts, Built}
@@ -94,7 +95,7 @@ is_input Both = false
 
 -- the way of the next parameter; a oneway has only those that go in
 abbrev pub goes : Way → Placed Kind → Built → Done
-goes way t s = unless (s.parts.oneway && not (is_input way)) cause.BadOneway (place_of t) s >>= (λ s. Ok (record s { parts = record s.parts { way = way } }))
+goes way t s = unless (s.parts.oneway && not (is_input way)) cause.BadOneway (place_of t) s >>= (λ s. Ok (record s { parts = record s.parts { way = way; head = Parameters } }))
 
 -- one more parameter, in the way that was read
 abbrev pub with_param : List ℕ → Sized → Parts → Parts
@@ -124,6 +125,10 @@ with_raised s = Ok (renewed (record s { parts = record s.parts { raises = s.part
 -- an exception that the operation raises
 abbrev pub raised : Thing → Built → Done
 raised thing s = unless (not (is_exception thing)) cause.WrongKind s.last s >>= with_raised
+
+-- what is raised is read next, of which a oneway has nothing
+abbrev pub raises : Placed Kind → Built → Done
+raises t s = unless s.parts.oneway cause.BadOneway (place_of t) s >>= (λ s. Ok (record s { parts = record s.parts { head = Raises } }))
 
 -- an operation of this name, with the parts that were read
 abbrev pub operation_of : List ℕ → Parts → OperationView

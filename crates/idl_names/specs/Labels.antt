@@ -10,7 +10,7 @@ use Rattle.idl_constants.specs.ConstValues.{number, truth}
 use Rattle.idl_names.specs.Sizes.{leaf, basic_kind}
 use Rattle.idl_types.specs.declared.way.Way.TheVariants as way
 use Rattle.idl_names.specs.State.{rooted, Built}
-use Rattle.idl_names.specs.Changes.{Done, place_of, refused, unless, declare, open_body, leave}
+use Rattle.idl_names.specs.Changes.{Done, place_of, refused, declare, open_body, leave}
 use Rattle.idl_names.specs.ScopedNames as names
 use Rattle.idl_names.specs.Values as values
 use Rattle.idl_names.specs.Bodies as bodies
@@ -32,7 +32,7 @@ act_in_body l.In t s = interfaces.goes way.Input t s
 act_in_body l.Out t s = interfaces.goes way.Output t s
 act_in_body l.InOut t s = interfaces.goes way.Both t s
 act_in_body l.Param t s = interfaces.param t s
-act_in_body l.Raises t s = unless s.parts.oneway cause.BadOneway (place_of t) s
+act_in_body l.Raises t s = interfaces.raises t s
 act_in_body label t s = Ok s
 
 -- at a token of a value

@@ -7,6 +7,8 @@ use Rattle.idl_constants.specs.ConstValues.{Value, number}
 use Rattle.idl_types.specs.declared.way.Way.{Way}
 use Rattle.idl_types.specs.declared.way.Way.TheVariants.{Input}
 use Rattle.idl_types.specs.Things.{ParamView, OperationView}
+use Rattle.idl_names.specs.declared.head.Head.{Head}
+use Rattle.idl_names.specs.declared.head.Head.TheVariants.{Outside}
 use Rattle.idl_names.specs.Sizes.{Sized, leaf}
 
 -- what a declaration stands for beside its scope
@@ -53,6 +55,8 @@ pub record Parts : Type 0 where
   pub readonly : Bool
   pub oneway : Bool
   pub way : Way
+  -- what of the operation is read
+  pub head : Head
   pub result : Option Kind
   pub params : List ParamView
   pub raises : List (List ℕ)
@@ -84,7 +88,7 @@ no_place = record { line = 0; column = 0 }
 
 -- no declaration is read
 abbrev pub no_parts : Parts
-no_parts = record { bases = []; given = []; members = []; enumerators = []; discriminator = scalar (unsigned size1); cases = []; taken = []; labels = []; is_default = false; readonly = false; oneway = false; way = Input; result = None; params = []; raises = []; leaves = 0; levels = 0 }
+no_parts = record { bases = []; given = []; members = []; enumerators = []; discriminator = scalar (unsigned size1); cases = []; taken = []; labels = []; is_default = false; readonly = false; oneway = false; way = Input; head = Outside; result = None; params = []; raises = []; leaves = 0; levels = 0 }
 
 -- nothing is read
 abbrev pub nothing_built : Built

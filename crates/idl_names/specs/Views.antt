@@ -43,7 +43,7 @@ valued_of x = record { value = value_of x.value; at = x.at; literal = x.literal 
 
 -- the parts of a declaration
 abbrev pub parts_of : Parts → t.Parts
-parts_of p = record { bases = p.bases.items; given = list_of p.given; members = members_view p.members.items; enumerators = p.enumerators.items; discriminator = kind_of p.discriminator; cases = cases_view p.cases.items; taken = p.taken.keys; labels = p.labels.items; is_default = p.is_default; readonly = p.readonly; oneway = p.oneway; way = p.way; result = option_map kind_of p.result; params = map param_of p.params.items; raises = p.raises.items; leaves = p.leaves; levels = p.levels }
+parts_of p = record { bases = p.bases.items; given = list_of p.given; members = members_view p.members.items; enumerators = p.enumerators.items; discriminator = kind_of p.discriminator; cases = cases_view p.cases.items; taken = p.taken.keys; labels = p.labels.items; is_default = p.is_default; readonly = p.readonly; oneway = p.oneway; way = p.way; head = p.head; result = option_map kind_of p.result; params = map param_of p.params.items; raises = p.raises.items; leaves = p.leaves; levels = p.levels }
 
 -- all that is known
 abbrev pub built_of : Names → t.Built

@@ -9,6 +9,7 @@ ghost use Rattle.idl_names.specs.State.{no_parts};
 ghost use Rattle.idl_names.specs.Views.{built_of, thing_of};
 
 use crate::changes::{Done, fault, place_of, with_memory};
+use crate::head::Head;
 use crate::inheritance::leaves_at;
 use crate::operations::{and_operation, attribute_of, is_exception, is_input, operation_of};
 use crate::sizes::plus;
@@ -73,6 +74,18 @@ impl Names {
             return Err(ReadError::Refused(fault(IdlCause::BadOneway, place_of(token))));
         }
         self.parts.way = way;
+        self.parts.head = Head::Parameters;
+        Ok(())
+    }
+
+    /// The operation is to raise something.
+    pub(crate) fn raises(&mut self, token: Token<'_>) -> Done
+        ensures { Acts result (built_of self.new) (Spec.raises (seen token.entry) (built_of self.old)) }
+    {
+        if self.parts.oneway {
+            return Err(ReadError::Refused(fault(IdlCause::BadOneway, place_of(token))));
+        }
+        self.parts.head = Head::Raises;
         Ok(())
     }
 

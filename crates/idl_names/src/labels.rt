@@ -72,16 +72,6 @@ impl Names {
         Ok(())
     }
 
-    /// The operation is to raise something.
-    fn raises(&self, token: Token<'_>) -> Done
-        ensures { Acts result (built_of self.now) (changes.unless (built_of self.now).parts.oneway cause.BadOneway (changes.place_of (seen token.entry)) (built_of self.now)) }
-    {
-        if self.parts.oneway {
-            return Err(ReadError::Refused(fault(IdlCause::BadOneway, place_of(token))));
-        }
-        Ok(())
-    }
-
     /// What is done at a token of a type with a body, or of an operation.
     fn act_in_body(&mut self, label: IdlLabel, token: Token<'_>) -> Done
         ensures { Acts result (built_of self.new) (Spec.act_in_body label (seen token.entry) (built_of self.old)) }

@@ -8,6 +8,7 @@
 mod bodies;
 mod changes;
 mod each;
+mod head;
 mod inheritance;
 mod interfaces;
 mod labels;

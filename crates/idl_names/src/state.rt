@@ -4,6 +4,7 @@ ghost use Rattle.idl_scopes.specs.Views.{table_of};
 ghost use Rattle.idl_names.specs.State.{no_parts, nothing_built};
 ghost use Rattle.idl_names.specs.Views.{built_of, parts_of, thing_of};
 
+use crate::head::Head;
 use crate::sizes::SizedType;
 use cdr_values::{Case, IdlType, Member};
 use idl_constants::ConstValue;
@@ -64,6 +65,7 @@ pub(crate) struct Parts {
     pub readonly: bool,
     pub oneway: bool,
     pub way: Way,
+    pub head: Head,
     pub result: Option<IdlType>,
     pub params: List<Param>,
     pub raises: List<Text>,
@@ -107,6 +109,7 @@ impl Parts {
             readonly: false,
             oneway: false,
             way: Way::Input,
+            head: Head::Outside,
             result: None,
             params: List::new(alloc),
             raises: List::new(alloc),

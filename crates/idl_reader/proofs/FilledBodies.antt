@@ -413,7 +413,7 @@ left_at l.In t s q = leaves_so s _ cause.BadOneway (place_of t) _ (λ x. refl)
 left_at l.Out t s q = leaves_so s _ cause.BadOneway (place_of t) _ (λ x. refl)
 left_at l.InOut t s q = leaves_so s _ cause.BadOneway (place_of t) _ (λ x. refl)
 left_at l.Param t s q = leaves_param t s
-left_at l.Raises t s q = leaves_unless s s.parts.oneway cause.BadOneway (place_of t)
+left_at l.Raises t s q = leaves_so s _ cause.BadOneway (place_of t) _ (λ x. refl)
 left_at label t s q = leaves_ok s s refl
 
 abbrev is_other_alone : IdlLabel → Bool

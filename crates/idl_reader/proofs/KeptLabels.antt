@@ -216,7 +216,7 @@ kept_in_body l.In t s plain inner o = kept_then _ _ (kept_unless _ cause.BadOnew
 kept_in_body l.Out t s plain inner o = kept_then _ _ (kept_unless _ cause.BadOneway (place_of t) s o) (λ x ox. kept_like x _ ox refl refl refl)
 kept_in_body l.InOut t s plain inner o = kept_then _ _ (kept_unless _ cause.BadOneway (place_of t) s o) (λ x ox. kept_like x _ ox refl refl refl)
 kept_in_body l.Param t s plain inner o = kept_param t s o (plain refl) (inner refl)
-kept_in_body l.Raises t s plain inner o = kept_unless _ cause.BadOneway (place_of t) s o
+kept_in_body l.Raises t s plain inner o = kept_then _ _ (kept_unless _ cause.BadOneway (place_of t) s o) (λ x ox. kept_like x _ ox refl refl refl)
 kept_in_body label t s plain inner o = kept_ok s o
 
 kept_on_value : (label : IdlLabel) (t : Placed Kind) (s : Built) → (declares label ≡ true → IsNameText t.text) → (is_param label ≡ true → 0 < s.here) → IsOrderly s → Kept (act_on_value label t s)

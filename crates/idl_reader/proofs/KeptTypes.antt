@@ -413,7 +413,7 @@ module _ (so : trees.Kind → Bool) (are_so : List (List ℕ × trees.Kind) → 
     so_at l.Out t s q h = kept_so _ cause.BadOneway (place_of t) s _ (λ x hx. alike x _ hx refl refl refl refl) h
     so_at l.InOut t s q h = kept_so _ cause.BadOneway (place_of t) s _ (λ x hx. alike x _ hx refl refl refl refl) h
     so_at l.Param t s q h = kept_param t s h
-    so_at l.Raises t s q h = kept_unless s.parts.oneway cause.BadOneway (place_of t) s h
+    so_at l.Raises t s q h = kept_so _ cause.BadOneway (place_of t) s _ (λ x hx. alike x _ hx refl refl refl refl) h
     so_at label t s q h = gives_ok AreTypesSo s h
 
     -- and without a token

@@ -461,7 +461,7 @@ measured_at l.In t s h = kept_so _ cause.BadOneway (place_of t) s _ (λ x. (refl
 measured_at l.Out t s h = kept_so _ cause.BadOneway (place_of t) s _ (λ x. (refl, refl, refl, refl, refl, refl, refl, refl)) h
 measured_at l.InOut t s h = kept_so _ cause.BadOneway (place_of t) s _ (λ x. (refl, refl, refl, refl, refl, refl, refl, refl)) h
 measured_at l.Param t s h = kept_param t s h
-measured_at l.Raises t s h = kept_unless s.parts.oneway cause.BadOneway (place_of t) s h
+measured_at l.Raises t s h = kept_so _ cause.BadOneway (place_of t) s _ (λ x. (refl, refl, refl, refl, refl, refl, refl, refl)) h
 measured_at label t s h = gives_ok IsMeasured s h
 
 -- and without a token

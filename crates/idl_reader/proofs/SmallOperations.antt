@@ -324,7 +324,7 @@ small_at l.In t s q h = kept_so _ cause.BadOneway (place_of t) s _ (λ x hx. ali
 small_at l.Out t s q h = kept_so _ cause.BadOneway (place_of t) s _ (λ x hx. alike x _ hx refl refl refl) h
 small_at l.InOut t s q h = kept_so _ cause.BadOneway (place_of t) s _ (λ x hx. alike x _ hx refl refl refl) h
 small_at l.Param t s q h = absurd cc
-small_at l.Raises t s q h = kept_unless s.parts.oneway cause.BadOneway (place_of t) s h
+small_at l.Raises t s q h = kept_so _ cause.BadOneway (place_of t) s _ (λ x hx. alike x _ hx refl refl refl) h
 small_at label t s q h = gives_ok AreOperationsSmall s h
 
 -- and without a token

@@ -280,7 +280,7 @@ fit_at l.In t s h = kept_so _ cause.BadOneway (place_of t) s _ (λ x. refl) h
 fit_at l.Out t s h = kept_so _ cause.BadOneway (place_of t) s _ (λ x. refl) h
 fit_at l.InOut t s h = kept_so _ cause.BadOneway (place_of t) s _ (λ x. refl) h
 fit_at l.Param t s h = kept_param t s h
-fit_at l.Raises t s h = kept_unless s.parts.oneway cause.BadOneway (place_of t) s h
+fit_at l.Raises t s h = kept_so _ cause.BadOneway (place_of t) s _ (λ x. refl) h
 fit_at label t s h = gives_ok AllFit s h
 
 -- and without a token

@@ -34,6 +34,14 @@ const WHOLE: &[&[u8]] = &[
     b"interface I { readonly attribute long a, b; attribute string c; oneway void n(in octet x); };",
     b"const octet c = 0x1F; const short d = -32768; const char e = 'x'; const string<2> s = \"ab\";",
     b"module M { struct S { long a, b[2]; }; }; typedef sequence<M::S, 7> Q; typedef ::M::S P;",
+    b"interface I { exception X { }; void f(in long X) raises (X); };",
+    b"exception X { }; interface I { void f(in long X, out long Y) raises (X, ::X); };",
+    b"interface I { exception X { }; void f(in long X) raises (I::X, X); };",
+    b"interface A { exception X { }; }; interface B : A { void f(in long X) raises (X, A::X); };",
+    b"typedef long m; interface I { m m(in ::m a); };",
+    b"typedef long m; interface I { void m(in long m); ::m n(in ::m m); };",
+    b"module M { typedef long f; interface I { void f(in M::f a); }; };",
+    b"typedef long t; interface I { attribute t t; attribute ::t u; };",
 ];
 
 fn are_whole(alloc: Global) -> bool {
@@ -108,6 +116,80 @@ const NAMES: &[Row] = &[
 #[test]
 fn names_at_fault(rt: HostRuntime) {
     assert!(rt; are_refused(rt.alloc(), NAMES));
+}
+
+const OPERATIONS: &[Row] = &[
+    (
+        b"interface T { void m(in m x); };",
+        IdlCause::WrongKind,
+        25,
+    ),
+    (
+        b"typedef long m; interface T { void m(in m x); };",
+        IdlCause::WrongKind,
+        41,
+    ),
+    (
+        b"typedef long m; interface T { m m(in m x); };",
+        IdlCause::WrongKind,
+        38,
+    ),
+    (
+        b"const long m = 3; interface T { void m(in string<m> x); };",
+        IdlCause::WrongKind,
+        50,
+    ),
+    (
+        b"interface T { void m(in long x, out T::m y); };",
+        IdlCause::WrongKind,
+        40,
+    ),
+    (
+        b"interface T { void m(in long x, in m::x y); };",
+        IdlCause::Unknown,
+        39,
+    ),
+    (b"interface T { void m(in M x); };", IdlCause::Unknown, 25),
+    (
+        b"interface T { void m(in long x, in n y); void n(); };",
+        IdlCause::Unknown,
+        36,
+    ),
+    (
+        b"exception f { }; interface I { void f() raises (f); };",
+        IdlCause::WrongKind,
+        49,
+    ),
+    (
+        b"exception f { }; interface I { void f(in long a) raises (I::f); };",
+        IdlCause::WrongKind,
+        61,
+    ),
+    (
+        b"interface I { void f(in long X) raises (X); };",
+        IdlCause::Unknown,
+        41,
+    ),
+    (
+        b"interface I { typedef long X; void f(in long X) raises (X); };",
+        IdlCause::WrongKind,
+        57,
+    ),
+    (
+        b"typedef long X; interface I { void f(in X X, in X y); };",
+        IdlCause::WrongKind,
+        49,
+    ),
+    (
+        b"typedef long t; interface I { attribute t t; attribute t u; };",
+        IdlCause::WrongKind,
+        56,
+    ),
+];
+
+#[test]
+fn operations_are_declared_at_their_names(rt: HostRuntime) {
+    assert!(rt; are_refused(rt.alloc(), OPERATIONS));
 }
 
 const VALUES: &[Row] = &[

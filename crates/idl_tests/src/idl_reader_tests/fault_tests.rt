@@ -127,6 +127,30 @@ const EACH: &[Row] = &[
         3,
         12,
     ),
+    (
+        b"interface T {\n  void m(in m x); };",
+        IdlCause::WrongKind,
+        2,
+        13,
+    ),
+    (
+        b"typedef long m;\ninterface T {\n  m m(in long a,\n    in m x); };",
+        IdlCause::WrongKind,
+        4,
+        8,
+    ),
+    (
+        b"exception X { };\ninterface I { typedef long X;\n  void f() raises (\n    X); };",
+        IdlCause::WrongKind,
+        4,
+        5,
+    ),
+    (
+        b"interface I {\n  void f(in long X)\n    raises (X); };",
+        IdlCause::Unknown,
+        3,
+        13,
+    ),
 ];
 
 #[test]
