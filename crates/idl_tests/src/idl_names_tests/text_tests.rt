@@ -119,11 +119,7 @@ fn names_at_fault(rt: HostRuntime) {
 }
 
 const OPERATIONS: &[Row] = &[
-    (
-        b"interface T { void m(in m x); };",
-        IdlCause::WrongKind,
-        25,
-    ),
+    (b"interface T { void m(in m x); };", IdlCause::WrongKind, 25),
     (
         b"typedef long m; interface T { void m(in m x); };",
         IdlCause::WrongKind,
