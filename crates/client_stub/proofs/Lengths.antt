@@ -57,7 +57,7 @@ passed_by ps more p vs here all is out h =
     let same : left_fields ps vs ≡ left_fields more vs = rw (is, out) refl in
     record { fit = sym fit ∙ h.fit; left = subst (λ (o : Option (List Field)). Left here o 0 all) same h.left }
 
-first_fits : (ps more : List Param) (p : Param) (vs later : List IdlValue) (v : IdlValue) → ps ≡ p ∷ more → goes_in p.way ≡ true → vs ≡ v ∷ later → left_fit ps vs ≡ true
+pub first_fits : (ps more : List Param) (p : Param) (vs later : List IdlValue) (v : IdlValue) → ps ≡ p ∷ more → goes_in p.way ≡ true → vs ≡ v ∷ later → left_fit ps vs ≡ true
     → (is_of (value_of v) (kind_of p.kind) ≡ true) × (left_fit more later ≡ true)
 first_fits ps more p vs later v is goes it fit =
     let parts : left_fit ps vs ≡ are_of (kind_of p.kind ∷ kinds_in (map param_of more)) (value_of v ∷ values_view later) = rw (is, goes, it) refl in

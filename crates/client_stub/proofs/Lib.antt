@@ -1,3 +1,4 @@
 pub mod Again
 pub mod Texts
 pub mod Lengths
+pub mod Sendings

@@ -3,3 +3,4 @@ pub mod Meaning
 pub mod Choosing
 pub mod Asking
 pub mod Requests
+pub mod Sending

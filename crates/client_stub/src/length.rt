@@ -21,7 +21,7 @@ use orb_base::{Priority, PriorityModel};
 pub const BIND_OPERATION: &[u8] = b"_bind_priority_band";
 
 /// Whether a parameter goes to the servant.
-fn goes_in(way: Way) -> bool
+pub(crate) fn goes_in(way: Way) -> bool
     ensures { result ≡ goes_in way }
 {
     match way {
@@ -52,7 +52,10 @@ fn body_len(params: &[Param], arguments: &[IdlValue]) -> usize
 }
 
 /// The priority that a call carries.
-fn sent(model: Option<(PriorityModel, Priority)>, given: Option<Priority>) -> Option<Priority>
+pub(crate) fn sent(
+    model: Option<(PriorityModel, Priority)>,
+    given: Option<Priority>,
+) -> Option<Priority>
     ensures { result ≡ Spec.sent model given }
 {
     match model {
