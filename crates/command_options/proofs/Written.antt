@@ -35,6 +35,18 @@ pub serve_joined_reads : (file place : Text)
 unfolding reading uses has_no_stray_dash
 serve_joined_reads file place = refl
 
+pub serve_runs_reads : (file place number : Text) → form_of file ≡ plain → form_of place ≡ plain → form_of number ≡ plain
+    → reading serve_items (codes "--config" ∷ file ∷ codes "--listen" ∷ place ∷ codes "--runs" ∷ number ∷ codes "--trace" ∷ [])
+    ≡ Some ((codes "config", Some file) ∷ (codes "listen", Some place) ∷ (codes "runs", Some number) ∷ (codes "trace", None) ∷ [])
+unfolding reading uses has_no_stray_dash
+serve_runs_reads file place number file_plain place_plain number_plain = rw (file_plain, place_plain, number_plain) refl
+
+pub serve_runs_joined_reads : (file place number : Text)
+    → reading serve_items (codes "--trace" ∷ (codes "--runs=" ++ number) ∷ (codes "--listen=" ++ place) ∷ (codes "--config=" ++ file) ∷ [])
+    ≡ Some ((codes "trace", None) ∷ (codes "runs", Some number) ∷ (codes "listen", Some place) ∷ (codes "config", Some file) ∷ [])
+unfolding reading uses has_no_stray_dash
+serve_runs_joined_reads file place number = refl
+
 pub refs_reads : (place file : Text) → form_of place ≡ plain → form_of file ≡ plain
     → reading refs_items (codes "--at" ∷ place ∷ codes "--config" ∷ file ∷ [])
     ≡ Some ((codes "at", Some place) ∷ (codes "config", Some file) ∷ [])

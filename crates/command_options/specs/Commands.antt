@@ -18,9 +18,11 @@ pipe_items =
     may_have Valued (codes "config") ∷ may_have Valued (codes "batch") ∷ may_have Switch (codes "history") ∷ may_have Switch (codes "trace")
     ∷ []
 
--- `serve --config FILE --listen HOST:PORT`
+-- `serve --config FILE --listen HOST:PORT [--runs N] [--trace]`
 abbrev pub serve_items : List Item
-serve_items = must_have Valued (codes "config") ∷ must_have Valued (codes "listen") ∷ []
+serve_items =
+    must_have Valued (codes "config") ∷ must_have Valued (codes "listen") ∷ may_have Valued (codes "runs") ∷ may_have Switch (codes "trace")
+    ∷ []
 
 -- `refs [--at HOST:PORT] [--config FILE]`
 abbrev pub refs_items : List Item

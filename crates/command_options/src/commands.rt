@@ -35,8 +35,8 @@ static PIPE: [Item<'static>; 4] = [
     },
 ];
 
-// `serve --config FILE --listen HOST:PORT`
-static SERVE: [Item<'static>; 2] = [
+// `serve --config FILE --listen HOST:PORT [--runs N] [--trace]`
+static SERVE: [Item<'static>; 4] = [
     Item {
         name: "config",
         kind: Kind::Valued,
@@ -46,6 +46,16 @@ static SERVE: [Item<'static>; 2] = [
         name: "listen",
         kind: Kind::Valued,
         is_due: true,
+    },
+    Item {
+        name: "runs",
+        kind: Kind::Valued,
+        is_due: false,
+    },
+    Item {
+        name: "trace",
+        kind: Kind::Switch,
+        is_due: false,
     },
 ];
 
@@ -85,7 +95,7 @@ pub fn read_pipe<'a, S: AsStr>(
     read_options(alloc, PIPE.as_slice(), words)
 }
 
-/// What the words after `serve` give, which are `--config FILE --listen HOST:PORT` in any order.
+/// What the words after `serve` give, which are `--config FILE --listen HOST:PORT [--runs N] [--trace]` in any order.
 /// None where the words have no reading.
 pub fn read_serve<'a, S: AsStr>(
     alloc: Global,

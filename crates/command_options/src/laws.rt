@@ -38,6 +38,12 @@ pub fn commands_are_read_as_written()
     ensures serve_joined { (file place : Text)
         → reading serve_items ((codes "--listen=" ++ place) ∷ (codes "--config=" ++ file) ∷ [])
         ≡ Some ((codes "listen", Some place) ∷ (codes "config", Some file) ∷ []) }
+    ensures serve_runs { (file place number : Text) → form_of file ≡ plain → form_of place ≡ plain → form_of number ≡ plain
+        → reading serve_items (codes "--config" ∷ file ∷ codes "--listen" ∷ place ∷ codes "--runs" ∷ number ∷ codes "--trace" ∷ [])
+        ≡ Some ((codes "config", Some file) ∷ (codes "listen", Some place) ∷ (codes "runs", Some number) ∷ (codes "trace", None) ∷ []) }
+    ensures serve_runs_joined { (file place number : Text)
+        → reading serve_items (codes "--trace" ∷ (codes "--runs=" ++ number) ∷ (codes "--listen=" ++ place) ∷ (codes "--config=" ++ file) ∷ [])
+        ≡ Some ((codes "trace", None) ∷ (codes "runs", Some number) ∷ (codes "listen", Some place) ∷ (codes "config", Some file) ∷ []) }
     ensures refs { (place file : Text) → form_of place ≡ plain → form_of file ≡ plain
         → reading refs_items (codes "--at" ∷ place ∷ codes "--config" ∷ file ∷ [])
         ≡ Some ((codes "at", Some place) ∷ (codes "config", Some file) ∷ []) }
