@@ -1,34 +1,29 @@
--- A run of the server at an address: own profile, over CORBA 3.0.3, section 15.7, and Real-time CORBA 1.2, Threadpools.
-use Rattle.std.specs.Prelude.{◌≡◌, ℕ, List, [], Option, Some, None, Result, Ok, Err}
+-- The runs of a server at an address: own profile, over CORBA 3.0.3, section 15.7, and Real-time CORBA 1.2, Threadpools.
+use Rattle.std.specs.Prelude.{◌≡◌, ◌⊎◌, ◌*◌, ◌++◌, ℕ, Bool, true, false, List, [], ◌∷◌, Some, Result, Ok, Err}
 use Rattle.orb_base.specs.JobRecord.{JobRecord}
 use Rattle.orb_base.specs.Links.{AcceptorState}
-use Rattle.orb_base.specs.Outside.{SourceState, SinkState, Rose}
+use Rattle.orb_base.specs.Outside.{SourceState, SinkState}
 use Rattle.orb_base.specs.Room.{Room}
 use Rattle.orb_base.specs.declared.outcome.Outcome.{Outcome}
-use Rattle.orb_nets.specs.Nets.{NetState, Listens, CountsNetFault}
+use Rattle.orb_nets.specs.Nets.{NetState, Asks, Listens, CountsNetFault}
 use Rattle.orb_nets.specs.declared.net_fault.NetFault.{NetFault}
 use Rattle.orb_nets.specs.declared.net_fault.NetFault.TheVariants as fault
 use Rattle.adapter_policies.specs.SetupData.{SetupData}
-use Rattle.text_streams.specs.Streams.{WroteText, WroteFrontOf}
+use Rattle.object_lines.specs.Addresses.{Place}
 use Rattle.orb_server.specs.Fates.{RunsOnce, RunsInLanes, RunsAdmitted}
 use Rattle.orb_server.specs.Runs.{opening_of, IsLawful, AllSlotsRan, WorkersRan}
 use Rattle.orb_server.specs.declared.run.Run.{Run}
-use Rattle.server_runs.specs.Summaries.{summary_of, summary_line}
-use Rattle.server_runs.specs.declared.run_at.ServeEnd.{ServeEnd}
-use Rattle.server_runs.specs.declared.run_at.ServeEnd.TheVariants.{Done, NetFault as NetFailed, WriteFault, NoMemory}
+use Rattle.server_runs.specs.Plans.{after_one, goes_on}
+use Rattle.server_runs.specs.RunLines.{lines_of, WritesLines}
+use Rattle.server_runs.specs.declared.run_plan.RunPlan.{RunPlan}
+use Rattle.server_runs.specs.declared.serve_end.ServeEnd.{ServeEnd}
+use Rattle.server_runs.specs.declared.serve_end.ServeEnd.TheVariants.{NetFault as NetFailed, NoMemory}
 use Rattle.server_runs.specs.declared.run_at.Served.{Served}
 
--- how a run comes out to which the net gave no acceptors
+-- how a server comes out to which the net gave no acceptors
 abbrev pub end_of : NetFault → ServeEnd
 end_of fault.Failed = NetFailed
 end_of fault.NoMemory = NoMemory
-
--- the line was written, or a prefix of it up to a fault; nothing where memory was wanting
-abbrev pub WritesSummary : ServeEnd → List ℕ → SinkState → SinkState → Type 0
-WritesSummary Done line out out' = WroteText line out out' × (out'.faults ≡ out.faults)
-WritesSummary WriteFault line out out' = WroteFrontOf line out out' × Rose out.faults out'.faults
-WritesSummary NoMemory line out out' = out' ≡ out
-WritesSummary NetFailed line out out' = ⊥
 
 module _ {A I O : Type 0} (state : A → AcceptorState I O) (source : I → SourceState) (sink : O → SinkState)
     (setup : SetupData) (outcome : List ℕ → JobRecord → Outcome) where
@@ -43,24 +38,47 @@ module _ {A I O : Type 0} (state : A → AcceptorState I O) (source : I → Sour
     pub lanes : RunsInLanes (opening_of setup) run.history.items
     pub admitted : RunsAdmitted [] run.history.items
 
-  -- what came of acceptors: a run, whose summary was written; or memory was wanting, and nothing was done
-  abbrev pub Over : ServeEnd → Option (Run I O) → List A → List A → SinkState → SinkState → Type 0
-  Over end (Some run) before behind out out' =
-      Ran run before behind × WritesSummary end (summary_line (summary_of run.history.items)) out out'
-  Over end None before behind out out' = (end ≡ NoMemory) × (behind ≡ before) × (out' ≡ out)
+  -- runs were made by a plan, one after another, over acceptors which were like this before the first and after the last. Each wrote its
+  -- lines, and another one followed exactly where that one's plan says so; without a run, memory ran out for it, and nothing was done
+  abbrev pub RanRuns : RunPlan → ServeEnd → List (Run I O) → List A → List A → SinkState → SinkState → Type 0
+  RanRuns plan end [] before behind out out' = (end ≡ NoMemory) × (behind ≡ before) × (out' ≡ out)
+  RanRuns plan end (run ∷ runs) before behind out out' =
+      (between : List A) × (mid : SinkState) × (wrote : ServeEnd) × Ran run before between
+      × WritesLines wrote plan.trace (lines_of plan.trace setup run.history.items) out mid
+      × (goes_on wrote plan.runs run.slots.items ≡ true → RanRuns (after_one plan) end runs between behind mid out')
+      × (goes_on wrote plan.runs run.slots.items ≡ false → (end ≡ wrote) × (runs ≡ []) × (behind ≡ between) × (out' ≡ mid))
 
-  abbrev pub ServesOver : Served A I O → List A → SinkState → SinkState → Type 0
-  ServesOver served before out out' = Over served.end served.run before served.acceptors.items out out'
+  -- a list of runs grew by those that were made
+  pub record RunsOn (plan : RunPlan) (end : ServeEnd) (runs runs' : List (Run I O)) (before behind : List A)
+      (out out' : SinkState) : Type 0 where
+    pub made : List (Run I O)
+    pub grew : runs' ≡ runs ++ made
+    pub ran : RanRuns plan end made before behind out out'
 
-  -- what came of listening: what came of the acceptors; without them nothing was served, for the net's reason
-  abbrev pub Comes : Served A I O → Result (Room A) NetFault → SinkState → SinkState → Type 0
-  Comes served (Ok acceptors) out out' = ServesOver served acceptors.items out out'
-  Comes served (Err why) out out' =
-      (served.end ≡ end_of why) × (served.run ≡ None) × (served.acceptors.items ≡ []) × (out' ≡ out)
+  -- what came of listening: the runs over the acceptors; without acceptors nothing was served, for the net's reason
+  abbrev pub Comes : RunPlan → Served A I O → Result (Room A) NetFault → SinkState → SinkState → Type 0
+  Comes plan served (Ok acceptors) out out' =
+      RanRuns plan served.end served.runs.items acceptors.items served.acceptors.items out out'
+  Comes plan served (Err why) out out' =
+      (served.end ≡ end_of why) × (served.runs.items ≡ []) × (served.acceptors.items ≡ []) × (out' ≡ out)
 
-  -- a run at an address: the net gave an acceptor for each slot, for as many links as a slot serves, or none
-  pub record ServesAt (served : Served A I O) (net net' : NetState I O) (out out' : SinkState) : Type 0 where
+  -- the net was asked once, for as many links a slot as all runs may serve, and gave an acceptor for each slot, or none
+  pub record ListensOnce (at : Place) (plan : RunPlan) (served : Served A I O) (net net' : NetState I O)
+      (out out' : SinkState) : Type 0 where
     pub answer : Result (Room A) NetFault
-    pub listens : Listens state setup.slots setup.per_slot answer net net'
+    pub asked : Asks (record { host = at.host; port = at.port; slots = Some (setup.slots, setup.per_slot * plan.runs) }) net net'
+    pub listens : Listens state setup.slots (setup.per_slot * plan.runs) answer net net'
     pub faults : CountsNetFault answer net net'
-    pub comes : Comes served answer out out'
+    pub comes : Comes plan served answer out out'
+
+  -- memory ran out for the list of the runs, and the net wasn't asked
+  pub record AsksNothing (served : Served A I O) (net net' : NetState I O) (out out' : SinkState) : Type 0 where
+    pub end : served.end ≡ NoMemory
+    pub none : served.runs.items ≡ []
+    pub empty : served.acceptors.items ≡ []
+    pub unasked : net' ≡ net
+    pub output : out' ≡ out
+
+  -- the runs at an address, or none for which there is no room
+  abbrev pub ServesAt : Place → RunPlan → Served A I O → NetState I O → NetState I O → SinkState → SinkState → Type 0
+  ServesAt at plan served net net' out out' = ListensOnce at plan served net net' out out' ⊎ AsksNothing served net net' out out'
