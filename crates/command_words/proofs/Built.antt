@@ -12,7 +12,7 @@ use Rattle.object_lines.specs.Addresses.{Place, address_of}
 use Rattle.pipe_runs.specs.declared.shown.Shown.{Shown}
 use Rattle.command_words.specs.declared.meaning.Meaning.{Meaning}
 use Rattle.command_words.specs.declared.meaning.Meaning.TheVariants.{Pipe, Serve, Dump, Refs, RefsAt, Idl, Unbuilt, Unread}
-use Rattle.command_words.specs.Meanings.{Gives, batch_by, shown_by, pipe_by, piped, serve_by, served_at, refs_by, refs_at, refs_of, dump_by, idl_by, listed}
+use Rattle.command_words.specs.Meanings.{Gives, batch_by, shown_by, pipe_by, piped, runs_by, serve_by, served_at, refs_by, refs_at, refs_of, dump_by, idl_by, listed}
 use Rattle.command_words.specs.Words.{Command, command_named, command_of, asks_memory, has_nul, meant, named_by, names_built, read_by}
 
 -- words mean a command that is built, or have no reading
@@ -33,10 +33,11 @@ piped_built config (Some batch) (Some shown) = tt
 piped_built config (Some batch) None = tt
 piped_built config None shown = tt
 
-served_built : (config : Option Text) (place : Option Place) → IsBuilt (served_at config place)
-served_built (Some config) (Some place) = tt
-served_built (Some config) None = tt
-served_built None place = tt
+served_built : (config : Option Text) (place : Option Place) (runs : Option ℕ) (trace : Bool) → IsBuilt (served_at config place runs trace)
+served_built (Some config) (Some place) (Some runs) trace = tt
+served_built (Some config) (Some place) None trace = tt
+served_built (Some config) None runs trace = tt
+served_built None place runs trace = tt
 
 refs_at_built : (place : Option Place) (config : Option Text) → IsBuilt (refs_at place config)
 refs_at_built (Some place) config = tt
@@ -55,7 +56,8 @@ pipe_built : (gives : Gives) → IsBuilt (pipe_by gives)
 pipe_built gives = piped_built (gives (codes "config")) (batch_by (gives (codes "batch"))) (shown_by (gives (codes "history")) (gives (codes "trace")))
 
 serve_built : (gives : Gives) → IsBuilt (serve_by gives)
-serve_built gives = served_built (gives (codes "config")) (option_and_then address_of (gives (codes "listen")))
+serve_built gives =
+    served_built (gives (codes "config")) (option_and_then address_of (gives (codes "listen"))) (runs_by (gives (codes "runs"))) (is_some (gives (codes "trace")))
 
 refs_by_built : (gives : Gives) → IsBuilt (refs_by gives)
 refs_by_built gives = refs_built (gives (codes "at")) (gives (codes "config"))

@@ -10,7 +10,7 @@ use Rattle.command_options.specs.Given.{given}
 use Rattle.command_options.specs.Items.{Text}
 use Rattle.command_options.specs.Words.{form_of, plain}
 use Rattle.command_options.proofs.Written as options
-use Rattle.command_words.specs.Meanings.{batch_of, listed, piped, refs_at, served_at}
+use Rattle.command_words.specs.Meanings.{batch_of, listed, piped, refs_at, runs_of, served_at}
 use Rattle.command_words.specs.Words.{command_of}
 
 -- ---- bytes before a value
@@ -59,18 +59,33 @@ pipe_traced_means file number file_clean number_clean =
     rw (file_so, number_so, options.pipe_traced_reads file number) refl
 
 pub serve_means : (file place : Text) → form_of file ≡ plain → form_of place ≡ plain → HasNoNul file → HasNoNul place
-    → command_of (codes "serve" ∷ codes "--config" ∷ file ∷ codes "--listen" ∷ place ∷ []) ≡ served_at (Some file) (address_of place)
+    → command_of (codes "serve" ∷ codes "--config" ∷ file ∷ codes "--listen" ∷ place ∷ []) ≡ served_at (Some file) (address_of place) (Some 1) false
 unfolding command_of given
 serve_means file place file_plain place_plain file_clean place_clean =
     rw (file_clean, place_clean, options.serve_reads file place file_plain place_plain) refl
 
 pub serve_joined_means : (file place : Text) → HasNoNul file → HasNoNul place
-    → command_of (codes "serve" ∷ (codes "--listen=" ++ place) ∷ (codes "--config=" ++ file) ∷ []) ≡ served_at (Some file) (address_of place)
+    → command_of (codes "serve" ∷ (codes "--listen=" ++ place) ∷ (codes "--config=" ++ file) ∷ []) ≡ served_at (Some file) (address_of place) (Some 1) false
 unfolding command_of given
 serve_joined_means file place file_clean place_clean =
     let file_so : HasNoNul (codes "--config=" ++ file) = clean (codes "--config=" ++ file) file refl file_clean in
     let place_so : HasNoNul (codes "--listen=" ++ place) = clean (codes "--listen=" ++ place) place refl place_clean in
     rw (file_so, place_so, options.serve_joined_reads file place) refl
+
+pub serve_runs_means : (file place number : Text) → form_of file ≡ plain → form_of place ≡ plain → form_of number ≡ plain → HasNoNul file → HasNoNul place → HasNoNul number
+    → command_of (codes "serve" ∷ codes "--config" ∷ file ∷ codes "--listen" ∷ place ∷ codes "--runs" ∷ number ∷ codes "--trace" ∷ []) ≡ served_at (Some file) (address_of place) (runs_of number) true
+unfolding command_of given
+serve_runs_means file place number file_plain place_plain number_plain file_clean place_clean number_clean =
+    rw (file_clean, place_clean, number_clean, options.serve_runs_reads file place number file_plain place_plain number_plain) refl
+
+pub serve_runs_joined_means : (file place number : Text) → HasNoNul file → HasNoNul place → HasNoNul number
+    → command_of (codes "serve" ∷ codes "--trace" ∷ (codes "--runs=" ++ number) ∷ (codes "--listen=" ++ place) ∷ (codes "--config=" ++ file) ∷ []) ≡ served_at (Some file) (address_of place) (runs_of number) true
+unfolding command_of given
+serve_runs_joined_means file place number file_clean place_clean number_clean =
+    let file_so : HasNoNul (codes "--config=" ++ file) = clean (codes "--config=" ++ file) file refl file_clean in
+    let place_so : HasNoNul (codes "--listen=" ++ place) = clean (codes "--listen=" ++ place) place refl place_clean in
+    let number_so : HasNoNul (codes "--runs=" ++ number) = clean (codes "--runs=" ++ number) number refl number_clean in
+    rw (file_so, place_so, number_so, options.serve_runs_joined_reads file place number) refl
 
 pub refs_means : (place file : Text) → form_of place ≡ plain → form_of file ≡ plain → HasNoNul place → HasNoNul file
     → command_of (codes "refs" ∷ codes "--at" ∷ place ∷ codes "--config" ∷ file ∷ []) ≡ refs_at (address_of place) (Some file)

@@ -1,11 +1,12 @@
 -- What each command means by what its words give its items: own profile.
-use Rattle.std.specs.Prelude.{ℕ, codes, Option, Some, None}
+use Rattle.std.specs.Prelude.{ℕ, Bool, codes, is_some, Option, Some, None}
 use Rattle.std.specs.Option.{option_and_then}
 use Rattle.object_refs.specs.LocationReading.{port_number}
 use Rattle.object_lines.specs.Addresses.{Place, address_of}
 use Rattle.pipe_runs.specs.Batches.{batch}
 use Rattle.pipe_runs.specs.declared.shown.Shown.{Shown}
 use Rattle.pipe_runs.specs.declared.shown.Shown.TheVariants as shown
+use Rattle.server_runs.specs.Counts.{run_count}
 use Rattle.command_options.specs.Items.{Text}
 use Rattle.command_words.specs.declared.meaning.Meaning.{Meaning}
 use Rattle.command_words.specs.declared.meaning.Meaning.TheVariants.{Pipe, Serve, Dump, Refs, RefsAt, Idl, Unread}
@@ -43,17 +44,31 @@ abbrev pub pipe_by : Gives → Meaning
 pipe_by gives =
     piped (gives (codes "config")) (batch_by (gives (codes "batch"))) (shown_by (gives (codes "history")) (gives (codes "trace")))
 
--- ---- `serve --config FILE --listen HOST:PORT`
+-- ---- `serve --config FILE --listen HOST:PORT [--runs N] [--trace]`
 
--- the server of a configuration, where its place is an address
-abbrev pub served_at : Option Text → Option Place → Meaning
-served_at (Some config) (Some at) = Serve (record { config = config; at = at })
-served_at (Some config) None = Unread
-served_at None at = Unread
+-- a number from 1 to 16, of 1 to 10 decimal digits
+abbrev pub runs_of : Text → Option ℕ
+runs_of word = option_and_then run_count (port_number 10 word)
+
+-- how many runs are made at most: the number that the word is, or 1 where there is no word
+abbrev pub runs_by : Option Text → Option ℕ
+runs_by (Some word) = runs_of word
+runs_by None = Some 1
+
+-- the server of a configuration, where its place is an address and its runs are a number that they may be; with the trace of each run, or
+-- without
+abbrev pub served_at : Option Text → Option Place → Option ℕ → Bool → Meaning
+served_at (Some config) (Some at) (Some runs) trace =
+    Serve (record { config = config; at = at; plan = record { runs = runs; trace = trace } })
+served_at (Some config) (Some at) None trace = Unread
+served_at (Some config) None runs trace = Unread
+served_at None at runs trace = Unread
 
 -- the server, by the texts of its options
 abbrev pub serve_by : Gives → Meaning
-serve_by gives = served_at (gives (codes "config")) (option_and_then address_of (gives (codes "listen")))
+serve_by gives =
+    served_at (gives (codes "config")) (option_and_then address_of (gives (codes "listen"))) (runs_by (gives (codes "runs")))
+    (is_some (gives (codes "trace")))
 
 -- ---- `refs`, or `refs --at HOST:PORT [--config FILE]`
 

@@ -1,5 +1,5 @@
 //! Laws of what words mean. The bodies are empty: each contract is a law of the definitions.
-ghost use Rattle.std.specs.Prelude.{◌≡◌, ◌++◌, ◌∷◌, [], List, Some, codes};
+ghost use Rattle.std.specs.Prelude.{◌≡◌, ◌++◌, ◌∷◌, [], List, Some, codes, false, true};
 ghost use Rattle.orb_base.specs.NulFree.{HasNoNul};
 ghost use Rattle.object_lines.specs.Addresses.{address_of};
 ghost use Rattle.pipe_runs.specs.declared.shown.Shown.TheVariants as shown;
@@ -8,7 +8,7 @@ ghost use Rattle.command_options.specs.Uses.{Use};
 ghost use Rattle.command_options.specs.Whole.{IsWhole};
 ghost use Rattle.command_options.specs.Words.{form_of, plain};
 ghost use Rattle.command_words.specs.declared.meaning.Meaning.TheVariants.{Unread};
-ghost use Rattle.command_words.specs.Meanings.{batch_of, listed, piped, refs_at, served_at};
+ghost use Rattle.command_words.specs.Meanings.{batch_of, listed, piped, refs_at, runs_of, served_at};
 ghost use Rattle.command_words.specs.Words.{Command, command_named, command_of};
 
 /// The order of options is free: words in which two options of a command, each written out whole, change places mean the same. So do
@@ -41,10 +41,18 @@ pub fn commands_mean_what_they_say()
         ≡ piped (Some file) (batch_of number) (Some shown.Trace) }
     ensures serve { (file place : Text) → form_of file ≡ plain → form_of place ≡ plain → HasNoNul file → HasNoNul place
         → command_of (codes "serve" ∷ codes "--config" ∷ file ∷ codes "--listen" ∷ place ∷ [])
-        ≡ served_at (Some file) (address_of place) }
+        ≡ served_at (Some file) (address_of place) (Some 1) false }
     ensures serve_joined { (file place : Text) → HasNoNul file → HasNoNul place
         → command_of (codes "serve" ∷ (codes "--listen=" ++ place) ∷ (codes "--config=" ++ file) ∷ [])
-        ≡ served_at (Some file) (address_of place) }
+        ≡ served_at (Some file) (address_of place) (Some 1) false }
+    ensures serve_runs { (file place number : Text) → form_of file ≡ plain → form_of place ≡ plain → form_of number ≡ plain
+        → HasNoNul file → HasNoNul place → HasNoNul number
+        → command_of (codes "serve" ∷ codes "--config" ∷ file ∷ codes "--listen" ∷ place ∷ codes "--runs" ∷ number ∷ codes "--trace" ∷ [])
+        ≡ served_at (Some file) (address_of place) (runs_of number) true }
+    ensures serve_runs_joined { (file place number : Text) → HasNoNul file → HasNoNul place → HasNoNul number
+        → command_of (codes "serve" ∷ codes "--trace" ∷ (codes "--runs=" ++ number) ∷ (codes "--listen=" ++ place)
+        ∷ (codes "--config=" ++ file) ∷ [])
+        ≡ served_at (Some file) (address_of place) (runs_of number) true }
     ensures refs { (place file : Text) → form_of place ≡ plain → form_of file ≡ plain → HasNoNul place → HasNoNul file
         → command_of (codes "refs" ∷ codes "--at" ∷ place ∷ codes "--config" ∷ file ∷ [])
         ≡ refs_at (address_of place) (Some file) }

@@ -3,6 +3,7 @@
 use object_lines::Address;
 use orb_base::Text;
 use pipe_runs::{Batch, Shown};
+use server_runs::RunPlan;
 
 /// The options of `pipe`.
 #[derive(Drop)]
@@ -22,6 +23,8 @@ pub struct ServeWords {
     pub config: Text,
     /// Where to listen.
     pub at: Address,
+    /// How many runs are made at most, 1 where no number is said, and whether the trace of each is written.
+    pub plan: RunPlan,
 }
 
 /// What the words of a command line mean.

@@ -14,6 +14,7 @@ use object_lines::read_address;
 use object_refs::port_number;
 use orb_base::{NoMemory, Text, first_nul};
 use pipe_runs::{Batch, Shown};
+use server_runs::{RunCount, RunPlan};
 use std::alloc::Global;
 use std::convert::AsStr;
 
@@ -163,8 +164,27 @@ fn serve_by(alloc: Global, options: &Options<'_>) -> Result<Meaning, NoMemory>
     let Some(at) = read_address(alloc, place.as_bytes())? else {
         return Ok(Meaning::Unread);
     };
+    let Some(runs) = runs_by(options.value("runs")) else {
+        return Ok(Meaning::Unread);
+    };
+    let trace = options.has("trace");
     let config = text_of(alloc, config)?;
-    Ok(Meaning::Serve(ServeWords { config, at }))
+    let plan = RunPlan { runs, trace };
+    Ok(Meaning::Serve(ServeWords { config, at, plan }))
+}
+
+/// How many runs are made at most: the number that the word is, 1 to 16 in 1 to 10 decimal digits, or 1 where there is no word. None
+/// where the word is no such number.
+fn runs_by(word: Option<&str>) -> Option<RunCount>
+    ensures { result ≡ By.runs_by (option_map (λ word. word.now) word.entry) }
+{
+    match word {
+        Some(word) => {
+            let number = port_number(word.as_bytes(), MAX_DIGITS)?;
+            RunCount::new(number)
+        }
+        None => Some(RunCount::one()),
+    }
 }
 
 /// What `refs` means with these words after it.
