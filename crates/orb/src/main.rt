@@ -52,7 +52,7 @@ fn without_words(alloc: Global, fault: &io::Error) -> Ended
         status,
         note,
         piped: None,
-        run: None,
+        runs: List::new(alloc),
         acceptors: List::new(alloc),
     }
 }

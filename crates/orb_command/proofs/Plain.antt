@@ -1,5 +1,5 @@
 -- What a command other than the server answers: nothing was served.
-use Rattle.std.proofs.Common.{◌≡◌, [], None, refl, sym, subst}
+use Rattle.std.proofs.Common.{◌≡◌, [], refl, sym, subst}
 use Rattle.orb_base.specs.Links.{AcceptorState}
 use Rattle.orb_base.specs.Outside.{SourceState, SinkState}
 use Rattle.orb_nets.specs.Nets.{NetState}
@@ -34,9 +34,9 @@ module _ {A I O : Type 0} (state : A → AcceptorState I O) (source : I → Sour
   serves_nothing Unread answered before after net plain h = h
 
   pub plain_answers : (command : Meaning) (reported : Reported) (answered : Answered A I O) (before after : Moment) (net : NetState I O)
-      → IsPlain command → Reports command reported before after → report_of answered ≡ reported → answered.run ≡ None → answered.acceptors.items ≡ []
+      → IsPlain command → Reports command reported before after → report_of answered ≡ reported → answered.runs.items ≡ [] → answered.acceptors.items ≡ []
       → Answers state source sink command answered before after net net
-  plain_answers command reported answered before after net plain h same run none = record {
+  plain_answers command reported answered before after net plain h same runs none = record {
     reports = subst (λ r. Reports command r before after) (sym same) h;
-    served = serves_nothing command answered before after net plain (record { run = run; acceptors = none; unasked = refl });
+    served = serves_nothing command answered before after net plain (record { runs = runs; acceptors = none; unasked = refl });
   }

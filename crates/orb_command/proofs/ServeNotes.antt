@@ -1,13 +1,13 @@
 -- What comes of a configuration for the server, and which counts of faults rose.
-use Rattle.std.proofs.Common.{◌≡◌, ℕ, List, [], Option, Some, None, refl, sym, ap, subst, ◌∙◌, inl, inr}
+use Rattle.std.proofs.Common.{◌≡◌, ℕ, Bool, true, false, List, [], ◌∷◌, Some, None, refl, sym, ap, subst, ◌∙◌, inl, inr}
 use Rattle.std.specs.Prelude.{Result, Ok, Err}
 use Rattle.orb_base.specs.Filing.{FilesState}
 use Rattle.orb_base.specs.JobRecord.{JobRecord}
 use Rattle.orb_base.specs.Links.{AcceptorState}
-use Rattle.orb_base.specs.Outside.{SourceState, SinkState}
+use Rattle.orb_base.specs.Outside.{SourceState, SinkState, Rose}
 use Rattle.orb_base.specs.Room.{Room}
 use Rattle.orb_base.specs.declared.outcome.Outcome.{Outcome}
-use Rattle.orb_nets.specs.Nets.{NetState, Asks}
+use Rattle.orb_nets.specs.Nets.{NetState}
 use Rattle.orb_nets.specs.declared.net_fault.NetFault.{NetFault}
 use Rattle.orb_nets.specs.declared.net_fault.NetFault.TheVariants as fault
 use Rattle.adapter_policies.specs.SetupData.{SetupData}
@@ -19,9 +19,13 @@ use Rattle.setup_files.specs.declared.setup_end.SetupEnd.{SetupEnd}
 use Rattle.setup_files.specs.declared.setup_end.SetupEnd.TheVariants as why
 use Rattle.setup_files.proofs.Counts.{broker_count}
 use Rattle.orb_server.specs.declared.run.Run.{Run}
-use Rattle.server_runs.specs.Serving.{ServesAt, Over, Comes, end_of}
-use Rattle.server_runs.specs.declared.run_at.ServeEnd.{ServeEnd}
-use Rattle.server_runs.specs.declared.run_at.ServeEnd.TheVariants as end
+use Rattle.server_runs.specs.Plans.{after_one, goes_on}
+use Rattle.server_runs.proofs.Going.{goes_done}
+use Rattle.server_runs.specs.RunLines.{WritesLines, lines_of}
+use Rattle.server_runs.specs.Serving.{ServesAt, RanRuns, Comes, end_of}
+use Rattle.server_runs.specs.declared.run_plan.RunPlan.{RunPlan}
+use Rattle.server_runs.specs.declared.serve_end.ServeEnd.{ServeEnd}
+use Rattle.server_runs.specs.declared.serve_end.ServeEnd.TheVariants as end
 use Rattle.server_runs.specs.declared.run_at.Served.{Served}
 use Rattle.text_streams.proofs.CallerLemmas.{gave_none}
 use Rattle.text_streams.specs.Streams.{GaveFew}
@@ -47,16 +51,20 @@ use Rattle.orb_command.proofs.Plain.{plain_answers}
 
 module _ {A I O : Type 0} (state : A → AcceptorState I O) (source : I → SourceState) (sink : O → SinkState) where
   pub ran_so : (words : ServeWords) (broker : Broker) (answer : Served A I O) (told : ServeTold A I O)
-      (net net' : NetState I O) (out out' : SinkState) → told.note ≡ note_of_end answer.end → told.run ≡ answer.run → told.acceptors ≡ answer.acceptors
-      → Asks (record { host = words.at.host; port = words.at.port; slots = Some (broker.setup.slots, broker.setup.per_slot) }) net net'
-      → ServesAt state source sink broker.setup (outcome_of (served_of broker.servants)) answer net net' out out'
+      (net net' : NetState I O) (out out' : SinkState) → told.note ≡ note_of_end answer.end → told.runs ≡ answer.runs → told.acceptors ≡ answer.acceptors
+      → ServesAt state source sink broker.setup (outcome_of (served_of broker.servants)) words.at words.plan answer net net' out out'
       → RanAt state source sink words broker told net net' out out'
-  ran_so words broker answer told net net' out out' note ran given asked serves =
-      record { answer = answer; note = note; ran = ran; given = ap (λ (r : Room A). r.items) given; asked = asked; serves = serves }
+  ran_so words broker answer told net net' out out' note ran given serves = record {
+    answer = answer;
+    note = note;
+    ran = ap (λ (r : Room (Run I O)). r.items) ran;
+    given = ap (λ (r : Room A). r.items) given;
+    serves = serves;
+  }
 
   pub by_none : (words : ServeWords) (reason : SetupEnd) (told : ServeTold A I O) (files files' : FilesState)
       (net : NetState I O) (out : SinkState) → files'.files ≡ files.files → GivesBroker (Err reason) (Some words.config) files files'
-      → told.note ≡ setup_note reason → told.run ≡ None → told.acceptors.items ≡ []
+      → told.note ≡ setup_note reason → told.runs.items ≡ [] → told.acceptors.items ≡ []
       → ServesBy state source sink words told files files' net net out out
   by_none words reason told files files' net out kept none note norun empty =
       (kept, inr (reason, none, record { note = note; none = norun; empty = empty; unasked = refl; output = refl }))
@@ -82,17 +90,47 @@ filed Memory before after h = h
 filed Limit before after h = h
 filed NotBuilt before after h = h
 
+-- what a server that came out so did to the output's count of faults
+abbrev CountsRuns : ServeEnd → ℕ → ℕ → Type 0
+CountsRuns end.Done old new = new ≡ old
+CountsRuns end.NetFault old new = ⊥
+CountsRuns end.WriteFault old new = Rose old new
+CountsRuns end.NoMemory old new = new ≡ old
+
+lines_count : (e : ServeEnd) (traced : Bool) (lines : List ℕ) (o o' : SinkState) → WritesLines e traced lines o o' → CountsRuns e o.faults o'.faults
+lines_count end.Done traced lines o o' h = h.1
+lines_count end.NetFault traced lines o o' h = absurd h
+lines_count end.WriteFault traced lines o o' h = h.1
+lines_count end.NoMemory true lines o o' h = h.1
+lines_count end.NoMemory false lines o o' h = ap (λ (s : SinkState). s.faults) h
+
+by_bool : {P : Type 0} (b : Bool) → (b ≡ true → P) → (b ≡ false → P) → P
+by_bool true at_true at_false = at_true refl
+by_bool false at_true at_false = at_false refl
+
+-- by what became of its last run
+ended_faults : (e : ServeEnd) (before after : Moment) → after.files.faults ≡ before.files.faults → CountsRuns e before.out.faults after.out.faults
+    → ServeFaults (note_of_end e) before after
+ended_faults end.Done before after same h = (same, h)
+ended_faults end.NetFault before after same h = absurd h
+ended_faults end.WriteFault before after same h = (same, h)
+ended_faults end.NoMemory before after same h = (same, h)
+
 module _ {A I O : Type 0} (state : A → AcceptorState I O) (source : I → SourceState) (sink : O → SinkState) where
-  -- of a run over acceptors
-  over_faults : (setup : SetupData) (outcome : List ℕ → JobRecord → Outcome) (e : ServeEnd) (run : Option (Run I O)) (acceptors acceptors' : List A)
-      (before after : Moment) → after.files.faults ≡ before.files.faults
-      → Over state source sink setup outcome e run acceptors acceptors' before.out after.out → ServeFaults (note_of_end e) before after
-  over_faults setup outcome end.Done (Some run) acceptors acceptors' before after same h = (same, h.1.1)
-  over_faults setup outcome end.NetFault (Some run) acceptors acceptors' before after same h = absurd h.1
-  over_faults setup outcome end.WriteFault (Some run) acceptors acceptors' before after same h = (same, h.1.1)
-  over_faults setup outcome end.NoMemory (Some run) acceptors acceptors' before after same h = (same, ap (λ (o : SinkState). o.faults) h.1)
-  over_faults setup outcome e None acceptors acceptors' before after same h =
-      subst (λ x. ServeFaults (note_of_end x) before after) (sym h.0) (same, ap (λ (o : SinkState). o.faults) h.2)
+  -- of runs over acceptors
+  runs_count : (setup : SetupData) (outcome : List ℕ → JobRecord → Outcome) (plan : RunPlan) (e : ServeEnd) (runs : List (Run I O)) (before behind : List A)
+      (o o' : SinkState) → RanRuns state source sink setup outcome plan e runs before behind o o' → CountsRuns e o.faults o'.faults
+  runs_count setup outcome plan e [] before behind o o' h =
+      subst (λ (x : ServeEnd). CountsRuns x o.faults o'.faults) (sym h.0) (ap (λ (s : SinkState). s.faults) h.2)
+  runs_count setup outcome plan e (run ∷ runs) before behind o o' (between, mid, wrote, ran, lines, goes, ends) =
+      let here = lines_count wrote plan.trace (lines_of plan.trace setup run.history.items) o mid lines in
+      by_bool (goes_on wrote plan.runs run.slots.items)
+      (λ going.
+      let same = subst (λ (w : ServeEnd). CountsRuns w o.faults mid.faults) (goes_done wrote plan.runs run.slots.items going) here in
+      subst (λ (n : ℕ). CountsRuns e n o'.faults) same (runs_count setup outcome (after_one plan) e runs between behind mid o' (goes going)))
+      (λ rested.
+      let last = ends rested in
+      subst (λ (x : ServeEnd). CountsRuns x o.faults o'.faults) (sym last.0) (subst (λ (s : SinkState). CountsRuns wrote o.faults s.faults) (sym last.3) here))
 
   -- without acceptors
   closed_faults : (why : NetFault) (before after : Moment) → after.files.faults ≡ before.files.faults → after.out.faults ≡ before.out.faults
@@ -100,19 +138,28 @@ module _ {A I O : Type 0} (state : A → AcceptorState I O) (source : I → Sour
   closed_faults fault.Failed before after same out = (same, out)
   closed_faults fault.NoMemory before after same out = (same, out)
 
-  listen_faults : (setup : SetupData) (outcome : List ℕ → JobRecord → Outcome) (served : Served A I O) (answer : Result (Room A) NetFault)
+  listen_faults : (setup : SetupData) (outcome : List ℕ → JobRecord → Outcome) (plan : RunPlan) (served : Served A I O) (answer : Result (Room A) NetFault)
       (before after : Moment) → after.files.faults ≡ before.files.faults
-      → Comes state source sink setup outcome served answer before.out after.out → ServeFaults (note_of_end served.end) before after
-  listen_faults setup outcome served (Ok acceptors) before after same h =
-      over_faults setup outcome served.end served.run acceptors.items served.acceptors.items before after same h
-  listen_faults setup outcome served (Err why) before after same h =
+      → Comes state source sink setup outcome plan served answer before.out after.out → ServeFaults (note_of_end served.end) before after
+  listen_faults setup outcome plan served (Ok acceptors) before after same h =
+      ended_faults served.end before after same
+      (runs_count setup outcome plan served.end served.runs.items acceptors.items served.acceptors.items before.out after.out h)
+  listen_faults setup outcome plan served (Err why) before after same h =
       subst (λ x. ServeFaults (note_of_end x) before after) (sym h.0) (closed_faults why before after same (ap (λ (o : SinkState). o.faults) h.3))
+
+  served_faults : (words : ServeWords) (broker : Broker) (answer : Served A I O) (net net' : NetState I O) (before after : Moment)
+      → after.files.faults ≡ before.files.faults
+      → ServesAt state source sink broker.setup (outcome_of (served_of broker.servants)) words.at words.plan answer net net' before.out after.out
+      → ServeFaults (note_of_end answer.end) before after
+  served_faults words broker answer net net' before after same (inl once) =
+      listen_faults broker.setup (outcome_of (served_of broker.servants)) words.plan answer once.answer before after same once.comes
+  served_faults words broker answer net net' before after same (inr none) =
+      subst (λ x. ServeFaults (note_of_end x) before after) (sym none.end) (same, ap (λ (o : SinkState). o.faults) none.output)
 
   ran_faults : (words : ServeWords) (broker : Broker) (told : ServeTold A I O) (net net' : NetState I O) (before after : Moment)
       → after.files.faults ≡ before.files.faults → RanAt state source sink words broker told net net' before.out after.out → ServeFaults told.note before after
   ran_faults words broker told net net' before after same h =
-      subst (λ n. ServeFaults n before after) (sym h.note)
-      (listen_faults broker.setup (outcome_of (served_of broker.servants)) h.answer h.serves.answer before after same h.serves.comes)
+      subst (λ n. ServeFaults n before after) (sym h.note) (served_faults words broker h.answer net net' before after same h.serves)
 
   serve_faults : (words : ServeWords) (told : ServeTold A I O) (net net' : NetState I O) (before after : Moment)
       → ServesBy state source sink words told before.files after.files net net' before.out after.out → ServeFaults told.note before after
@@ -140,7 +187,7 @@ module _ {A I O : Type 0} (state : A → AcceptorState I O) (source : I → Sour
 
   -- where memory runs out over the words, nothing was done
   pub wanting : (command : Meaning) (reported : Reported) (answered : Answered A I O) (before : Moment) (net : NetState I O) → IsBuilt command
-      → reported.note ≡ Memory → reported.status ≡ 12 → reported.piped ≡ None → report_of answered ≡ reported → answered.run ≡ None → answered.acceptors.items ≡ []
+      → reported.note ≡ Memory → reported.status ≡ 12 → reported.piped ≡ None → report_of answered ≡ reported → answered.runs.items ≡ [] → answered.acceptors.items ≡ []
       → Answers state source sink command answered before before net net
   wanting (Serve words) reported answered before net names note status none same run empty =
       let told : answered.note ≡ Memory = ap (λ (r : Reported). r.note) same ∙ note in

@@ -96,11 +96,11 @@ module _ {A I O : Type 0} where
 
   -- the server's part
   abbrev pub serve_told : Answered A I O → ServeTold A I O
-  serve_told answered = record { note = answered.note; run = answered.run; acceptors = answered.acceptors }
+  serve_told answered = record { note = answered.note; runs = answered.runs; acceptors = answered.acceptors }
 
   -- nothing was served
   pub record ServesNothing (answered : Answered A I O) (net net' : NetState I O) : Type 0 where
-    pub run : answered.run ≡ None
+    pub runs : answered.runs.items ≡ []
     pub acceptors : answered.acceptors.items ≡ []
     pub unasked : net' ≡ net
 

@@ -1,5 +1,5 @@
 //! What the top call answers.
-ghost use Rattle.std.specs.Prelude.{◌≡◌, [], None};
+ghost use Rattle.std.specs.Prelude.{◌≡◌, []};
 ghost use Rattle.orb_command.specs.Command.{report_of};
 
 use crate::note::Note;
@@ -16,7 +16,7 @@ pub struct Reported {
     pub piped: Option<Piped>,
 }
 
-/// What the program ends with: its status, the note that it prints, what a run of `pipe` came to, and what a run of `serve` left over
+/// What the program ends with: its status, the note that it prints, what a run of `pipe` came to, and what the runs of `serve` left over
 /// these acceptors, and connections of these sources and sinks.
 #[derive(Drop)]
 pub struct Answered<A, I, O> {
@@ -26,8 +26,9 @@ pub struct Answered<A, I, O> {
     pub note: Note,
     /// The run of `pipe`, with its history: exactly where the pipe had servants, and memory was not wanting.
     pub piped: Option<Piped>,
-    /// The run of `serve`, with its history: exactly where the net gave acceptors, and memory was not wanting.
-    pub run: Option<Run<I, O>>,
+    /// The runs of `serve` that ended, in order, each with its history. There is none where the net gave no acceptors, or memory ran out
+    /// for the first one.
+    pub runs: List<Run<I, O>>,
     /// The acceptors that the net gave to `serve`, as they are at the end.
     pub acceptors: List<A>,
 }
@@ -36,14 +37,14 @@ impl<A, I, O> Answered<A, I, O> {
     /// What a command other than `serve` ends with.
     pub fn plain(alloc: Global, reported: Reported) -> Answered<A, I, O>
         ensures reported { report_of result ≡ reported }
-        ensures run { result.run ≡ None }
+        ensures runs { result.runs.items ≡ [] }
         ensures acceptors { result.acceptors.items ≡ [] }
     {
         Answered {
             status: reported.status,
             note: reported.note,
             piped: reported.piped,
-            run: None,
+            runs: List::new(alloc),
             acceptors: List::new(alloc),
         }
     }

@@ -82,7 +82,7 @@ fn answered_serve<A, I, O>(told: ServeTold<A, I, O>) -> Answered<A, I, O>
         status,
         note: told.note,
         piped: None,
-        run: told.run,
+        runs: told.runs,
         acceptors: told.acceptors,
     }
 }
@@ -127,11 +127,12 @@ fn carry_out<N: Net, F: Files, I: Source, O: Sink, R: Wait + Threads + Sync>(
 /// the status with its note. Options come in any order, as `--name value` or `--name=value`. `pipe` carries out the requests of its
 /// input while it reads them, by the built-in setup, and with `--config FILE` by the configuration of this name and the interfaces and
 /// scripts that it names, in groups of one, or with `--batch N` of up to N calls, and writes what is answered, or with `--history` the
-/// text of the run's history. `serve --config FILE --listen HOST:PORT` serves the configuration of this name at that address, and
-/// writes one line of summary when the run ends. `dump` writes a line for each message of the input, and `refs` writes the parts of
+/// text of the run's history, or with `--trace` its trace. `serve --config FILE --listen HOST:PORT` serves the configuration of this name
+/// at that address, in one run, or with `--runs N` in up to N, one after another; after each it writes one line of summary, and before
+/// that with `--trace` the run's trace. `dump` writes a line for each message of the input, and `refs` writes the parts of
 /// the reference that it is. `refs --at HOST:PORT` writes the reference of each object of the built-in setup at that address, and with
 /// `--config FILE` of each object of the configuration of this name. `idl --file FILE` lists what the IDL of the file declares. The
-/// other commands aren't built yet. It returns where each read and write returns, and `serve` where its run ends. The answers to
+/// other commands aren't built yet. It returns where each read and write returns, and `serve` where its runs end. The answers to
 /// `pipe` and `serve` have their runs, with the history.
 pub fn orb_main<N: Net, F: Files, I: Source, O: Sink, R: Wait + Threads + Sync>(
     rt: &R,
@@ -145,7 +146,7 @@ pub fn orb_main<N: Net, F: Files, I: Source, O: Sink, R: Wait + Threads + Sync>(
     // The status is that of the note, and each note has its cause, by what the words mean: 14 exactly where they are of a command that
     // isn't built; 3 only where the count of faults of the input or of the files rose, 4 only where that of the output did, and 5 only
     // where that of the net did; 8 and 13 of `dump`, and 8 of `refs`, exactly where the bytes that it took say so, and of `pipe` what
-    // its history and its bytes say; 2 and 10 exactly where the files say so. A run of `serve` is one legal history, whose summary is
+    // its history and its bytes say; 2 and 10 exactly where the files say so. Each run of `serve` is one legal history, whose lines are
     // written.
     ensures answers { Answers N.Acc.state N.In.state N.Out.state (command_of (map string_bytes words.now)) result
         (moment (F.state files.old) (I.state input.old) (O.state out.old))

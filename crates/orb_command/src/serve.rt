@@ -1,5 +1,5 @@
 //! The note of `orb serve`.
-ghost use Rattle.std.specs.Prelude.{◌≡◌, [], None};
+ghost use Rattle.std.specs.Prelude.{◌≡◌, []};
 ghost use Rattle.orb_command.specs.ServeAnswer as Spec;
 
 use crate::note::Note;
@@ -14,7 +14,7 @@ use std::alloc::Global;
 use std::sync::Wait;
 use std::thread::Threads;
 
-/// The note of a run of the server.
+/// The note of how the server came out.
 fn note_of_end(end: ServeEnd) -> Note
     ensures { result ≡ Spec.note_of_end end }
 {
@@ -26,24 +26,24 @@ fn note_of_end(end: ServeEnd) -> Note
     }
 }
 
-/// What the server came to: its note, its run, if there was one, and its acceptors.
+/// What the server came to: its note, its runs, and its acceptors.
 #[derive(Drop)]
 pub struct ServeTold<A, I, O> {
     pub note: Note,
-    pub run: Option<Run<I, O>>,
+    pub runs: List<Run<I, O>>,
     pub acceptors: List<A>,
 }
 
 impl<A, I, O> ServeTold<A, I, O> {
     /// Nothing was listened for.
-    fn without_run(alloc: Global, note: Note) -> ServeTold<A, I, O>
+    fn without_runs(alloc: Global, note: Note) -> ServeTold<A, I, O>
         ensures note { result.note ≡ note }
-        ensures run { result.run ≡ None }
+        ensures runs { result.runs.items ≡ [] }
         ensures acceptors { result.acceptors.items ≡ [] }
     {
         ServeTold {
             note,
-            run: None,
+            runs: List::new(alloc),
             acceptors: List::new(alloc),
         }
     }
@@ -51,18 +51,18 @@ impl<A, I, O> ServeTold<A, I, O> {
     /// The server came out so.
     fn of(served: Served<A, I, O>) -> ServeTold<A, I, O>
         ensures note { result.note ≡ Spec.note_of_end served.end }
-        ensures run { result.run ≡ served.run }
+        ensures runs { result.runs ≡ served.runs }
         ensures acceptors { result.acceptors ≡ served.acceptors }
     {
         ServeTold {
             note: note_of_end(served.end),
-            run: served.run,
+            runs: served.runs,
             acceptors: served.acceptors,
         }
     }
 }
 
-/// Runs the server of a setup over its servants.
+/// Serves a setup over its servants.
 #[tactic(auto, using(crate::proofs::ServeNotes::ran_so))]
 fn serve_broker<N: Net, O: Sink, R: Wait + Threads + Sync>(
     rt: &R,
@@ -82,12 +82,13 @@ fn serve_broker<N: Net, O: Sink, R: Wait + Threads + Sync>(
         &broker.setup,
         &broker.servants,
         &words.at,
+        &words.plan,
         out,
     ))
 }
 
-/// Runs the server of the configuration that the words name, at their address. The first fault in the order of work is the answer: of
-/// the setup and its servants, of the net, and then of the output.
+/// Serves the configuration that the words name, at their address and by their plan. The first fault in the order of work is the answer:
+/// of the setup and its servants, of the net, and then of the output.
 #[tactic(auto, using(crate::proofs::ServeNotes::by_none))]
 pub fn run_server<N: Net, F: Files, O: Sink, R: Wait + Threads + Sync>(
     rt: &R,
@@ -102,6 +103,6 @@ pub fn run_server<N: Net, F: Files, O: Sink, R: Wait + Threads + Sync>(
 {
     match read_broker(alloc, files, Some(&words.config)) {
         Ok(broker) => serve_broker(rt, alloc, net, &broker, words, out),
-        Err(end) => ServeTold::without_run(alloc, note_setup(end)),
+        Err(end) => ServeTold::without_runs(alloc, note_setup(end)),
     }
 }

@@ -19,7 +19,7 @@ returns-in-Pipe-clause-answers g c =
     (plain_answers g.N.Acc.Acceptor.state g.N.In.Source.state g.N.Out.Sink.state (Pipe c.in-Pipe.words) c.reported_pipe.result c.plain.result before after (g.N.Net.state c.args.net.now) tt
     (pipe_answers c.in-Pipe.words c.reported_pipe.result before after
     (rw (note, c.reported_pipe.ensures.piped) c.run_pipe.ensures) (c.reported_pipe.ensures.status ∙ ap status_of (sym note)))
-    c.plain.ensures.reported c.plain.ensures.run c.plain.ensures.acceptors)
+    c.plain.ensures.reported c.plain.ensures.runs c.plain.ensures.acceptors)
 
 pub returns-in-Serve-clause-answers : goal.returns-in-Serve-clause-answers
 returns-in-Serve-clause-answers g c =
@@ -40,7 +40,7 @@ returns-in-Dump-clause-answers g c =
     rw c.in-Dump.is
     (plain_answers g.N.Acc.Acceptor.state g.N.In.Source.state g.N.Out.Sink.state Dump c.reported.result c.plain-in-Dump.result before after (g.N.Net.state c.args.net.now) tt
     (dump_answers c.dump_run.result c.reported.result before after refl c.dump_run.ensures note status c.reported.ensures.piped)
-    c.plain-in-Dump.ensures.reported c.plain-in-Dump.ensures.run c.plain-in-Dump.ensures.acceptors)
+    c.plain-in-Dump.ensures.reported c.plain-in-Dump.ensures.runs c.plain-in-Dump.ensures.acceptors)
 
 pub returns-in-Refs-clause-answers : goal.returns-in-Refs-clause-answers
 returns-in-Refs-clause-answers g c =
@@ -51,7 +51,7 @@ returns-in-Refs-clause-answers g c =
     rw c.in-Refs.is
     (plain_answers g.N.Acc.Acceptor.state g.N.In.Source.state g.N.Out.Sink.state Refs c.reported-in-Refs.result c.plain-in-Refs.result before after (g.N.Net.state c.args.net.now) tt
     (refs_answers c.refs_run.result c.reported-in-Refs.result before after refl c.refs_run.ensures note status c.reported-in-Refs.ensures.piped)
-    c.plain-in-Refs.ensures.reported c.plain-in-Refs.ensures.run c.plain-in-Refs.ensures.acceptors)
+    c.plain-in-Refs.ensures.reported c.plain-in-Refs.ensures.runs c.plain-in-Refs.ensures.acceptors)
 
 pub returns-in-RefsAt-clause-answers : goal.returns-in-RefsAt-clause-answers
 returns-in-RefsAt-clause-answers g c =
@@ -63,7 +63,7 @@ returns-in-RefsAt-clause-answers g c =
     (plain_answers g.N.Acc.Acceptor.state g.N.In.Source.state g.N.Out.Sink.state (RefsAt c.in-RefsAt.at c.in-RefsAt.config) c.reported-in-RefsAt.result c.plain-in-RefsAt.result before after (g.N.Net.state c.args.net.now) tt
     (at_answers c.at_run.result c.in-RefsAt.at c.in-RefsAt.config c.reported-in-RefsAt.result before after
     refl (rw (sym c.as_ref.ensures.value) c.at_run.ensures) note status c.reported-in-RefsAt.ensures.piped)
-    c.plain-in-RefsAt.ensures.reported c.plain-in-RefsAt.ensures.run c.plain-in-RefsAt.ensures.acceptors)
+    c.plain-in-RefsAt.ensures.reported c.plain-in-RefsAt.ensures.runs c.plain-in-RefsAt.ensures.acceptors)
 
 pub returns-in-Idl-clause-answers : goal.returns-in-Idl-clause-answers
 returns-in-Idl-clause-answers g c =
@@ -75,7 +75,7 @@ returns-in-Idl-clause-answers g c =
     (plain_answers g.N.Acc.Acceptor.state g.N.In.Source.state g.N.Out.Sink.state (Idl c.in-Idl.name) c.reported-in-Idl.result c.plain-in-Idl.result before after (g.N.Net.state c.args.net.now) tt
     (idl_answers c.idl_run.result c.in-Idl.name c.reported-in-Idl.result before after
     refl c.idl_run.ensures.lists c.idl_run.ensures.only c.idl_run.ensures.exact note status c.reported-in-Idl.ensures.piped)
-    c.plain-in-Idl.ensures.reported c.plain-in-Idl.ensures.run c.plain-in-Idl.ensures.acceptors)
+    c.plain-in-Idl.ensures.reported c.plain-in-Idl.ensures.runs c.plain-in-Idl.ensures.acceptors)
 
 pub returns-in-Unbuilt-clause-answers : goal.returns-in-Unbuilt-clause-answers
 returns-in-Unbuilt-clause-answers g c =
@@ -83,7 +83,7 @@ returns-in-Unbuilt-clause-answers g c =
     rw c.in-Unbuilt.is
     (plain_answers g.N.Acc.Acceptor.state g.N.In.Source.state g.N.Out.Sink.state Unbuilt c.reported-in-Unbuilt.result c.plain-in-Unbuilt.result before before (g.N.Net.state c.args.net.now) tt
     (unbuilt_answers c.reported-in-Unbuilt.result before c.reported-in-Unbuilt.ensures.note c.reported-in-Unbuilt.ensures.status c.reported-in-Unbuilt.ensures.piped)
-    c.plain-in-Unbuilt.ensures.reported c.plain-in-Unbuilt.ensures.run c.plain-in-Unbuilt.ensures.acceptors)
+    c.plain-in-Unbuilt.ensures.reported c.plain-in-Unbuilt.ensures.runs c.plain-in-Unbuilt.ensures.acceptors)
 
 pub returns-in-Unread-clause-answers : goal.returns-in-Unread-clause-answers
 returns-in-Unread-clause-answers g c =
@@ -91,7 +91,7 @@ returns-in-Unread-clause-answers g c =
     rw c.in-Unread.is
     (plain_answers g.N.Acc.Acceptor.state g.N.In.Source.state g.N.Out.Sink.state Unread c.reported-in-Unread.result c.plain-in-Unread.result before before (g.N.Net.state c.args.net.now) tt
     (unread_answers c.reported-in-Unread.result before c.reported-in-Unread.ensures.note c.reported-in-Unread.ensures.status c.reported-in-Unread.ensures.piped)
-    c.plain-in-Unread.ensures.reported c.plain-in-Unread.ensures.run c.plain-in-Unread.ensures.acceptors)
+    c.plain-in-Unread.ensures.reported c.plain-in-Unread.ensures.runs c.plain-in-Unread.ensures.acceptors)
 
 pub returns-in-Pipe-clause-usage : goal.returns-in-Pipe-clause-usage
 returns-in-Pipe-clause-usage g c = λ e. let no : Pipe c.in-Pipe.words ≡ Unread = sym c.in-Pipe.is ∙ e in absurd (cc)
