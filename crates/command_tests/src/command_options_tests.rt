@@ -228,6 +228,43 @@ const SERVE_ROWS: &[Row] = &[
         &["--config=-c", "--listen=--"],
         Some(&[("config", Some("-c")), ("listen", Some("--"))]),
     ),
+    // The runs and the trace, together and alone.
+    (
+        &["--config", "c", "--listen", "h:1", "--runs", "3", "--trace"],
+        Some(&[
+            ("config", Some("c")),
+            ("listen", Some("h:1")),
+            ("runs", Some("3")),
+            ("trace", Some("true")),
+        ]),
+    ),
+    (
+        &["--trace", "--runs=3", "--listen=h:1", "--config=c"],
+        Some(&[
+            ("config", Some("c")),
+            ("listen", Some("h:1")),
+            ("runs", Some("3")),
+            ("trace", Some("true")),
+        ]),
+    ),
+    (
+        &["--runs=", "--config=c", "--listen=h:1"],
+        Some(&[("runs", Some("")), ("trace", None)]),
+    ),
+    (
+        &["--config=c", "--trace", "--listen=h:1"],
+        Some(&[("runs", None), ("trace", Some("true"))]),
+    ),
+    (&["--runs", "3", "--trace"], None),
+    (
+        &["--config=c", "--listen=h:1", "--runs=2", "--runs", "2"],
+        None,
+    ),
+    (&["--config=c", "--listen=h:1", "--runs"], None),
+    (&["--config=c", "--listen=h:1", "--runs", "-2"], None),
+    (&["--config=c", "--listen=h:1", "--trace", "--trace"], None),
+    (&["--config=c", "--listen=h:1", "--trace="], None),
+    (&["--config=c", "--listen=h:1", "--trace", "2"], None),
     // One is left out.
     (&["--config", "c"], None),
     (&["--config=c"], None),

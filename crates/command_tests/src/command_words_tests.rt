@@ -5,6 +5,7 @@ use command_words::*;
 use object_lines::Address;
 use orb_base::Text;
 use pipe_runs::Shown;
+use server_runs::RunPlan;
 use std::alloc::Global;
 
 /// What words mean.
@@ -12,8 +13,8 @@ use std::alloc::Global;
 enum Said {
     /// The configuration, the batch, and what is shown.
     Pipe(Option<&'static str>, u8, Shown),
-    /// The configuration, and the host and port.
-    Serve(&'static str, &'static str, u16),
+    /// The configuration, the host and port, how many runs, and whether they are traced.
+    Serve(&'static str, &'static str, u16, u8, bool),
     Dump,
     Refs,
     /// The host and port, and the configuration.
@@ -44,13 +45,19 @@ fn is_pipe(words: &PipeWords, config: Option<&str>, batch: u8, shown: Shown) -> 
     is_name(words.config.as_ref(), config) && words.batch.calls() == batch && words.shown == shown
 }
 
+fn is_plan(plan: &RunPlan, runs: u8, trace: bool) -> bool {
+    plan.runs.count() == runs && plan.trace == trace
+}
+
 fn is_said(meaning: &Meaning, want: Said) -> bool {
     match (meaning, want) {
         (Meaning::Pipe(words), Said::Pipe(config, batch, shown)) => {
             is_pipe(words, config, batch, shown)
         }
-        (Meaning::Serve(words), Said::Serve(config, host, port)) => {
-            is_text(&words.config, config) && is_place(&words.at, host, port)
+        (Meaning::Serve(words), Said::Serve(config, host, port, runs, trace)) => {
+            is_text(&words.config, config)
+                && is_place(&words.at, host, port)
+                && is_plan(&words.plan, runs, trace)
         }
         (Meaning::RefsAt(at, name), Said::RefsAt(host, port, config)) => {
             is_place(at, host, port) && is_name(name.as_ref(), config)
@@ -254,19 +261,19 @@ const SERVES: &[Row] = &[
     (&["serve"], Said::Unread),
     (
         &["serve", "--config", "c", "--listen", "h:1"],
-        Said::Serve("c", "h", 1),
+        Said::Serve("c", "h", 1, 1, false),
     ),
     (
         &["serve", "--config=c", "--listen=h:1"],
-        Said::Serve("c", "h", 1),
+        Said::Serve("c", "h", 1, 1, false),
     ),
     (
         &["serve", "--listen", "h:1", "--config", "c"],
-        Said::Serve("c", "h", 1),
+        Said::Serve("c", "h", 1, 1, false),
     ),
     (
         &["serve", "--listen=h:1", "--config", "c"],
-        Said::Serve("c", "h", 1),
+        Said::Serve("c", "h", 1, 1, false),
     ),
     // Each alone, which leaves out the other.
     (&["serve", "--config", "c"], Said::Unread),
@@ -286,7 +293,7 @@ const SERVES: &[Row] = &[
     (&["serve", "--config", "c", "--listen"], Said::Unread),
     (
         &["serve", "--config=", "--listen=h:1"],
-        Said::Serve("", "h", 1),
+        Said::Serve("", "h", 1, 1, false),
     ),
     (&["serve", "--config=c", "--listen="], Said::Unread),
     (
@@ -295,7 +302,7 @@ const SERVES: &[Row] = &[
     ),
     (
         &["serve", "--config=-c", "--listen=-h:1"],
-        Said::Serve("-c", "-h", 1),
+        Said::Serve("-c", "-h", 1, 1, false),
     ),
     (
         &["serve", "--config", "c", "--listen", "-h:1"],
@@ -308,7 +315,7 @@ const SERVES: &[Row] = &[
     (&["serve", "--config", "c", "--listen", "h:0"], Said::Unread),
     (
         &["serve", "--config", "c", "--listen", "h:65535"],
-        Said::Serve("c", "h", 65535),
+        Said::Serve("c", "h", 65535, 1, false),
     ),
     (
         &["serve", "--config", "c", "--listen", "h:65536"],
@@ -316,7 +323,7 @@ const SERVES: &[Row] = &[
     ),
     (
         &["serve", "--config", "c", "--listen", "h:0000000080"],
-        Said::Serve("c", "h", 80),
+        Said::Serve("c", "h", 80, 1, false),
     ),
     (
         &["serve", "--config", "c", "--listen=h:00000000080"],
@@ -333,6 +340,81 @@ const SERVES: &[Row] = &[
     ),
     (
         &["serve", "--config", "c", "--listen", "h: 1"],
+        Said::Unread,
+    ),
+    // The number of runs, and the trace.
+    (
+        &[
+            "serve", "--config", "c", "--listen", "h:1", "--runs", "3", "--trace",
+        ],
+        Said::Serve("c", "h", 1, 3, true),
+    ),
+    (
+        &["serve", "--trace", "--runs=3", "--listen=h:1", "--config=c"],
+        Said::Serve("c", "h", 1, 3, true),
+    ),
+    (
+        &["serve", "--config=c", "--listen=h:1", "--trace"],
+        Said::Serve("c", "h", 1, 1, true),
+    ),
+    (
+        &["serve", "--config=c", "--listen=h:1", "--runs", "1"],
+        Said::Serve("c", "h", 1, 1, false),
+    ),
+    (
+        &["serve", "--config=c", "--listen=h:1", "--runs", "16"],
+        Said::Serve("c", "h", 1, 16, false),
+    ),
+    (
+        &["serve", "--config=c", "--listen=h:1", "--runs=0000000016"],
+        Said::Serve("c", "h", 1, 16, false),
+    ),
+    (
+        &["serve", "--config=c", "--listen=h:1", "--runs=00000000016"],
+        Said::Unread,
+    ),
+    (
+        &["serve", "--config=c", "--listen=h:1", "--runs", "0"],
+        Said::Unread,
+    ),
+    (
+        &["serve", "--config=c", "--listen=h:1", "--runs", "17"],
+        Said::Unread,
+    ),
+    (
+        &["serve", "--config=c", "--listen=h:1", "--runs=65537"],
+        Said::Unread,
+    ),
+    (
+        &["serve", "--config=c", "--listen=h:1", "--runs=x"],
+        Said::Unread,
+    ),
+    (
+        &["serve", "--config=c", "--listen=h:1", "--runs="],
+        Said::Unread,
+    ),
+    (
+        &[
+            "serve",
+            "--config=c",
+            "--listen=h:1",
+            "--runs=2",
+            "--runs=2",
+        ],
+        Said::Unread,
+    ),
+    (
+        &["serve", "--config=c", "--listen=h:1", "--trace="],
+        Said::Unread,
+    ),
+    (
+        &[
+            "serve",
+            "--config=c",
+            "--listen=h:1",
+            "--trace",
+            "--history",
+        ],
         Said::Unread,
     ),
     // Words that the server does not take.

@@ -385,6 +385,96 @@ fn a_failed_write_touches_its_own_connection_alone(rt: HostRuntime) {
     assert!(&rt; holds(&rt, rt.alloc(), &WRITE_FAILS));
 }
 
+/// Two slots, to each of which the links of three runs come, one after another.
+const IN_TURN_SLOTS: &[Slot] = &[
+    Slot {
+        links: &[
+            Comes {
+                requests: &[(1, b"ping")],
+                failing: &[],
+            },
+            Comes {
+                requests: &[(1, b"ping")],
+                failing: &[],
+            },
+            Comes {
+                requests: &[(1, b"ping"), (2, b"ping")],
+                failing: &[1],
+            },
+        ],
+        most: 9,
+        failing: &[],
+    },
+    Slot {
+        links: &[
+            Comes {
+                requests: &[(2, b"ping")],
+                failing: &[],
+            },
+            Comes {
+                requests: &[(2, b"ping")],
+                failing: &[],
+            },
+            Comes {
+                requests: &[(3, b"ping"), (4, b"ping")],
+                failing: &[],
+            },
+        ],
+        most: 9,
+        failing: &[],
+    },
+];
+
+/// Runs over these slots, in turn: one whose gate holds nobody, one whose gate holds a request until the other was answered, and one
+/// in which a write fails after its connection's first reply.
+const IN_TURN: &[Row] = &[
+    Row {
+        slots: IN_TURN_SLOTS,
+        until: 1,
+        ..AT_ONCE
+    },
+    Row {
+        slots: IN_TURN_SLOTS,
+        ..AT_ONCE
+    },
+    Row {
+        slots: IN_TURN_SLOTS,
+        ..WRITE_FAILS
+    },
+];
+
+/// Whether runs over the same acceptors come out so, one after another.
+fn serve_in_turn<R: Wait + Threads + Sync>(
+    rt: &R,
+    alloc: Global,
+    setup: &Setup,
+    slots: &mut List<MemAcceptor>,
+    rows: &[Row],
+) -> bool {
+    for row in rows {
+        if !serves_held(rt, alloc, setup, slots, row) {
+            return false;
+        }
+    }
+    true
+}
+
+fn run_in_turn<R: Wait + Threads + Sync>(rt: &R, alloc: Global, rows: &[Row]) -> bool {
+    let mut slots = List::new(alloc);
+    match read_setup(alloc, PAIR) {
+        Ok(setup) => {
+            add_slots(alloc, &mut slots, IN_TURN_SLOTS)
+                && serve_in_turn(rt, alloc, &setup, &mut slots, rows)
+        }
+        Err(_) => false,
+    }
+}
+
+#[test]
+fn a_later_run_over_the_same_acceptors_is_as_the_first(rt: HostRuntime) {
+    assert!(&rt; run_in_turn(&rt, rt.alloc(), IN_TURN));
+}
+
 const AT_LIMIT: Row = Row {
     config: ONE_CALL,
     slots: &[Slot {

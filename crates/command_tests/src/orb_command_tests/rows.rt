@@ -4,6 +4,7 @@ use crate::text_streams_tests::devices::{list, puts_words, same, sink, source, s
 use orb_base::{List, MemAcceptor, MemFiles, MemLink, MemSink, MemSource, NoMemory};
 use orb_command::*;
 use orb_nets::{MemNet, MemSlot};
+use orb_server::Run;
 use std::alloc::Global;
 use std::collections::LinkedList;
 use std::sync::Wait;
@@ -23,10 +24,10 @@ pub enum Left {
     Entries(usize),
     /// No run of the server.
     NoServer,
-    /// A run of the server.
-    Server,
-    /// A run of the server, whose one acceptor had a client that was sent this.
-    Sent(&'static [u8]),
+    /// So many runs of the server.
+    Server(usize),
+    /// Runs of the server over one acceptor: for each what its first client was sent, and nothing where it had none.
+    Sent(&'static [&'static [u8]]),
 }
 
 /// One run: its words, what its devices hold and where they fail, and what comes of it. Reads and writes of a device are numbered from 0.
@@ -41,7 +42,9 @@ pub struct Row<'a> {
     pub blanks: usize,
     /// The reads of files that fail.
     pub failed_files: &'a [u64],
-    /// What the one client of the net sends.
+    /// How many clients come to the net's one slot, one after another.
+    pub clients: usize,
+    /// What each of them sends.
     pub sent: &'a [u8],
     /// The calls of the net that fail.
     pub failed_calls: &'a [u64],
@@ -68,6 +71,7 @@ pub const EMPTY: Row<'static> = Row {
     files: &[],
     blanks: 0,
     failed_files: &[],
+    clients: 1,
     sent: &[],
     failed_calls: &[],
     input: &[],
@@ -89,20 +93,22 @@ fn client(alloc: Global, sent: &[u8]) -> Result<MemLink, NoMemory> {
     Ok(MemLink::new(sent, got))
 }
 
-/// A slot at which one client comes.
-fn slot(alloc: Global, sent: &[u8]) -> Result<MemSlot, NoMemory> {
+/// A slot at which so many clients come.
+fn slot(alloc: Global, clients: usize, sent: &[u8]) -> Result<MemSlot, NoMemory> {
     let mut links = LinkedList::new(alloc);
-    links.push_back(client(alloc, sent)?)?;
+    for _ in 0..clients {
+        links.push_back(client(alloc, sent)?)?;
+    }
     Ok(MemSlot {
         links,
         failing: List::new(alloc),
     })
 }
 
-/// A net of one slot, at which a row's one client comes.
+/// A net of one slot, at which a row's clients come.
 fn net(alloc: Global, row: &Row<'_>) -> Result<MemNet, NoMemory> {
     let mut slots = LinkedList::new(alloc);
-    slots.push_back(slot(alloc, row.sent)?)?;
+    slots.push_back(slot(alloc, row.clients, row.sent)?)?;
     let failing = list(alloc, row.failed_calls)?;
     Ok(MemNet::new(alloc, slots, LinkedList::new(alloc), failing))
 }
@@ -149,15 +155,28 @@ fn is_noted(alloc: Global, note: &Note, want: &str) -> bool {
     }
 }
 
-/// Whether one acceptor had a client, and this was sent to it.
-fn is_sent(told: &Told, want: &[u8]) -> bool {
-    match &told.run {
-        Some(run) => match run.conns.get(0) {
-            Some(log) => told.acceptors.len() == 1 && same(log.sink.held(), want),
-            None => false,
-        },
-        None => false,
+/// Whether this was sent to the first client of a run; nothing where there was none.
+fn is_first_sent(run: &Run<MemSource, MemSink>, want: &[u8]) -> bool {
+    match run.conns.get(0) {
+        Some(log) => same(log.sink.held(), want),
+        None => want.is_empty(),
     }
+}
+
+fn are_first_sent(runs: &[Run<MemSource, MemSink>], want: &[&[u8]]) -> bool {
+    let mut left = want;
+    for run in runs {
+        match left.split_first() {
+            Some((first, rest)) if is_first_sent(run, *first) => left = rest,
+            _ => return false,
+        }
+    }
+    left.is_empty()
+}
+
+/// Whether there are so many runs over one acceptor, and this was sent to the first client of each.
+fn is_sent(told: &Told, want: &[&[u8]]) -> bool {
+    told.acceptors.len() == 1 && are_first_sent(told.runs.as_slice(), want)
 }
 
 fn is_left(told: &Told, want: Left) -> bool {
@@ -168,9 +187,9 @@ fn is_left(told: &Told, want: Left) -> bool {
             Some(piped) => piped.history.len() == entries,
             None => false,
         },
-        Left::NoServer => told.run.is_none(),
-        Left::Server => told.run.is_some(),
-        Left::Sent(bytes) => is_sent(told, bytes),
+        Left::NoServer => told.runs.is_empty(),
+        Left::Server(runs) => told.runs.len() == runs,
+        Left::Sent(want) => is_sent(told, want),
     }
 }
 

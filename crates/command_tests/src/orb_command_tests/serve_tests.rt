@@ -14,6 +14,17 @@ const REPLY: &[u8] = b"GIOP\x01\x02\0\x01\0\0\0\x0e\0\0\0\x01\0\0\0\0\0\0\0\0\0\
 
 const LINE: &[u8] = b"calls 1 run 1 lent 0 kept 0 full 0 removed 0 connections 1\n";
 
+const TWICE: &[u8] =
+    b"calls 1 run 1 lent 0 kept 0 full 0 removed 0 connections 1\ncalls 1 run 1 lent 0 kept 0 full 0 removed 0 connections 1\n";
+
+/// The line of a run that serves, and that of one to which no client comes.
+const ALONE: &[u8] =
+    b"calls 1 run 1 lent 0 kept 0 full 0 removed 0 connections 1\ncalls 0 run 0 lent 0 kept 0 full 0 removed 0 connections 0\n";
+
+/// The trace of a run to which no client comes, and its line.
+const TRACE: &[u8] =
+    b"pool 0 0 1 2 1024 65536 67108864 1 1\nlane 100 1 0\n1 leave 0\n2 take 0 ended\nentries 2\ncalls 0 run 0 lent 0 kept 0 full 0 removed 0 connections 0\n";
+
 /// The server by the configuration `c`, whose one client sends the ping.
 const SERVED: Row<'static> = Row {
     story: "a run",
@@ -21,7 +32,7 @@ const SERVED: Row<'static> = Row {
     files: &[("c", ONE)],
     sent: PING,
     output: LINE,
-    left: Left::Sent(REPLY),
+    left: Left::Sent(&[REPLY]),
     ..EMPTY
 };
 
@@ -47,7 +58,73 @@ const ROWS: &[Row<'static>] = &[
         status: 4,
         note: "WriteFault",
         output: &[],
-        left: Left::Server,
+        left: Left::Server(1),
+        ..SERVED
+    },
+    Row {
+        story: "two runs for two clients",
+        words: &["serve", "--config", "c", "--listen", "h:7", "--runs", "2"],
+        clients: 2,
+        output: TWICE,
+        left: Left::Sent(&[REPLY, REPLY]),
+        ..SERVED
+    },
+    Row {
+        story: "one run for two clients",
+        clients: 2,
+        ..SERVED
+    },
+    Row {
+        story: "one client of three runs: none follows the one that found no link",
+        words: &["serve", "--runs=3", "--config", "c", "--listen", "h:7"],
+        output: ALONE,
+        left: Left::Sent(&[REPLY, b""]),
+        ..SERVED
+    },
+    Row {
+        story: "a second summary that can't be written",
+        words: &["serve", "--config", "c", "--listen", "h:7", "--runs", "3"],
+        clients: 3,
+        failed_writes: &[1],
+        status: 4,
+        note: "WriteFault",
+        left: Left::Sent(&[REPLY, REPLY]),
+        ..SERVED
+    },
+    Row {
+        story: "the trace of a run",
+        words: &["serve", "--config", "c", "--listen", "h:7", "--trace"],
+        clients: 0,
+        output: TRACE,
+        left: Left::Sent(&[b""]),
+        ..SERVED
+    },
+    Row {
+        story: "a trace that can't be written",
+        words: &["serve", "--trace", "--config", "c", "--listen", "h:7"],
+        failed_writes: &[0],
+        status: 4,
+        note: "WriteFault",
+        output: &[],
+        ..SERVED
+    },
+    Row {
+        story: "a net that refuses several runs",
+        words: &["serve", "--config", "c", "--listen", "h:7", "--runs", "2"],
+        failed_calls: &[0],
+        status: 5,
+        note: "NetFault",
+        output: &[],
+        left: Left::NoServer,
+        ..SERVED
+    },
+    Row {
+        story: "more runs than there may be",
+        words: &["serve", "--config", "c", "--listen", "h:7", "--runs", "17"],
+        status: 1,
+        note: "Usage",
+        output: &[],
+        left: Left::NoServer,
         ..SERVED
     },
     Row {
