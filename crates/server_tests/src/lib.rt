@@ -4,6 +4,8 @@
 #[cfg(test)]
 mod conn_sides_tests;
 #[cfg(test)]
+mod hostile_runs_tests;
+#[cfg(test)]
 mod link_slots_tests;
 #[cfg(test)]
 mod orb_nets_tests;
