@@ -3,6 +3,7 @@ mod at_tests;
 mod config_tests;
 mod hostile_tests;
 mod lane_tests;
+mod lies_tests;
 mod rows;
 mod script_tests;
 mod serve_tests;
