@@ -245,7 +245,9 @@ fn put_letters(bytes: &mut Octets, count: u32) -> bool {
 fn put_request(bytes: &mut Octets, flags: u8, letters: u32) -> bool {
     bytes.append(b"GIOP\x01\x02").is_ok()
         && bytes.append(&[flags, 0]).is_ok()
-        && bytes.append(&letters.wrapping_add(36).to_be_bytes()).is_ok()
+        && bytes
+            .append(&letters.wrapping_add(36).to_be_bytes())
+            .is_ok()
         && bytes
             .append(b"\0\0\0\x01\0\0\0\0\0\0\0\0\0\0\0\x01x\0\0\0\0\0\0\x08current\0\0\0\0\0")
             .is_ok()
@@ -364,11 +366,7 @@ fn is_so<R: Wait + Threads + Sync>(rt: &R, alloc: Global, long: &Long) -> bool {
 }
 
 /// The story of the first of these that isn't so, or nothing.
-fn first_other<R: Wait + Threads + Sync>(
-    rt: &R,
-    alloc: Global,
-    all: &[Long],
-) -> &'static str {
+fn first_other<R: Wait + Threads + Sync>(rt: &R, alloc: Global, all: &[Long]) -> &'static str {
     for long in all {
         if !is_so(rt, alloc, long) {
             return long.row.story;
