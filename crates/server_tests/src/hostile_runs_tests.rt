@@ -305,14 +305,12 @@ fn have_left(
     history: &[Entry<Lanes>],
     want: &[Left<'_>],
 ) -> bool {
-    let mut left = want;
-    for log in conns {
-        match left.split_first() {
-            Some((first, rest)) if has_left(log, history, first) => left = rest,
-            _ => return false,
+    for (nth, log) in conns.iter().enumerate() {
+        if nth >= want.len() || !has_left(log, history, &want[nth]) {
+            return false;
         }
     }
-    left.is_empty()
+    conns.len() == want.len()
 }
 
 /// Whether a run leaves this, and each of its slots left.
@@ -497,60 +495,167 @@ const BOTH_READ: Left<'static> = Left {
     ..NONE_READ
 };
 
-/// The read of the first connection that fails, what that connection leaves, and how many requests are finished. The first request ends in
-/// the fourth read, at 60 bytes, and the second in the eighth, at 120; the ninth would be the end.
-const FAILED_READS: &[(&[u64], Left<'static>, u32)] = &[
-    (&[0], NONE_READ, 2),
-    (&[1], NONE_READ, 2),
-    (&[2], NONE_READ, 2),
-    (&[3], NONE_READ, 2),
-    (&[4], ONE_READ, 3),
-    (&[5], ONE_READ, 3),
-    (&[6], ONE_READ, 3),
-    (&[7], ONE_READ, 3),
-    (&[8], BOTH_READ, 4),
+const BOTH_SERVED: &[SlotEnd] = &[SlotEnd::Served, SlotEnd::Served];
+
+/// What a run leaves of whose first connection no request was read, one or both, and whose second is whole.
+const NONE_CAME: &[Came<'static>] = &[Came {
+    conns: &[NONE_READ, WHOLE],
+    finished: 2,
+    ends: BOTH_SERVED,
+}];
+
+const ONE_CAME: &[Came<'static>] = &[Came {
+    conns: &[ONE_READ, WHOLE],
+    finished: 3,
+    ends: BOTH_SERVED,
+}];
+
+const BOTH_CAME: &[Came<'static>] = &[Came {
+    conns: &[BOTH_READ, WHOLE],
+    finished: 4,
+    ends: BOTH_SERVED,
+}];
+
+/// The slot of the second connection.
+const SECOND: Slot<'static> = Slot {
+    links: &[TWO_CUT],
+    failing: &[],
+};
+
+/// Each read of the first connection fails in turn. The first request ends in the fourth read, at 60 bytes, and the second in the eighth,
+/// at 120; the ninth would be the end.
+const FAILED_READS: &[Row<'static>] = &[
+    Row {
+        config: DAY_PAIR,
+        slots: &[
+            Slot {
+                links: &[Comes {
+                    reads: &[0],
+                    ..TWO_CUT
+                }],
+                failing: &[],
+            },
+            SECOND,
+        ],
+        came: NONE_CAME,
+    },
+    Row {
+        config: DAY_PAIR,
+        slots: &[
+            Slot {
+                links: &[Comes {
+                    reads: &[1],
+                    ..TWO_CUT
+                }],
+                failing: &[],
+            },
+            SECOND,
+        ],
+        came: NONE_CAME,
+    },
+    Row {
+        config: DAY_PAIR,
+        slots: &[
+            Slot {
+                links: &[Comes {
+                    reads: &[2],
+                    ..TWO_CUT
+                }],
+                failing: &[],
+            },
+            SECOND,
+        ],
+        came: NONE_CAME,
+    },
+    Row {
+        config: DAY_PAIR,
+        slots: &[
+            Slot {
+                links: &[Comes {
+                    reads: &[3],
+                    ..TWO_CUT
+                }],
+                failing: &[],
+            },
+            SECOND,
+        ],
+        came: NONE_CAME,
+    },
+    Row {
+        config: DAY_PAIR,
+        slots: &[
+            Slot {
+                links: &[Comes {
+                    reads: &[4],
+                    ..TWO_CUT
+                }],
+                failing: &[],
+            },
+            SECOND,
+        ],
+        came: ONE_CAME,
+    },
+    Row {
+        config: DAY_PAIR,
+        slots: &[
+            Slot {
+                links: &[Comes {
+                    reads: &[5],
+                    ..TWO_CUT
+                }],
+                failing: &[],
+            },
+            SECOND,
+        ],
+        came: ONE_CAME,
+    },
+    Row {
+        config: DAY_PAIR,
+        slots: &[
+            Slot {
+                links: &[Comes {
+                    reads: &[6],
+                    ..TWO_CUT
+                }],
+                failing: &[],
+            },
+            SECOND,
+        ],
+        came: ONE_CAME,
+    },
+    Row {
+        config: DAY_PAIR,
+        slots: &[
+            Slot {
+                links: &[Comes {
+                    reads: &[7],
+                    ..TWO_CUT
+                }],
+                failing: &[],
+            },
+            SECOND,
+        ],
+        came: ONE_CAME,
+    },
+    Row {
+        config: DAY_PAIR,
+        slots: &[
+            Slot {
+                links: &[Comes {
+                    reads: &[8],
+                    ..TWO_CUT
+                }],
+                failing: &[],
+            },
+            SECOND,
+        ],
+        came: BOTH_CAME,
+    },
 ];
-
-fn fails_alone<R: Wait + Threads + Sync>(
-    rt: &R,
-    alloc: Global,
-    reads: &[u64],
-    left: Left<'_>,
-    finished: u32,
-) -> bool {
-    let first = [Comes { reads, ..TWO_CUT }];
-    let second = [TWO_CUT];
-    let slots = [
-        Slot {
-            links: &first,
-            failing: &[],
-        },
-        Slot {
-            links: &second,
-            failing: &[],
-        },
-    ];
-    let conns = [left, WHOLE];
-    let came = [Came {
-        conns: &conns,
-        finished,
-        ends: &[SlotEnd::Served, SlotEnd::Served],
-    }];
-    leaves(rt, alloc, DAY_PAIR, &slots, Wanted::OneOf(&came))
-}
-
-fn each_fails_alone<R: Wait + Threads + Sync>(rt: &R, alloc: Global) -> bool {
-    for (reads, left, finished) in FAILED_READS {
-        if !fails_alone(rt, alloc, reads, *left, *finished) {
-            return false;
-        }
-    }
-    true
-}
 
 #[test]
 fn a_failed_read_ends_its_own_connection_alone(rt: HostRuntime) {
-    assert!(&rt; each_fails_alone(&rt, rt.alloc()));
+    assert!(&rt; all_hold(&rt, rt.alloc(), FAILED_READS));
 }
 
 /// A slot to which this link comes.

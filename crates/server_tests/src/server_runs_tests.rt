@@ -190,14 +190,12 @@ fn is_made(run: &Run<MemSource, MemSink>, made: Made) -> bool {
 }
 
 fn are_made(runs: &[Run<MemSource, MemSink>], made: &[Made]) -> bool {
-    let mut left = made;
-    for run in runs {
-        match left.split_first() {
-            Some((first, rest)) if is_made(run, *first) => left = rest,
-            _ => return false,
+    for (nth, run) in runs.iter().enumerate() {
+        if nth >= made.len() || !is_made(run, made[nth]) {
+            return false;
         }
     }
-    left.is_empty()
+    runs.len() == made.len()
 }
 
 fn comes_out(served: &Served<MemAcceptor, MemSource, MemSink>, row: &Row) -> bool {
