@@ -164,14 +164,12 @@ fn is_first_sent(run: &Run<MemSource, MemSink>, want: &[u8]) -> bool {
 }
 
 fn are_first_sent(runs: &[Run<MemSource, MemSink>], want: &[&[u8]]) -> bool {
-    let mut left = want;
-    for run in runs {
-        match left.split_first() {
-            Some((first, rest)) if is_first_sent(run, *first) => left = rest,
-            _ => return false,
+    for (nth, run) in runs.iter().enumerate() {
+        if nth >= want.len() || !is_first_sent(run, want[nth]) {
+            return false;
         }
     }
-    left.is_empty()
+    runs.len() == want.len()
 }
 
 /// Whether there are so many runs over one acceptor, and this was sent to the first client of each.
