@@ -2,7 +2,7 @@
 //!
 //! `specs/` has the rules as they are published, each below its line; the statics here are the same rules, and reading
 //! goes by them. One token tells the rules apart, so that the laws of `grammar` hold for them. What is done along a rule
-//! is told by labels, whose meaning is in the crate of names.
+//! is said by labels, whose meaning is in the crate of names.
 #![tactic(auto)]
 
 mod fault;

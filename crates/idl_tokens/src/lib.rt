@@ -1,6 +1,6 @@
 //! Texts of IDL and of servant scripts as tokens, each with its place: CORBA 3.0.3, section 3.2.
 //!
-//! A text is cut from left to right. What is at a place is told by the byte there and those after it, and a
+//! A text is cut from left to right. What is at a place is decided by the byte there and those after it, and a
 //! table has the words and one the marks of each language. Contracts see a token as its kind, its bytes, its line
 //! and its column, and what is left of a text's tokens as a stream with the end after it.
 #![tactic(auto)]

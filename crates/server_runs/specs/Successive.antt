@@ -33,7 +33,7 @@ module _ {A I O : Type 0} (state : A → AcceptorState I O) (source : I → Sour
     AllHold [] = Unit {0}
     AllHold (run ∷ runs) = Holds run × AllHold runs
 
-  -- in a run the slot of this number served its connections on these links, in order, and its acceptor stood like this before and behind it
+  -- in a run the slot of this number served its connections on these links, in order, and its acceptor was in these states before and after it
   pub record TakesIn (slot : ℕ) (run : Run I O) (links : List (I × O)) (before behind : A) : Type 0 where
     pub it : Slot A I O
     pub from : it.before ≡ before
