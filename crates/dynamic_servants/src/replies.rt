@@ -16,7 +16,7 @@ use cdr_core::Writer;
 use cdr_values::IdlValue;
 use idl_types::{Exception, Operation, Repository};
 use orb_base::{Order, Outcome, SharedOctets, Text};
-use script_values::{Flow, Limit, Stop};
+use script_values::{Flow, Limit, Stop, slot};
 use std::alloc::Global;
 
 /// Where the body of a reply begins, its header being 24 bytes.
@@ -117,10 +117,14 @@ pub(crate) fn end_with(
     order: Order,
     alloc: Global,
 ) -> Result<Outcome, Stop>
-    ensures { Gives (λ o. o) result (Spec.ended (things_of repository.now) (operation_of operation.now) order (end_of flow, values_view slots.now)) }
+    ensures { Gives (λ o. o) result (Spec.ended (things_of repository.now) (operation_of operation.now) order (end_of (values_view slots.now) flow, values_view slots.now)) }
 {
     match flow {
         Flow::Returned(value) => returned(operation, Some(&value), slots, order, alloc),
+        Flow::Lent(at) => {
+            let value = slot(slots, at);
+            returned(operation, Some(value.get()), slots, order, alloc)
+        }
         Flow::Next => returned(operation, None, slots, order, alloc),
         Flow::Left => returned(operation, None, slots, order, alloc),
         Flow::Raised(at, value) => {

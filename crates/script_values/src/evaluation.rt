@@ -1,10 +1,10 @@
 //! Values of expressions.
-ghost use Rattle.std.specs.Prelude.{◌≡◌, List, IfOk};
+ghost use Rattle.std.specs.Prelude.{◌≡◌, List, IfOk, IfSome};
 ghost use Rattle.cdr_values.specs.Values.{value_of, values_view};
 ghost use Rattle.idl_types.specs.Things.{Thing};
 ghost use Rattle.idl_types.specs.Contents.{things_of};
 ghost use Rattle.idl_types.specs.References.{kind_at};
-ghost use Rattle.script_values.specs.Trees.{literal, unary, binary, build, terms_of, spine, joint};
+ghost use Rattle.script_values.specs.Trees.{slot as variable, literal, unary, binary, build, terms_of, spine, joint};
 ghost use Rattle.script_values.specs.Evaluation.{value_at, filled, fit_in, fits_in, blanks_of, truth_from};
 ghost use Rattle.script_values.specs.Gives.{Gives};
 ghost use Rattle.script_values.specs.Views.{seen_of, term_of, first_of, joint_of, joints_view, parts_view};
@@ -180,12 +180,23 @@ pub fn eval<'a>(
     )
 }
 
-fn is_due(value: &IdlValue, due: TypeRef, repository: &Repository) -> bool
+pub fn is_due(value: &IdlValue, due: TypeRef, repository: &Repository) -> bool
     ensures { result ≡ fits_in (kind_at (things_of repository.now) due) (value_of value.now) }
 {
     match repository.type_at(due) {
         Some(kind) => fits(kind, value),
         None => false,
+    }
+}
+
+/// The slot of an expression that is a variable.
+#[tactic(auto, using(crate::proofs::Lending::no_links))]
+pub fn variable_of(expr: &Expr) -> Option<usize>
+    ensures { IfSome result (λ at. (ts : List Thing) → term_of ts expr.now ≡ variable at) }
+{
+    match &expr.form {
+        Form::Slot(at) if expr.links.is_empty() => Some(*at),
+        _ => None,
     }
 }
 

@@ -19,4 +19,5 @@ pub use evaluation::{eval, fill};
 pub use limit::{Limit, Stop};
 pub use running::{Flow, run};
 pub use seen::Seen;
+pub use slots::slot;
 pub use tree::{Element, Expr, Form, Link, Stmt};

@@ -1,20 +1,21 @@
 //! Blocks.
-ghost use Rattle.std.specs.Prelude.{◌≡◌};
+ghost use Rattle.std.specs.Prelude.{◌≡◌, Ok};
 ghost use Rattle.idl_types.specs.Contents.{things_of};
 ghost use Rattle.idl_types.specs.References.{kind_at};
 ghost use Rattle.cdr_values.specs.Values.{values_view};
 ghost use Rattle.script_values.specs.Trees.{let_be, set, give, raise, steps_of, terms_of};
-ghost use Rattle.script_values.specs.Evaluation.{value_at};
+ghost use Rattle.script_values.specs.Operations.{member_at};
+ghost use Rattle.script_values.specs.Evaluation.{value_at, fit_in};
 ghost use Rattle.script_values.specs.Running.{run, run_one};
 ghost use Rattle.script_values.specs.Gives.{Tells};
-ghost use Rattle.script_values.specs.Ends.{Runs};
+ghost use Rattle.script_values.specs.Ends.{Runs, Lends};
 ghost use Rattle.script_values.specs.Views.{term_of, parts_view, step_of, steps_view};
 
-use crate::evaluation::{eval, eval_fit, fill};
+use crate::evaluation::{eval, eval_fit, fill, is_due, variable_of};
 use crate::leaves::fit_size;
 use crate::operations::truth_of;
-use crate::slots::put;
-use crate::{Element, Expr, Stmt, Stop};
+use crate::slots::{put, slot};
+use crate::{Element, Expr, Limit, Stmt, Stop};
 use cdr_values::IdlValue;
 use idl_types::{Repository, TypeRef};
 use orb_base::Priority;
@@ -27,6 +28,8 @@ pub enum Flow {
     Next,
     /// With a value.
     Returned(IdlValue),
+    /// With the value of the variable in this slot, which isn't copied.
+    Lent(usize),
     /// Without one.
     Left,
     /// With the exception at an index of the operation's, and its members.
@@ -66,6 +69,22 @@ fn run_set(
     Ok(Flow::Next)
 }
 
+/// Returns the variable in a slot, where its value fits the type.
+fn run_lend(
+    at: usize,
+    due: TypeRef,
+    repository: &Repository,
+    slots: &[IdlValue],
+) -> Result<Flow, Stop>
+    ensures { Lends result (values_view slots.now) (fit_in (kind_at (things_of repository.now) due) (Ok (member_at (values_view slots.now) at))) }
+{
+    if is_due(slot(slots, at).get(), due, repository) {
+        Ok(Flow::Lent(at))
+    } else {
+        Err(Stop::Limit(Limit::Misfit))
+    }
+}
+
 #[tactic(auto, unfolding(crate::specs::Running::run_one))]
 fn run_return(
     due: TypeRef,
@@ -77,7 +96,17 @@ fn run_return(
 ) -> Result<Flow, Stop>
     ensures { Runs result (values_view slots.new.items) (run_one priority (give (kind_at (things_of repository.now) due) (term_of (things_of repository.now) expr.now)) (values_view slots.old.items)) }
 {
-    Ok(Flow::Returned(eval_fit(expr, due, repository, alloc, priority, slots.as_slice())?))
+    match variable_of(expr) {
+        Some(at) => run_lend(at, due, repository, slots.as_slice()),
+        None => Ok(Flow::Returned(eval_fit(
+            expr,
+            due,
+            repository,
+            alloc,
+            priority,
+            slots.as_slice(),
+        )?)),
+    }
 }
 
 #[tactic(auto, unfolding(crate::specs::Running::run_one))]
@@ -136,7 +165,8 @@ fn run_stmt(
 }
 
 /// Runs a block on the variables up to its first `return`, `raise` or limit. At a limit or out of memory nothing is said of
-/// what `slots` hold. A `let` or `set` of a value that is in another variable copies it.
+/// what `slots` hold. A `let` or `set` of a value that is in another variable copies it, and a
+/// `return` of a variable copies nothing.
 #[cycle(run)]
 #[tactic(auto, unfolding(crate::specs::Running::run))]
 pub fn run(

@@ -10,9 +10,10 @@ use script_values::*;
 use std::alloc::Global;
 use std::test::*;
 
-/// How a block ended, with the number that it gave.
+/// How a block ended, with the number that it gave, or lent.
 enum Ended {
     Returned(i128),
+    Lent(i128),
     Left,
     Raised(u32, i128),
 }
@@ -44,10 +45,14 @@ fn in_slot(slots: &[IdlValue], at: usize) -> i128 {
     }
 }
 
-fn is_end(flow: &Flow, want: &Ended) -> bool {
+fn is_end(flow: &Flow, slots: &[IdlValue], want: &Ended) -> bool {
     match want {
         Ended::Returned(n) => match flow {
             Flow::Returned(value) => number_in(value) == *n,
+            _ => false,
+        },
+        Ended::Lent(n) => match flow {
+            Flow::Lent(at) => in_slot(slots, *at) == *n,
             _ => false,
         },
         Ended::Left => match flow {
@@ -91,7 +96,7 @@ fn are_slots(slots: &[IdlValue], want: (i128, i128)) -> bool {
 
 fn is_story(flow: &Flow, slots: &[IdlValue], want: &Told) -> bool {
     match want {
-        Ok(story) => is_end(flow, &story.end) && are_slots(slots, story.slots),
+        Ok(story) => is_end(flow, slots, &story.end) && are_slots(slots, story.slots),
         Err(_) => false,
     }
 }
@@ -164,6 +169,17 @@ const RETURNED: Told = Ok(Story {
     slots: (6, 6),
 });
 
+/// `return` of a variable.
+fn a_variable(alloc: Global, slot: usize) -> Result<Vec<Stmt>, NoMemory> {
+    one(alloc, Stmt::Return(SHORT, first(alloc, Form::Slot(slot))))
+}
+
+/// A variable that is returned stays where it is.
+const LENT: Told = Ok(Story {
+    end: Ended::Lent(5),
+    slots: (5, -1_000),
+});
+
 /// `raise` of the second exception with the member `a`.
 fn a_raise(alloc: Global) -> Result<Vec<Stmt>, NoMemory> {
     let member = Element {
@@ -210,6 +226,8 @@ const MISFIT: Told = Err(Stop::Limit(Limit::Misfit));
 
 fn all_end(alloc: Global) -> bool {
     ends(alloc, a_return(alloc), &RETURNED)
+        && ends(alloc, a_variable(alloc, 0), &LENT)
+        && ends(alloc, a_variable(alloc, 1), &MISFIT)
         && ends(alloc, a_choice(alloc, 6), &RAISED)
         && ends(alloc, a_choice(alloc, 5), &LEFT)
         && ends(alloc, a_misfit(alloc), &MISFIT)
