@@ -1,6 +1,6 @@
 //! The arguments and results of operations as JSON, by hand.
 
-use cdr_values::IdlType;
+use cdr_values::{IdlType, IdlValue};
 use idl_types::{Operation, Param, Way};
 use orb_base::{List, Text};
 use std::alloc::Global;
@@ -154,18 +154,38 @@ fn backs(alloc: Global, rows: &[(Way, One)], gives: Option<One>) -> Option<List<
     Some(list)
 }
 
-fn is_told(alloc: Global, row: &Told) -> Option<bool> {
-    let (rows, gives, text, want) = row;
-    let params = backs(alloc, rows, *gives)?;
-    let values = arguments_from(alloc, params.as_slice(), text).ok()?;
-    let operation = named_operation(alloc, b"op", rows, *gives)?;
-    let printed = results_json(alloc, &operation, values.as_slice()).ok()?;
-    Some(printed.as_str() == *want)
+fn is_shown(alloc: Global, operation: &Operation, values: &[IdlValue], want: &str) -> bool {
+    match results_json(alloc, operation, values) {
+        Ok(printed) => printed.as_str() == want,
+        Err(_) => false,
+    }
+}
+
+fn are_shown(alloc: Global, row: &Told, values: &[IdlValue]) -> bool {
+    let (rows, gives, _, want) = row;
+    match named_operation(alloc, b"op", rows, *gives) {
+        Some(operation) => is_shown(alloc, &operation, values, want),
+        None => false,
+    }
+}
+
+fn comes_back(alloc: Global, row: &Told, params: &[Param]) -> bool {
+    match arguments_from(alloc, params, row.2) {
+        Ok(values) => are_shown(alloc, row, values.as_slice()),
+        Err(_) => false,
+    }
+}
+
+fn is_told(alloc: Global, row: &Told) -> bool {
+    match backs(alloc, row.0, row.1) {
+        Some(params) => comes_back(alloc, row, params.as_slice()),
+        None => false,
+    }
 }
 
 fn all_are_told(alloc: Global, rows: &[Told]) -> bool {
     for row in rows {
-        if is_told(alloc, row) != Some(true) {
+        if !is_told(alloc, row) {
             return false;
         }
     }

@@ -1,5 +1,5 @@
 //! JSON of values, written by hand from the table of types.
-use cdr_values::{Case, IdlType, Member};
+use cdr_values::{Case, IdlType, IdlValue, Member};
 use orb_base::{List, Text};
 use serde_json::Value;
 use std::alloc::Global;
@@ -133,19 +133,39 @@ fn kind_made(alloc: Global, of: &Kind) -> Option<IdlType> {
     }
 }
 
-/// What is printed of the value that a text of a type means.
-fn printed(alloc: Global, of: &Kind, text: &str) -> Option<String> {
-    let kind = kind_made(alloc, of)?;
-    let json = Value::from_str(alloc, text).ok()?;
-    let value = from_json(alloc, &kind, &json).ok()?;
-    let json = to_json(alloc, &kind, &value).ok()?;
-    json.to_string(alloc).ok()
+fn is_text(alloc: Global, json: &Value, want: &str) -> bool {
+    match json.to_string(alloc) {
+        Ok(text) => text.as_str() == want,
+        Err(_) => false,
+    }
+}
+
+fn is_printed(alloc: Global, kind: &IdlType, value: &IdlValue, want: &str) -> bool {
+    match to_json(alloc, kind, value) {
+        Ok(json) => is_text(alloc, &json, want),
+        Err(_) => false,
+    }
+}
+
+fn means(alloc: Global, kind: &IdlType, json: &Value, want: &str) -> bool {
+    match from_json(alloc, kind, json) {
+        Ok(value) => is_printed(alloc, kind, &value, want),
+        Err(_) => false,
+    }
+}
+
+/// Whether this is printed of the value that a text of a type means.
+fn reads(alloc: Global, kind: &IdlType, text: &str, want: &str) -> bool {
+    match Value::from_str(alloc, text) {
+        Ok(json) => means(alloc, kind, &json, want),
+        Err(_) => false,
+    }
 }
 
 fn prints(alloc: Global, row: &Row) -> bool {
-    let (of, text, out) = row;
-    match printed(alloc, of, text) {
-        Some(json) => json.as_str() == *out,
+    let (of, text, want) = row;
+    match kind_made(alloc, of) {
+        Some(kind) => reads(alloc, &kind, text, want),
         None => false,
     }
 }
@@ -254,18 +274,26 @@ fn parts_are_printed(rt: HostRuntime) {
     assert!(rt; all_print(rt.alloc(), PARTS));
 }
 
+fn is_refused(alloc: Global, kind: &IdlType, json: &Value) -> bool {
+    match from_json(alloc, kind, json) {
+        Ok(_) => false,
+        Err(e) => e == JsonError::NotOfType,
+    }
+}
+
+fn is_no_value(alloc: Global, kind: &IdlType, text: &str) -> bool {
+    match Value::from_str(alloc, text) {
+        Ok(json) => is_refused(alloc, kind, &json),
+        Err(_) => false,
+    }
+}
+
 /// Whether a text means no value of a type.
 fn refuses(alloc: Global, row: &(Kind, &'static str)) -> bool {
     let (of, text) = row;
-    let Some(kind) = kind_made(alloc, of) else {
-        return false;
-    };
-    let Ok(json) = Value::from_str(alloc, text) else {
-        return false;
-    };
-    match from_json(alloc, &kind, &json) {
-        Ok(_) => false,
-        Err(e) => e == JsonError::NotOfType,
+    match kind_made(alloc, of) {
+        Some(kind) => is_no_value(alloc, &kind, text),
+        None => false,
     }
 }
 
@@ -354,17 +382,27 @@ fn other_parts_are_refused(rt: HostRuntime) {
     assert!(rt; all_refuse(rt.alloc(), NO_PARTS));
 }
 
+/// Puts a part so often; whether there was memory.
+fn repeat(text: &mut String, part: &str, count: usize) -> bool {
+    for _ in 0..count {
+        if text.push_str(part).is_err() {
+            return false;
+        }
+    }
+    true
+}
+
 /// The text of a value in so many arrays.
 fn within_arrays(alloc: Global, levels: usize, inside: &str) -> Option<String> {
     let mut text = String::new(alloc);
-    for _ in 0..levels {
-        text.push_str("[").ok()?;
+    if repeat(&mut text, "[", levels)
+        && repeat(&mut text, inside, 1)
+        && repeat(&mut text, "]", levels)
+    {
+        Some(text)
+    } else {
+        None
     }
-    text.push_str(inside).ok()?;
-    for _ in 0..levels {
-        text.push_str("]").ok()?;
-    }
-    Some(text)
 }
 
 /// A sequence of sequences, so many in all, of an octet.
@@ -376,20 +414,13 @@ fn deep_type(alloc: Global, sequences: usize) -> Option<IdlType> {
     Some(kind)
 }
 
-/// The text that is printed of the value that a text means.
-fn text_again(alloc: Global, kind: &IdlType, text: &str) -> Option<String> {
-    let json = Value::from_str(alloc, text).ok()?;
-    let value = from_json(alloc, kind, &json).ok()?;
-    let json = to_json(alloc, kind, &value).ok()?;
-    json.to_string(alloc).ok()
-}
-
 /// Whether an octet in so many sequences is printed as it is read.
 fn deep_is_printed(alloc: Global, sequences: usize) -> Option<bool> {
     let kind = deep_type(alloc, sequences)?;
-    let text = within_arrays(alloc, sequences, "7")?;
-    let again = text_again(alloc, &kind, text.as_str())?;
-    Some(again.as_str() == text.as_str())
+    match within_arrays(alloc, sequences, "7") {
+        Some(text) => Some(reads(alloc, &kind, text.as_str(), text.as_str())),
+        None => None,
+    }
 }
 
 #[test]
@@ -412,21 +443,29 @@ fn json_nests_127_levels_deep(rt: HostRuntime) {
 /// The text of an array of so many octets.
 fn octets_text(alloc: Global, count: usize) -> Option<String> {
     let mut text = String::new(alloc);
-    text.push_str("[7").ok()?;
-    for _ in 1..count {
-        text.push_str(",255").ok()?;
+    if repeat(&mut text, "[7", 1)
+        && repeat(&mut text, ",255", count.saturating_sub(1))
+        && repeat(&mut text, "]", 1)
+    {
+        Some(text)
+    } else {
+        None
     }
-    text.push_str("]").ok()?;
-    Some(text)
+}
+
+fn array_of_octets(alloc: Global, len: u32) -> Option<IdlType> {
+    match Box::new(alloc, IdlType::Octet) {
+        Ok(octet) => Some(IdlType::Array(octet, len)),
+        Err(_) => None,
+    }
 }
 
 /// Whether an array of this length takes so many octets, and prints them as they are read.
 fn octets_are_printed(alloc: Global, len: u32, count: usize) -> Option<bool> {
-    let kind = IdlType::Array(Box::new(alloc, IdlType::Octet).ok()?, len);
-    let text = octets_text(alloc, count)?;
-    match text_again(alloc, &kind, text.as_str()) {
-        Some(again) => Some(again.as_str() == text.as_str()),
-        None => Some(false),
+    let kind = array_of_octets(alloc, len)?;
+    match octets_text(alloc, count) {
+        Some(text) => Some(reads(alloc, &kind, text.as_str(), text.as_str())),
+        None => None,
     }
 }
 

@@ -2,6 +2,8 @@
 #![tactic(auto)]
 
 #[cfg(test)]
+mod calls;
+#[cfg(test)]
 mod history_lines_tests;
 #[cfg(test)]
 mod lane_pool_tests;

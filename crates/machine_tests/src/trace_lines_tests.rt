@@ -1,70 +1,12 @@
 //! Traces by hand.
 
+use crate::calls::{Asked, Call, Fate, Reply, Row, history_of};
 use lane_machine::{How, LaneCall, LaneReply, Lanes};
-use orb_base::{
-    Answer, Arc, ConnId, Due, Item, Job, LaneSpec, List, MemSink, Notice, Octets, Order, Outcome,
-    PoolSpec, Priority, SharedOctets, Text, What,
-};
+use orb_base::{ConnId, Due, LaneSpec, List, MemSink, Octets, PoolSpec, Priority};
 use std::alloc::Global;
 use text_streams::WriteAll;
 use trace_lines::*;
 use turn_cell::Entry;
-
-/// A request: its connection, serial number, id, when a reply is due, priority, lane and size.
-#[derive(Clone, Copy)]
-struct Asked {
-    conn: ConnId,
-    serial: u32,
-    id: u32,
-    due: Due,
-    priority: i16,
-    lane: u8,
-    size: u32,
-}
-
-/// A call: an offer of a request, an answer of the reading side and a withdrawal by id, a thread, an answer of so many bytes.
-#[derive(Clone, Copy)]
-enum Call {
-    Offer(Asked),
-    Post(ConnId, u32),
-    Cancel(ConnId, u32),
-    Take(u8),
-    Finish(u8, Asked, usize),
-    Collect(ConnId),
-    End(ConnId, How),
-    Leave(u8),
-}
-
-/// A reply: a thread and whether it is lent, a request, an answer of so many bytes, an answer of the reading side by id.
-#[derive(Clone, Copy)]
-enum Reply {
-    Run(u8, bool),
-    Kept,
-    Full,
-    Closing,
-    Posted,
-    Removed,
-    Nothing,
-    Given(Asked),
-    Ended,
-    Finished,
-    Answered(Asked, usize),
-    Early(Asked),
-    Transient(Asked),
-    Noticed(ConnId, u32),
-    Close,
-    Error,
-    Done,
-    Noted,
-}
-
-/// A caller with its call and the reply.
-#[derive(Clone, Copy)]
-struct Row {
-    caller: u32,
-    call: Call,
-    reply: Reply,
-}
 
 /// A pool: whether it has lanes, lends and buffers, its limits of what may wait, and its lanes.
 #[derive(Clone, Copy)]
@@ -75,111 +17,6 @@ struct Pool {
     max_requests: u32,
     max_bytes: u32,
     lanes: &'static [(i16, u8, u8)],
-}
-
-fn job_of(alloc: Global, asked: Asked) -> Option<Arc<Job>> {
-    let priority = Priority::new(asked.priority)?;
-    let operation = Text::new(alloc, b"op").ok()?;
-    let job = Job {
-        conn: asked.conn,
-        serial: asked.serial,
-        id: asked.id,
-        order: Order::Little,
-        due: asked.due,
-        priority,
-        lane: asked.lane,
-        size: asked.size,
-        target: 3,
-        operation,
-        body: Octets::new(alloc),
-    };
-    Arc::new(alloc, job).ok()
-}
-
-/// An answer with a body of so many bytes.
-fn answer_of(alloc: Global, asked: Asked, len: usize) -> Option<Answer> {
-    let mut body = Octets::new(alloc);
-    for _ in 0..len {
-        body.append(&[7]).ok()?;
-    }
-    let outcome = Outcome::Returned(SharedOctets::new(alloc, body).ok()?);
-    match job_of(alloc, asked) {
-        Some(job) => Some(Answer { job, outcome }),
-        None => None,
-    }
-}
-
-fn notice_of(conn: ConnId, id: u32) -> Notice {
-    Notice {
-        conn,
-        order: Order::Little,
-        id,
-        what: What::Addressing,
-    }
-}
-
-fn call_of(alloc: Global, call: Call) -> Option<LaneCall> {
-    Some(match call {
-        Call::Offer(asked) => LaneCall::Offer(job_of(alloc, asked)?),
-        Call::Post(conn, id) => LaneCall::Post(notice_of(conn, id)),
-        Call::Cancel(conn, id) => LaneCall::Cancel { conn, id },
-        Call::Take(thread) => LaneCall::Take { thread },
-        Call::Finish(thread, asked, len) => LaneCall::Finish {
-            thread,
-            answer: answer_of(alloc, asked, len)?,
-        },
-        Call::Collect(conn) => LaneCall::Collect { conn },
-        Call::End(conn, how) => LaneCall::End { conn, how },
-        Call::Leave(slot) => LaneCall::Leave { slot },
-    })
-}
-
-fn reply_of(alloc: Global, reply: Reply) -> Option<LaneReply> {
-    Some(match reply {
-        Reply::Run(thread, lent) => LaneReply::Run { thread, lent },
-        Reply::Kept => LaneReply::Kept,
-        Reply::Full => LaneReply::Full,
-        Reply::Closing => LaneReply::Closing,
-        Reply::Posted => LaneReply::Posted,
-        Reply::Removed => LaneReply::Removed,
-        Reply::Nothing => LaneReply::Nothing,
-        Reply::Given(asked) => LaneReply::Given(job_of(alloc, asked)?),
-        Reply::Ended => LaneReply::Ended,
-        Reply::Finished => LaneReply::Finished,
-        Reply::Answered(asked, len) => {
-            LaneReply::Handed(Item::Answered(answer_of(alloc, asked, len)?))
-        }
-        Reply::Early(asked) => LaneReply::Handed(Item::Early(job_of(alloc, asked)?)),
-        Reply::Transient(asked) => LaneReply::Handed(Item::Transient(job_of(alloc, asked)?)),
-        Reply::Noticed(conn, id) => LaneReply::Handed(Item::Noticed(notice_of(conn, id))),
-        Reply::Close => LaneReply::Close,
-        Reply::Error => LaneReply::Error,
-        Reply::Done => LaneReply::Done,
-        Reply::Noted => LaneReply::Noted,
-    })
-}
-
-fn entry_of(alloc: Global, row: Row) -> Option<Entry<Lanes>> {
-    let call = call_of(alloc, row.call)?;
-    match reply_of(alloc, row.reply) {
-        Some(reply) => Some(Entry {
-            caller: row.caller,
-            call,
-            reply,
-        }),
-        None => None,
-    }
-}
-
-fn history_of(alloc: Global, rows: &[Row]) -> Option<Vec<Entry<Lanes>>> {
-    let mut history = Vec::new(alloc);
-    for row in rows {
-        let entry = entry_of(alloc, *row)?;
-        if history.push(entry).is_err() {
-            return None;
-        }
-    }
-    Some(history)
 }
 
 fn pool_of(alloc: Global, pool: Pool) -> Option<PoolSpec> {
@@ -265,13 +102,13 @@ const PING_RUN: &[Row] = &[
     },
     Row {
         caller: 0,
-        call: Call::Finish(0, PING, 2),
+        call: Call::Finish(0, PING, Fate::Returned(2)),
         reply: Reply::Finished,
     },
     Row {
         caller: 0,
         call: Call::Collect(FIRST),
-        reply: Reply::Answered(PING, 2),
+        reply: Reply::Answered(PING, Fate::Returned(2)),
     },
     Row {
         caller: 0,
@@ -405,12 +242,12 @@ const EVERY_KIND: &[Row] = &[
     },
     Row {
         caller: 17,
-        call: Call::Finish(0, EARLY, 0),
+        call: Call::Finish(0, EARLY, Fate::Returned(0)),
         reply: Reply::Finished,
     },
     Row {
         caller: 18,
-        call: Call::Finish(1, LATE, 3),
+        call: Call::Finish(1, LATE, Fate::Returned(3)),
         reply: Reply::Finished,
     },
     Row {
@@ -421,7 +258,7 @@ const EVERY_KIND: &[Row] = &[
     Row {
         caller: 81,
         call: Call::Collect(FIRST),
-        reply: Reply::Answered(LATE, 3),
+        reply: Reply::Answered(LATE, Fate::Returned(3)),
     },
     Row {
         caller: 2008,
@@ -594,55 +431,138 @@ fn leaves(alloc: Global, count: usize) -> Option<Vec<Entry<Lanes>>> {
     Some(history)
 }
 
-/// The trace of that.
-fn trace_of_leaves(alloc: Global, count: usize) -> Option<Octets> {
-    let mut text = Octets::new(alloc);
-    text.append(b"pool 0 0 0 0 0 65536 67108864 1 128\nlane 100 1 0\n")
-        .ok()?;
+/// Puts a line so often; whether there was memory.
+fn repeat(text: &mut Octets, line: &[u8], count: usize) -> bool {
     for _ in 0..count {
-        text.append(b"1 leave 0\n").ok()?;
+        if text.append(line).is_err() {
+            return false;
+        }
     }
-    text.append(b"entries 1000\n").ok()?;
-    Some(text)
+    true
 }
 
-/// How much of the trace of a thousand entries a sink holds after the write of this number failed; None where the trace came out
-/// otherwise, or what is held is no prefix of it.
-fn held_after(alloc: Global, failing: u64) -> Option<usize> {
-    let pool = pool_of(alloc, ONE_THREAD)?;
-    let history = leaves(alloc, 1000)?;
-    let want = trace_of_leaves(alloc, 1000)?;
-    let mut fails = List::new(alloc);
-    fails.push(failing).ok()?;
-    let mut sink = MemSink::new(alloc, List::new(alloc), fails);
-    match write_trace(alloc, &mut sink, &pool, 1, 128, history.as_slice()) {
-        Ok(WriteAll::Failed) if want.as_slice().starts_with(sink.held()) => Some(sink.held().len()),
-        _ => None,
+/// Puts the trace of that.
+fn put_trace(text: &mut Octets, count: usize) -> bool {
+    repeat(
+        text,
+        b"pool 0 0 0 0 0 65536 67108864 1 128\nlane 100 1 0\n",
+        1,
+    ) && repeat(text, b"1 leave 0\n", count)
+        && repeat(text, b"entries 1000\n", 1)
+}
+
+/// How a sink is written to: the bytes of its first write, the write that fails, and how much of a trace it then holds, or the whole.
+struct Writing {
+    cuts: &'static [usize],
+    failing: &'static [u64],
+    held: Option<usize>,
+}
+
+/// Whether a sink holds so much of a trace, whose writing came to this.
+fn is_held(written: WriteAll, held: &[u8], trace: &[u8], want: Option<usize>) -> bool {
+    match want {
+        Some(len) => { written == WriteAll::Failed && trace.starts_with(held) && held.len() == len }
+        None => written == WriteAll::Whole && held == trace,
     }
 }
 
-/// The length of the first write: the lines of the pool and its lane, and as many of ten bytes as pass 4095.
-const FIRST_PIECE: usize = 4099;
+/// Whether a trace is written so to a sink.
+fn is_written(
+    alloc: Global,
+    sink: &mut MemSink,
+    pool: &PoolSpec,
+    history: &[Entry<Lanes>],
+    trace: &[u8],
+    want: Option<usize>,
+) -> bool {
+    match write_trace(alloc, sink, pool, 1, 128, history) {
+        Ok(written) => is_held(written, sink.held(), trace, want),
+        Err(_) => false,
+    }
+}
+
+fn sink_of(alloc: Global, cuts: &[usize], failing: &[u64]) -> Option<MemSink> {
+    let cuts = Vec::from_slice(alloc, cuts).ok()?;
+    match Vec::from_slice(alloc, failing) {
+        Ok(failing) => Some(MemSink::new(alloc, List::from_vec(cuts), List::from_vec(failing))),
+        Err(_) => None,
+    }
+}
+
+fn leaves_are_written(
+    alloc: Global,
+    sink: &mut MemSink,
+    pool: &PoolSpec,
+    trace: &[u8],
+    want: Option<usize>,
+) -> bool {
+    match leaves(alloc, 1000) {
+        Some(history) => is_written(alloc, sink, pool, history.as_slice(), trace, want),
+        None => false,
+    }
+}
+
+fn one_thread_is_written(
+    alloc: Global,
+    sink: &mut MemSink,
+    trace: &[u8],
+    want: Option<usize>,
+) -> bool {
+    match pool_of(alloc, ONE_THREAD) {
+        Some(pool) => leaves_are_written(alloc, sink, &pool, trace, want),
+        None => false,
+    }
+}
+
+/// Whether the trace of a thousand entries is written so.
+fn holds(alloc: Global, trace: &[u8], writing: &Writing) -> bool {
+    match sink_of(alloc, writing.cuts, writing.failing) {
+        Some(mut sink) => one_thread_is_written(alloc, &mut sink, trace, writing.held),
+        None => false,
+    }
+}
+
+fn each_holds(alloc: Global, trace: &[u8], rows: &[Writing]) -> bool {
+    for row in rows {
+        if !holds(alloc, trace, row) {
+            return false;
+        }
+    }
+    true
+}
+
+fn all_hold(alloc: Global, rows: &[Writing]) -> bool {
+    let mut text = Octets::new(alloc);
+    put_trace(&mut text, 1000) && each_holds(alloc, text.as_slice(), rows)
+}
+
+/// The first write has the lines of the pool and its lane, and as many of ten bytes as pass 4095.
+const PREFIXES: &[Writing] = &[
+    Writing {
+        cuts: &[],
+        failing: &[0],
+        held: Some(0),
+    },
+    Writing {
+        cuts: &[],
+        failing: &[1],
+        held: Some(4099),
+    },
+];
 
 #[test]
 fn a_prefix_is_written_before_a_failed_write(rt: HostRuntime) {
-    assert!(rt; held_after(rt.alloc(), 0) == Some(0));
-    assert!(rt; held_after(rt.alloc(), 1) == Some(FIRST_PIECE));
+    assert!(rt; all_hold(rt.alloc(), PREFIXES));
 }
 
-/// Whether the trace of a thousand entries is written whole by a sink that takes a hundred bytes at first.
-fn is_written_whole(alloc: Global) -> Option<bool> {
-    let pool = pool_of(alloc, ONE_THREAD)?;
-    let history = leaves(alloc, 1000)?;
-    let want = trace_of_leaves(alloc, 1000)?;
-    let mut cuts = List::new(alloc);
-    cuts.push(100).ok()?;
-    let mut sink = MemSink::new(alloc, cuts, List::new(alloc));
-    let written = write_trace(alloc, &mut sink, &pool, 1, 128, history.as_slice());
-    Some(written == Ok(WriteAll::Whole) && sink.held() == want.as_slice())
-}
+/// The first write takes a hundred bytes.
+const WHOLE: &[Writing] = &[Writing {
+    cuts: &[100],
+    failing: &[],
+    held: None,
+}];
 
 #[test]
 fn a_long_trace_is_written_whole(rt: HostRuntime) {
-    assert!(rt; is_written_whole(rt.alloc()) == Some(true));
+    assert!(rt; all_hold(rt.alloc(), WHOLE));
 }

@@ -13,7 +13,7 @@ use script_checks::{CheckCause, CheckFault};
 use std::alloc::Global;
 
 /// Whether a note's line is these words and then the name of its cause.
-fn is_line(alloc: Global, note: &Note, words: &str, name: &str) -> bool {
+pub fn is_line(alloc: Global, note: &Note, words: &str, name: &str) -> bool {
     match (NoteText { note }).to_string(alloc) {
         Ok(line) => line.as_str().strip_prefix(words) == Some(name),
         Err(_) => false,

@@ -1,6 +1,6 @@
-//! The lines that notes print.
+//! The lines that notes print, files, and a request over loopback.
 
-use crate::note_text::NoteText;
+use crate::cause_tests::is_line;
 use crate::std_files::StdFiles;
 use crate::std_net::StdNet;
 use crate::{orb_main, without_words};
@@ -8,7 +8,7 @@ use config_tables::{ConfigCause, ConfigFault};
 use giop_messages::Fault;
 use idl_grammar::{IdlCause, IdlFault};
 use object_refs::{RefCause, RefFault};
-use orb_base::{Filed, Files, List, MemSink, Sink, SteadySource, Text};
+use orb_base::{Filed, Files, List, MemSink, Octets, Sink, Source, SteadySource, Text};
 use orb_command::{Note, Role};
 use orb_nets::Net;
 use script_checks::{CheckCause, CheckFault};
@@ -16,139 +16,229 @@ use script_grammar::ScriptFault;
 use std::alloc::Global;
 use std::net::{TcpListener, TcpStream};
 use std::sync::Wait;
-use std::test::Fail;
 use std::thread::Threads;
 use std::time::Duration;
 use std::{fs, io, net, rt, thread};
 use text_streams::{ReadAll, WriteAll, read_all, write_all};
 
-#[test]
-fn each_note_has_its_line(rt: HostRuntime) -> Result<(), Fail> {
-    for (note, line) in [
-        (Note::Nothing, ""),
-        (Note::Usage, "usage"),
-        (Note::ReadFault, "read fault"),
-        (Note::WriteFault, "write fault"),
-        (Note::NetFault, "network fault"),
-        (Note::Input(0, Fault::Cut), "input: offset 0: Cut"),
-        (
-            Note::Input(4_294_967_296, Fault::BadStatus),
-            "input: offset 4294967296: BadStatus",
-        ),
-        (
-            Note::Reference(RefFault {
-                cause: RefCause::OddHex,
-                place: 215,
-            }),
-            "reference: 215: OddHex",
-        ),
-        (Note::TooLong(Role::Config), "refused: config: TooLong"),
-        (Note::Absent(Role::Config), "absent: config"),
-        (Note::TooLong(Role::Idl), "refused: idl: TooLong"),
-        (Note::Absent(Role::Idl), "absent: idl"),
-        (Note::Absent(Role::Scripts), "absent: scripts"),
-        (
-            Note::Script(ScriptFault { line: 1, column: 9 }),
-            "refused: scripts: 1:9: Expected",
-        ),
-        (
-            Note::Check(CheckFault {
-                cause: CheckCause::NotSettable,
-                line: 2,
-                column: 7,
-            }),
-            "refused: scripts: 2:7: NotSettable",
-        ),
-        (
-            Note::Idl(IdlFault {
-                cause: IdlCause::Clash,
-                line: 1,
-                column: 8,
-            }),
-            "refused: idl: 1:8: Clash",
-        ),
-        (Note::Memory, "memory"),
-        (Note::Limit, "limit"),
-        (Note::NotBuilt, "not built"),
-    ] {
-        let text = NoteText { note: &note }.to_string(rt.alloc())?;
-        assert_eq!(rt; text.as_str(), line);
-    }
-    Ok(())
+/// A note that holds no text.
+#[derive(Clone, Copy)]
+enum Plain {
+    Nothing,
+    Usage,
+    ReadFault,
+    WriteFault,
+    NetFault,
+    Memory,
+    Limit,
+    NotBuilt,
+    TooLong(Role),
+    Absent(Role),
+    Input(u64, Fault),
+    Reference(RefFault),
+    Script(ScriptFault),
+    Check(CheckFault),
+    Idl(IdlFault),
 }
 
-fn text(alloc: Global, bytes: &[u8]) -> Result<Text, Fail> {
-    match Text::new(alloc, bytes) {
-        Ok(text) => Ok(text),
-        Err(_) => Err(Fail::new("a text")),
+const LINES: &[(Plain, &str)] = &[
+    (Plain::Nothing, ""),
+    (Plain::Usage, "usage"),
+    (Plain::ReadFault, "read fault"),
+    (Plain::WriteFault, "write fault"),
+    (Plain::NetFault, "network fault"),
+    (Plain::Input(0, Fault::Cut), "input: offset 0: Cut"),
+    (
+        Plain::Input(4_294_967_296, Fault::BadStatus),
+        "input: offset 4294967296: BadStatus",
+    ),
+    (
+        Plain::Reference(RefFault {
+            cause: RefCause::OddHex,
+            place: 215,
+        }),
+        "reference: 215: OddHex",
+    ),
+    (Plain::TooLong(Role::Config), "refused: config: TooLong"),
+    (Plain::Absent(Role::Config), "absent: config"),
+    (Plain::TooLong(Role::Idl), "refused: idl: TooLong"),
+    (Plain::Absent(Role::Idl), "absent: idl"),
+    (Plain::Absent(Role::Scripts), "absent: scripts"),
+    (
+        Plain::Script(ScriptFault { line: 1, column: 9 }),
+        "refused: scripts: 1:9: Expected",
+    ),
+    (
+        Plain::Check(CheckFault {
+            cause: CheckCause::NotSettable,
+            line: 2,
+            column: 7,
+        }),
+        "refused: scripts: 2:7: NotSettable",
+    ),
+    (
+        Plain::Idl(IdlFault {
+            cause: IdlCause::Clash,
+            line: 1,
+            column: 8,
+        }),
+        "refused: idl: 1:8: Clash",
+    ),
+    (Plain::Memory, "memory"),
+    (Plain::Limit, "limit"),
+    (Plain::NotBuilt, "not built"),
+];
+
+fn note_of(plain: Plain) -> Note {
+    match plain {
+        Plain::Nothing => Note::Nothing,
+        Plain::Usage => Note::Usage,
+        Plain::ReadFault => Note::ReadFault,
+        Plain::WriteFault => Note::WriteFault,
+        Plain::NetFault => Note::NetFault,
+        Plain::Memory => Note::Memory,
+        Plain::Limit => Note::Limit,
+        Plain::NotBuilt => Note::NotBuilt,
+        Plain::TooLong(role) => Note::TooLong(role),
+        Plain::Absent(role) => Note::Absent(role),
+        Plain::Input(offset, fault) => Note::Input(offset, fault),
+        Plain::Reference(fault) => Note::Reference(fault),
+        Plain::Script(fault) => Note::Script(fault),
+        Plain::Check(fault) => Note::Check(fault),
+        Plain::Idl(fault) => Note::Idl(fault),
     }
 }
 
-#[test]
-fn a_refused_configuration_has_its_path(rt: HostRuntime) -> Result<(), Fail> {
-    for (path, cause, line) in [
-        (
-            b"pool.lanes[1].priority".as_slice(),
-            ConfigCause::LaneOrder,
-            "refused: config: pool.lanes[1].priority: LaneOrder",
-        ),
-        (
-            b"".as_slice(),
-            ConfigCause::NotToml,
-            "refused: config: : NotToml",
-        ),
-        (
-            b"a b".as_slice(),
-            ConfigCause::UnknownKey,
-            "refused: config: a%20b: UnknownKey",
-        ),
-    ] {
-        let path = text(rt.alloc(), path)?;
-        let note = Note::Config(ConfigFault { cause, path });
-        let text = NoteText { note: &note }.to_string(rt.alloc())?;
-        assert_eq!(rt; text.as_str(), line);
-    }
-    Ok(())
+fn is_printed(alloc: Global, plain: Plain, line: &str) -> bool {
+    let note = note_of(plain);
+    is_line(alloc, &note, line, "")
 }
 
-#[test]
-fn files_are_told_apart(rt: HostRuntime) -> Result<(), Fail> {
-    let alloc = rt.alloc();
-    fs::write(&rt, "four.txt", "four")?;
-    let mut files = StdFiles::new(&rt, alloc);
-    let mut into = List::new(alloc);
-    for (name, limit, filed) in [
-        (b"four.txt".as_slice(), 4, Filed::Whole),
-        (b"four.txt".as_slice(), 3, Filed::TooLong),
-        (b"five.txt".as_slice(), 4, Filed::Absent),
-        (b"four.txt/five.txt".as_slice(), 4, Filed::Absent),
-        (b".".as_slice(), 4, Filed::Failed),
-        (b"\xff".as_slice(), 4, Filed::Absent),
-    ] {
-        let name = text(alloc, name)?;
-        assert_eq!(rt; files.read(&name, limit, &mut into), filed);
-        assert_eq!(rt; into.is_empty(), filed != Filed::Whole);
-    }
-    fs::remove_file(&rt, "four.txt")?;
-    Ok(())
-}
-
-#[test]
-fn words_that_cannot_be_had_have_their_status(rt: HostRuntime) -> Result<(), Fail> {
-    for (kind, status, note) in [
-        (io::ErrorKind::OutOfMemory, 12, "memory"),
-        (io::ErrorKind::InvalidData, 1, "usage"),
-    ] {
-        let fault = io::Error::from(kind);
-        let answered = without_words(rt.alloc(), &fault);
-        assert_eq!(rt; answered.status, status);
-        let text = NoteText {
-            note: &answered.note,
+fn all_are_printed(alloc: Global) -> bool {
+    for (plain, line) in LINES {
+        if !is_printed(alloc, *plain, line) {
+            return false;
         }
-        .to_string(rt.alloc())?;
-        assert_eq!(rt; text.as_str(), note);
     }
-    Ok(())
+    true
+}
+
+#[test]
+fn each_note_has_its_line(rt: HostRuntime) {
+    assert!(rt; all_are_printed(rt.alloc()));
+}
+
+/// The path and the cause of a refused configuration, and its line.
+const PATHS: &[(&[u8], ConfigCause, &str)] = &[
+    (
+        b"pool.lanes[1].priority",
+        ConfigCause::LaneOrder,
+        "refused: config: pool.lanes[1].priority: LaneOrder",
+    ),
+    (b"", ConfigCause::NotToml, "refused: config: : NotToml"),
+    (
+        b"a b",
+        ConfigCause::UnknownKey,
+        "refused: config: a%20b: UnknownKey",
+    ),
+];
+
+fn has_its_path(alloc: Global, path: &[u8], cause: ConfigCause, line: &str) -> bool {
+    match Text::new(alloc, path) {
+        Ok(path) => {
+            let note = Note::Config(ConfigFault { cause, path });
+            is_line(alloc, &note, line, "")
+        }
+        Err(_) => false,
+    }
+}
+
+fn all_have_their_paths(alloc: Global) -> bool {
+    for (path, cause, line) in PATHS {
+        if !has_its_path(alloc, path, *cause, line) {
+            return false;
+        }
+    }
+    true
+}
+
+#[test]
+fn a_refused_configuration_has_its_path(rt: HostRuntime) {
+    assert!(rt; all_have_their_paths(rt.alloc()));
+}
+
+/// Names of files, the bytes that they may have, and how each is told where `four.txt` alone is there, of four bytes.
+const FILES: &[(&[u8], usize, Filed)] = &[
+    (b"four.txt", 4, Filed::Whole),
+    (b"four.txt", 3, Filed::TooLong),
+    (b"five.txt", 4, Filed::Absent),
+    (b"four.txt/five.txt", 4, Filed::Absent),
+    (b".", 4, Filed::Failed),
+    (b"\xff", 4, Filed::Absent),
+];
+
+/// Whether a file is told so, and its bytes are there where it is whole alone.
+fn is_told<F: Files>(
+    alloc: Global,
+    files: &mut F,
+    into: &mut Octets,
+    row: &(&[u8], usize, Filed),
+) -> bool {
+    let (name, limit, filed) = *row;
+    match Text::new(alloc, name) {
+        Ok(name) => {
+            files.read(&name, limit, into) == filed && into.is_empty() == (filed != Filed::Whole)
+        }
+        Err(_) => false,
+    }
+}
+
+fn all_are_told<F: Files>(alloc: Global, files: &mut F, into: &mut Octets) -> bool {
+    for row in FILES {
+        if !is_told(alloc, files, into, row) {
+            return false;
+        }
+    }
+    true
+}
+
+fn files_are_told<R: rt::Files>(rt: &R, alloc: Global) -> bool {
+    let mut files = StdFiles::new(rt, alloc);
+    let mut into = Octets::new(alloc);
+    all_are_told(alloc, &mut files, &mut into)
+}
+
+#[test]
+fn files_are_told_apart(rt: HostRuntime) {
+    assert!(rt; fs::write(&rt, "four.txt", "four").is_ok());
+    assert!(rt; files_are_told(&rt, rt.alloc()));
+    assert!(rt; fs::remove_file(&rt, "four.txt").is_ok());
+}
+
+/// Why the words of the command line can't be had, and the status and the line of that.
+const WORDLESS: &[(io::ErrorKind, u8, &str)] = &[
+    (io::ErrorKind::OutOfMemory, 12, "memory"),
+    (io::ErrorKind::InvalidData, 1, "usage"),
+];
+
+fn ends_so(alloc: Global, kind: io::ErrorKind, status: u8, line: &str) -> bool {
+    let fault = io::Error::from(kind);
+    let answered = without_words(alloc, &fault);
+    answered.status == status && is_line(alloc, &answered.note, line, "")
+}
+
+fn all_end_so(alloc: Global) -> bool {
+    for (kind, status, line) in WORDLESS {
+        if !ends_so(alloc, *kind, *status, line) {
+            return false;
+        }
+    }
+    true
+}
+
+#[test]
+fn words_that_cannot_be_had_have_their_status(rt: HostRuntime) {
+    assert!(rt; all_end_so(rt.alloc()));
 }
 
 /// One slot of one connection.
@@ -164,62 +254,94 @@ const REPLY: &[u8] = b"GIOP\x01\x02\0\x01\0\0\0\x0e\0\0\0\x01\0\0\0\0\0\0\0\0\0\
 
 const LINE: &[u8] = b"calls 1 run 1 lent 0 kept 0 full 0 removed 0 connections 1\n";
 
-/// What the server writes that listens at this port of loopback.
-fn serve<
-    R: net::Net<Listener = TcpListener, Stream = TcpStream> + rt::Files + Wait + Threads + Sync,
->(rt: &R, alloc: Global, port: u16) -> Option<Vec<u8>> {
-    let mut words = Vec::new(alloc);
-    for word in ["serve", "--config", "one.toml", "--listen"] {
-        words.push(String::from_str(alloc, word).ok()?).ok()?;
+/// Puts a word behind the others; whether there was memory.
+fn put_word(alloc: Global, words: &mut Vec<String>, word: &str) -> bool {
+    match String::from_str(alloc, word) {
+        Ok(word) => words.push(word).is_ok(),
+        Err(_) => false,
     }
-    words
-        .push(format!(in alloc; "127.0.0.1:{port}").ok()?)
-        .ok()?;
+}
+
+/// Puts the words of a server that listens at this port of loopback.
+fn put_words(alloc: Global, words: &mut Vec<String>, port: u16) -> bool {
+    for word in ["serve", "--config", "one.toml", "--listen"] {
+        if !put_word(alloc, words, word) {
+            return false;
+        }
+    }
+    match format!(in alloc; "127.0.0.1:{port}") {
+        Ok(word) => words.push(word).is_ok(),
+        Err(_) => false,
+    }
+}
+
+/// Whether a server of these words writes its summary.
+fn sums_up<
+    R: net::Net<Listener = TcpListener, Stream = TcpStream> + rt::Files + Wait + Threads + Sync,
+>(rt: &R, alloc: Global, words: &[String]) -> bool {
     let mut net = StdNet::new(rt, alloc);
     let mut files = StdFiles::new(rt, alloc);
     let mut input = SteadySource::new(List::new(alloc), List::new(alloc));
     let mut out = MemSink::new(alloc, List::new(alloc), List::new(alloc));
-    let words = words.as_slice();
     let _answered = orb_main(rt, alloc, words, &mut net, &mut files, &mut input, &mut out);
-    Vec::from_slice(alloc, out.held()).ok()
+    out.held() == LINE
 }
 
-/// What a client at this port of loopback reads until the server closes. It tries again while nobody listens there.
+/// The same of the server that listens at this port of loopback.
+fn serve<
+    R: net::Net<Listener = TcpListener, Stream = TcpStream> + rt::Files + Wait + Threads + Sync,
+>(rt: &R, alloc: Global, port: u16) -> bool {
+    let mut words = Vec::new(alloc);
+    put_words(alloc, &mut words, port) && sums_up(rt, alloc, words.as_slice())
+}
+
+/// Whether a server sends its reply and closes.
+fn is_replied<I: Source, O: Sink>(alloc: Global, source: &mut I, sink: &mut O) -> bool {
+    if write_all(sink, PING_AND_CLOSE) != WriteAll::Whole {
+        return false;
+    }
+    let is_reply = match read_all(alloc, 1_000, source) {
+        ReadAll::Whole(bytes) => bytes.as_slice() == REPLY,
+        _ => false,
+    };
+    sink.close();
+    is_reply
+}
+
+/// The same of the server at this port of loopback. It is asked again while nobody listens there.
 fn ask<R: net::Net<Listener = TcpListener, Stream = TcpStream> + rt::Clock + Wait>(
     rt: &R,
     alloc: Global,
     port: u16,
-) -> Option<Vec<u8>> {
-    let host = Text::new(alloc, b"127.0.0.1").ok()?;
+) -> bool {
+    let Ok(host) = Text::new(alloc, b"127.0.0.1") else {
+        return false;
+    };
     let mut net = StdNet::new(rt, alloc);
     for _ in 0..1_000 {
         if let Ok((mut source, mut sink)) = net.connect(&host, port) {
-            let WriteAll::Whole = write_all(&mut sink, PING_AND_CLOSE) else {
-                return None;
-            };
-            let ReadAll::Whole(bytes) = read_all(alloc, 1_000, &mut source) else {
-                return None;
-            };
-            sink.close();
-            return Some(bytes.into_vec());
+            return is_replied(alloc, &mut source, &mut sink);
         }
         thread::sleep(rt, Duration::from_millis(10));
     }
-    None
+    false
+}
+
+/// A port of loopback at which nobody listens.
+fn free_port<R: net::Net<Listener = TcpListener, Stream = TcpStream>>(rt: &R) -> Option<u16> {
+    let listener = TcpListener::bind(rt, ("127.0.0.1", 0)).ok()?;
+    match listener.local_addr() {
+        Ok(at) => Some(at.port()),
+        Err(_) => None,
+    }
 }
 
 #[test]
-fn a_request_is_served_over_loopback(rt: HostRuntime) -> Result<(), Fail> {
+fn a_request_is_served_over_loopback(rt: HostRuntime) {
     let alloc = rt.alloc();
-    fs::write(&rt, "one.toml", ONE)?;
-    let port = TcpListener::bind(&rt, ("127.0.0.1", 0))?
-        .local_addr()?
-        .port();
-    let (line, reply) = thread::join(&rt, || serve(&rt, alloc, port), || ask(&rt, alloc, port));
-    let reply = reply.ok_or("a reply")?;
-    let line = line.ok_or("a summary")?;
-    assert!(rt; reply.as_slice() == REPLY);
-    assert!(rt; line.as_slice() == LINE);
-    fs::remove_file(&rt, "one.toml")?;
-    Ok(())
+    let port = free_port(&rt).unwrap_or(0);
+    assert!(rt; fs::write(&rt, "one.toml", ONE).is_ok());
+    let (served, replied) = thread::join(&rt, || serve(&rt, alloc, port), || ask(&rt, alloc, port));
+    assert!(rt; served && replied);
+    assert!(rt; fs::remove_file(&rt, "one.toml").is_ok());
 }

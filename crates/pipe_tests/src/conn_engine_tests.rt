@@ -1,7 +1,6 @@
 //! Streams in memory, in pieces of every length: what is written, and how the run comes out.
-ghost use Rattle.std.specs.Prelude.{[]};
-ghost use Rattle.orb_base.specs.declared.outcome.Outcome.TheVariants.{Returned};
 
+use crate::samples::{Quick, is_joined, join, numbers};
 use adapter_policies::{Setup, read_setup};
 use conn_engine::*;
 use giop_frames::FrameCause;
@@ -9,33 +8,9 @@ use giop_messages::Fault;
 use heard_calls::Ending;
 use lane_driver::Log;
 use lane_machine::LaneCall;
-use orb_base::{
-    Completed, ConnId, Got, Job, List, MemSink, MemSource, NoMemory, Octets, Outcome, Serving,
-    SharedOctets, Source, Sys, SysName, Text,
-};
+use orb_base::{ConnId, Got, List, MemSink, MemSource, Octets, Source};
 use std::alloc::Global;
 use std::test::Fail;
-
-/// Answers each request with an empty body.
-#[derive(Drop)]
-struct Quick {
-    alloc: Global,
-}
-
-impl Serving for Quick {
-    ghost outcome = { λ _ _ _. Returned [] };
-
-    fn invoke(&self, _interface: &Text, _job: &Job) -> Outcome {
-        match SharedOctets::new(self.alloc, List::new(self.alloc)) {
-            Ok(body) => Outcome::Returned(body),
-            Err(NoMemory) => Outcome::System(Sys {
-                name: SysName::NoMemory,
-                minor: 1,
-                completed: Completed::Maybe,
-            }),
-        }
-    }
-}
 
 /// One thread with a buffer of three requests, and `ping` under CLIENT_PROPAGATED.
 const PLAIN: &[u8] =
@@ -90,13 +65,6 @@ struct Comes<'a> {
     written: &'a [&'a [u8]],
     calls: Option<usize>,
     next: Option<Got>,
-}
-
-fn numbers(alloc: Global, all: &[u64]) -> Option<List<u64>> {
-    match Vec::from_slice(alloc, all) {
-        Ok(all) => Some(List::from_vec(all)),
-        Err(_) => None,
-    }
 }
 
 /// A source of bytes, of which each read gives so many, up to the last of them.
@@ -180,16 +148,6 @@ fn runs(
         Some(source) => writes(alloc, setup, source, outside, want),
         None => false,
     }
-}
-
-/// Puts these parts after the bytes; whether there was memory.
-fn join(bytes: &mut Octets, parts: &[&[u8]]) -> bool {
-    for part in parts {
-        if bytes.append(part).is_err() {
-            return false;
-        }
-    }
-    true
 }
 
 /// A setup of four slots of 32 connections each.
@@ -530,6 +488,17 @@ fn joined(alloc: Global, parts: &[&[u8]]) -> Result<Vec<u8>, Fail> {
     Ok(bytes)
 }
 
+/// Whether the one call is the request of id 2, the first of its connection.
+fn is_one_request(calls: &[LaneCall], conn: ConnId) -> bool {
+    match calls {
+        [LaneCall::Offer(job)] => {
+            let job = job.get();
+            job.conn == conn && job.serial == 0 && job.id == 2
+        }
+        _ => false,
+    }
+}
+
 #[test]
 fn a_piece_is_heard(rt: HostRuntime) -> Result<(), Fail> {
     let alloc = rt.alloc();
@@ -543,24 +512,6 @@ fn a_piece_is_heard(rt: HostRuntime) -> Result<(), Fail> {
         panic!(rt; "it goes on")
     };
     assert_eq!(rt; hearing.at_end(), Ending::Cut(48));
-    match heard.calls.as_slice() {
-        [LaneCall::Offer(job)] => {
-            assert_eq!(rt; job.get().conn, conn);
-            assert_eq!(rt; (job.get().serial, job.get().id), (0, 2));
-        }
-        _ => panic!(rt; "one request"),
-    }
+    assert!(rt; is_one_request(heard.calls.as_slice(), conn));
     Ok(())
-}
-
-/// Whether the bytes are these parts, one after the other.
-fn is_joined(bytes: &[u8], parts: &[&[u8]]) -> bool {
-    let mut rest = bytes;
-    for part in parts {
-        match rest.strip_prefix(*part) {
-            Some(after) => rest = after,
-            None => return false,
-        }
-    }
-    rest.is_empty()
 }

@@ -1,5 +1,6 @@
 //! Inputs laid out by hand: CORBA 3.0.3, section 15.4.
 
+use crate::samples::join;
 use adapter_policies::{Setup, read_setup};
 use giop_frames::FrameCause;
 use giop_messages::Fault;
@@ -114,16 +115,6 @@ fn hears(alloc: Global, setup: &Setup, bytes: &[u8], calls: &[Call], ending: End
         Ok(heard) => are_calls(heard.calls.as_slice(), calls) && heard.ending == ending,
         Err(_) => false,
     }
-}
-
-/// Puts these parts after the bytes; whether there was room.
-fn join(bytes: &mut Octets, parts: &[&[u8]]) -> bool {
-    for part in parts {
-        if bytes.append(part).is_err() {
-            return false;
-        }
-    }
-    true
 }
 
 fn holds(alloc: Global, setup: &Setup, row: &Row) -> bool {

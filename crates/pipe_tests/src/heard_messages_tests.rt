@@ -7,6 +7,7 @@ ghost use Rattle.giop_messages.specs.declared.refused.Fault.TheVariants.{WrongWa
 ghost use Rattle.heard_messages.specs.declared.means.Means.{Means};
 ghost use Rattle.heard_messages.specs.declared.means.Means.TheVariants.{Goes, Ends, Breaks};
 
+use crate::samples::join;
 use giop_frames::{FrameCause, Framer};
 use giop_messages::{Fault, Message};
 use heard_messages::*;
@@ -195,16 +196,6 @@ fn hears_whole(alloc: Global, bytes: &[u8], want: &[Call], end: ReadEnd) -> bool
         Ok(heard) => heard.end == end && are_calls(heard.calls.as_slice(), want),
         Err(_) => false,
     }
-}
-
-/// Puts these parts one after the other; whether there was memory.
-fn join(bytes: &mut Octets, parts: &[&[u8]]) -> bool {
-    for part in parts {
-        if bytes.append(part).is_err() {
-            return false;
-        }
-    }
-    true
 }
 
 /// Whether an input means its calls and ends so, as a whole and however it is cut.

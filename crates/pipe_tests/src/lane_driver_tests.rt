@@ -1,56 +1,26 @@
 //! Runs over setups in memory: who ran what, and what was written.
-ghost use Rattle.std.specs.Prelude.{[], IfOk};
-ghost use Rattle.orb_base.specs.declared.outcome.Outcome.TheVariants.{Returned};
+ghost use Rattle.std.specs.Prelude.{IfSome};
 ghost use Rattle.pipe_laws.specs.Setup.{pipe_conn};
 ghost use Rattle.pipe_laws.specs.Legality.{IsHeardCall, AreHeardCalls};
 
+use crate::samples::{Quick, is_joined, numbers};
 use adapter_policies::{Setup, read_setup};
 use lane_driver::*;
 use lane_machine::{How, LaneCall, LaneReply};
-use orb_base::{
-    Arc, Completed, Due, Job, List, MemSink, NoMemory, Notice, Order, Outcome, Priority, Serving,
-    SharedOctets, Sys, SysName, Text, What,
-};
+use orb_base::{Arc, Due, Job, List, MemSink, Notice, Order, Outcome, Priority, Text, What};
 use std::alloc::Global;
-use std::process::Abort;
-use std::test::Fail;
 
-/// Answers each request with an empty body.
-#[derive(Drop)]
-struct Quick {
-    alloc: Global,
-}
+/// One static thread without lanes, a buffer for nine requests, one adapter and its object.
+const FLAT: &[u8] =
+    b"[pool]\nstatic = 1\ndynamic = 0\ndefault_priority = 0\nbuffering = true\nmax_buffered_requests = 9\nmax_request_buffer_size = 900\n[[adapter]]\nname = \"a\"\nmodel = \"CLIENT_PROPAGATED\"\npriority = 0\n[[object]]\nkey = \"k\"\nadapter = \"a\"\ninterface = \"IDL:I:1.0\"\n";
 
-impl Serving for Quick {
-    ghost outcome = { λ _ _ _. Returned [] };
-
-    fn invoke(&self, _interface: &Text, _job: &Job) -> Outcome {
-        match SharedOctets::new(self.alloc, List::new(self.alloc)) {
-            Ok(body) => Outcome::Returned(body),
-            Err(NoMemory) => Outcome::System(Sys {
-                name: SysName::NoMemory,
-                minor: 1,
-                completed: Completed::Maybe,
-            }),
-        }
-    }
-}
-
-/// One static thread without lanes, and a buffer for nine requests.
-const FLAT: &str =
-    "[pool]\nstatic = 1\ndynamic = 0\ndefault_priority = 0\nbuffering = true\nmax_buffered_requests = 9\nmax_request_buffer_size = 900\n";
-
-/// A lane of priority 0 and one of priority 1, each of one static thread, with borrowing.
-const LANED: &str =
-    "[pool]\nborrowing = true\nlanes = [{ priority = 0, static = 1, dynamic = 0 }, { priority = 1, static = 1, dynamic = 0 }]\n";
+/// A lane of priority 0 and one of priority 1, each of one static thread, with borrowing, and the same adapter and object.
+const LANED: &[u8] =
+    b"[pool]\nborrowing = true\nlanes = [{ priority = 0, static = 1, dynamic = 0 }, { priority = 1, static = 1, dynamic = 0 }]\n[[adapter]]\nname = \"a\"\nmodel = \"CLIENT_PROPAGATED\"\npriority = 0\n[[object]]\nkey = \"k\"\nadapter = \"a\"\ninterface = \"IDL:I:1.0\"\n";
 
 /// The run hears one call.
-const ONE_CALL: &str =
-    "[server]\nmax_calls = 1\n[pool]\nstatic = 1\ndynamic = 0\ndefault_priority = 0\n";
-
-/// One adapter and its object, after each of these.
-const REST: &str =
-    "[[adapter]]\nname = \"a\"\nmodel = \"CLIENT_PROPAGATED\"\npriority = 0\n[[object]]\nkey = \"k\"\nadapter = \"a\"\ninterface = \"IDL:I:1.0\"\n";
+const ONE_CALL: &[u8] =
+    b"[server]\nmax_calls = 1\n[pool]\nstatic = 1\ndynamic = 0\ndefault_priority = 0\n[[adapter]]\nname = \"a\"\nmodel = \"CLIENT_PROPAGATED\"\npriority = 0\n[[object]]\nkey = \"k\"\nadapter = \"a\"\ninterface = \"IDL:I:1.0\"\n";
 
 /// The replies of the ids 0, 1 and 2: NO_EXCEPTION, without contexts and body.
 const REPLY_0: &[u8] = b"GIOP\x01\x02\0\x01\0\0\0\x0c\0\0\0\0\0\0\0\0\0\0\0\0";
@@ -73,30 +43,17 @@ const CLOSE: &[u8] = b"GIOP\x01\x02\0\x05\0\0\0\0";
 
 const ERROR: &[u8] = b"GIOP\x01\x02\0\x06\0\0\0\0";
 
-/// The setup of a pool, with one adapter and one object.
-fn setup_of(alloc: Global, pool: &str) -> Result<Setup, Fail> {
-    let mut text = String::from_str(alloc, pool)?;
-    text.push_str(REST)?;
-    Ok(read_setup(alloc, text.as_bytes()).ok().ok_or("a setup")?)
-}
-
 /// A request of this serial, which is its id, in a lane and of a priority.
-fn offer(
-    rt: &impl Abort,
-    alloc: Global,
-    setup: &Setup,
-    serial: u32,
-    lane: u8,
-    level: i16,
-) -> Result<LaneCall, Fail>
-    ensures { IfOk result (λ call. IsHeardCall setup.now.pool pipe_conn call) }
+fn offer(alloc: Global, setup: &Setup, serial: u32, lane: u8, level: i16) -> Option<LaneCall>
+    ensures { IfSome result (λ call. IsHeardCall setup.now.pool pipe_conn call) }
 {
     let pool = setup.pool();
-    let priority = Priority::new(level).ok_or("a priority")?;
-    let Some(spec) = pool.lanes.get(usize::from(lane)) else {
-        panic!(rt; "no such lane")
-    };
-    assert!(rt; !pool.laned || spec.priority == priority);
+    let priority = Priority::new(level)?;
+    let spec = pool.lanes.get(usize::from(lane))?;
+    let is_level = !pool.laned || spec.priority == priority;
+    if !is_level {
+        return None;
+    }
     let job = Job {
         conn: PIPE_CONN,
         serial,
@@ -107,10 +64,10 @@ fn offer(
         lane,
         size: 48,
         target: 0,
-        operation: Text::new(alloc, b"op")?,
+        operation: Text::new(alloc, b"op").ok()?,
         body: List::new(alloc),
     };
-    Ok(LaneCall::Offer(Arc::new(alloc, job).ok().ok_or("memory")?))
+    Some(LaneCall::Offer(Arc::new(alloc, job).ok()?))
 }
 
 /// An answer of the reading side to the id 9.
@@ -125,139 +82,228 @@ fn post(setup: &Setup, what: What) -> LaneCall
     })
 }
 
+/// How far a run came, which thread ran which serial, in order, and what was written.
+struct Comes {
+    course: Course,
+    ran: &'static [(u8, u32)],
+    written: &'static [&'static [u8]],
+}
+
 /// Which thread ran which serial, in order.
-fn ran(alloc: Global, history: &[Noted]) -> Result<Vec<(u8, u32)>, Fail> {
+fn ran(alloc: Global, history: &[Noted]) -> Option<Vec<(u8, u32)>> {
     let mut all = Vec::new(alloc);
     for noted in history {
         match (&noted.call, &noted.reply) {
             (LaneCall::Take { thread }, LaneReply::Given(job)) => {
-                all.push((*thread, job.get().serial))?
+                all.push((*thread, job.get().serial)).ok()?
             }
             _ => {}
         }
     }
-    Ok(all)
+    Some(all)
 }
 
-/// Runs the calls in groups of so many; the writes of these numbers fail. It gives how far it came, who ran what, and what was written.
-fn run(
-    rt: &impl Abort,
+fn has_ran(alloc: Global, history: &[Noted], want: &[(u8, u32)]) -> bool {
+    match ran(alloc, history) {
+        Some(ran) => ran.as_slice() == want,
+        None => false,
+    }
+}
+
+fn has_noted(alloc: Global, log: Log, want: &[(u8, u32)]) -> bool {
+    match log.into_entries() {
+        Some(history) => has_ran(alloc, history.as_slice(), want),
+        None => false,
+    }
+}
+
+/// Whether this comes of the calls in groups of so many.
+fn comes_out(
+    alloc: Global,
+    setup: &Setup,
+    batch: u8,
+    calls: &[LaneCall],
+    how: How,
+    sink: &mut MemSink,
+    want: &Comes,
+) -> bool
+    requires { AreHeardCalls setup.now.pool pipe_conn calls.now }
+{
+    if batch < 1 {
+        return false;
+    }
+    let Ok(mut lanes) = open(alloc, setup) else {
+        return false;
+    };
+    let quick = Quick { alloc };
+    let mut log = Log::kept(alloc);
+    run_calls(
+        alloc, &mut lanes, &mut log, sink, setup, &quick, batch, calls, how,
+    ) == Ok(want.course)
+        && is_joined(sink.held(), want.written)
+        && has_noted(alloc, log, want.ran)
+}
+
+/// The same where the writes of these numbers fail.
+fn runs(
     alloc: Global,
     setup: &Setup,
     batch: u8,
     failing: &[u64],
     calls: &[LaneCall],
     how: How,
-) -> Result<(Course, Vec<(u8, u32)>, Vec<u8>), Fail>
+    want: &Comes,
+) -> bool
     requires { AreHeardCalls setup.now.pool pipe_conn calls.now }
 {
-    assert!(rt; batch > 0);
-    let failing = List::from_vec(Vec::from_slice(alloc, failing)?);
-    let mut sink = MemSink::new(alloc, List::new(alloc), failing);
-    let mut log = Log::kept(alloc);
-    let mut lanes = open(alloc, setup)?;
-    let course = run_calls(
-        alloc,
-        &mut lanes,
-        &mut log,
-        &mut sink,
-        setup,
-        &Quick { alloc },
-        batch,
-        calls,
-        how,
-    )?;
-    let history = log.into_entries().ok_or("a history")?;
-    let written = Vec::from_slice(alloc, sink.held())?;
-    Ok((course, ran(alloc, history.as_slice())?, written))
-}
-
-#[test]
-fn an_urgent_request_overtakes_in_its_group(rt: HostRuntime) -> Result<(), Fail> {
-    let alloc = rt.alloc();
-    let setup = setup_of(alloc, FLAT)?;
-    let calls = [
-        offer(&rt, alloc, &setup, 0, 0, 1)?,
-        offer(&rt, alloc, &setup, 1, 0, 1)?,
-        offer(&rt, alloc, &setup, 2, 0, 9)?,
-    ];
-    let (course, ran, written) = run(&rt, alloc, &setup, 3, &[], &calls, How::Quiet)?;
-    assert_eq!(rt; course, Course::Whole);
-    assert!(rt; ran.as_slice() == [(0, 0), (0, 2), (0, 1)].as_slice());
-    assert!(rt; is_joined(written.as_slice(), &[REPLY_0, REPLY_2, REPLY_1]));
-    let (_, ran, written) = run(&rt, alloc, &setup, 1, &[], &calls, How::Bad)?;
-    assert!(rt; ran.as_slice() == [(0, 0), (0, 1), (0, 2)].as_slice());
-    assert!(rt; is_joined(written.as_slice(), &[REPLY_0, REPLY_1, REPLY_2, ERROR]));
-    if let LaneCall::Offer(job) = &calls[0] {
-        match invoke(alloc, &setup, &Quick { alloc }, job.get()) {
-            Outcome::Returned(body) => assert_eq!(rt; body.as_slice().len(), 0),
-            _ => panic!(rt; "no body"),
+    match numbers(alloc, failing) {
+        Some(failing) => {
+            let mut sink = MemSink::new(alloc, List::new(alloc), failing);
+            comes_out(alloc, setup, batch, calls, how, &mut sink, want)
         }
+        None => false,
     }
-    Ok(())
 }
 
-#[test]
-fn a_lower_lane_lends_its_thread_and_refuses(rt: HostRuntime) -> Result<(), Fail> {
-    let alloc = rt.alloc();
-    let setup = setup_of(alloc, LANED)?;
+fn returns_nothing(alloc: Global, setup: &Setup, job: &Job) -> bool {
+    match invoke(alloc, setup, &Quick { alloc }, job) {
+        Outcome::Returned(body) => body.as_slice().is_empty(),
+        _ => false,
+    }
+}
+
+fn is_invoked(alloc: Global, setup: &Setup, call: &LaneCall) -> bool {
+    match call {
+        LaneCall::Offer(job) => returns_nothing(alloc, setup, job.get()),
+        _ => false,
+    }
+}
+
+/// The third request is the most urgent, in one group and in groups of one.
+const IN_ITS_GROUP: Comes = Comes {
+    course: Course::Whole,
+    ran: &[(0, 0), (0, 2), (0, 1)],
+    written: &[REPLY_0, REPLY_2, REPLY_1],
+};
+
+const IN_TURN: Comes = Comes {
+    course: Course::Whole,
+    ran: &[(0, 0), (0, 1), (0, 2)],
+    written: &[REPLY_0, REPLY_1, REPLY_2, ERROR],
+};
+
+fn overtakes(alloc: Global, setup: &Setup) -> Option<bool> {
     let calls = [
-        offer(&rt, alloc, &setup, 0, 1, 1)?,
-        offer(&rt, alloc, &setup, 1, 1, 1)?,
-        offer(&rt, alloc, &setup, 2, 0, 0)?,
+        offer(alloc, setup, 0, 0, 1)?,
+        offer(alloc, setup, 1, 0, 1)?,
+        offer(alloc, setup, 2, 0, 9)?,
     ];
-    let (course, ran, written) = run(&rt, alloc, &setup, 8, &[], &calls, How::Quiet)?;
-    assert_eq!(rt; course, Course::Whole);
-    assert!(rt; ran.as_slice() == [(0, 1), (1, 0)].as_slice());
-    assert!(rt; is_joined(written.as_slice(), &[REFUSED_2, REPLY_1, REPLY_0]));
-    Ok(())
+    Some(
+        runs(alloc, setup, 3, &[], &calls, How::Quiet, &IN_ITS_GROUP)
+            && runs(alloc, setup, 1, &[], &calls, How::Bad, &IN_TURN)
+            && is_invoked(alloc, setup, &calls[0]),
+    )
 }
 
-#[test]
-fn a_run_closes_at_its_limit(rt: HostRuntime) -> Result<(), Fail> {
-    let alloc = rt.alloc();
-    let setup = setup_of(alloc, ONE_CALL)?;
+const LENT: Comes = Comes {
+    course: Course::Whole,
+    ran: &[(0, 1), (1, 0)],
+    written: &[REFUSED_2, REPLY_1, REPLY_0],
+};
+
+fn lends(alloc: Global, setup: &Setup) -> Option<bool> {
     let calls = [
-        offer(&rt, alloc, &setup, 0, 0, 0)?,
-        offer(&rt, alloc, &setup, 1, 0, 0)?,
-        post(&setup, What::Bound),
+        offer(alloc, setup, 0, 1, 1)?,
+        offer(alloc, setup, 1, 1, 1)?,
+        offer(alloc, setup, 2, 0, 0)?,
     ];
-    let (course, ran, written) = run(&rt, alloc, &setup, 1, &[], &calls, How::Quiet)?;
-    assert_eq!(rt; course, Course::Whole);
-    assert!(rt; ran.as_slice() == [(0, 0)].as_slice());
-    assert!(rt; is_joined(written.as_slice(), &[REPLY_0, CLOSE]));
-    let (course, _, written) = run(&rt, alloc, &setup, 1, &[1], &calls, How::Quiet)?;
-    assert_eq!(rt; course, Course::Stopped);
-    assert!(rt; is_joined(written.as_slice(), &[REPLY_0]));
-    Ok(())
+    Some(runs(alloc, setup, 8, &[], &calls, How::Quiet, &LENT))
 }
 
-#[test]
-fn a_cancelled_request_never_runs(rt: HostRuntime) -> Result<(), Fail> {
-    let alloc = rt.alloc();
-    let setup = setup_of(alloc, FLAT)?;
+const CLOSED: Comes = Comes {
+    course: Course::Whole,
+    ran: &[(0, 0)],
+    written: &[REPLY_0, CLOSE],
+};
+
+/// The write of CloseConnection fails.
+const STOPPED: Comes = Comes {
+    course: Course::Stopped,
+    ran: &[(0, 0)],
+    written: &[REPLY_0],
+};
+
+fn closes(alloc: Global, setup: &Setup) -> Option<bool> {
+    let calls = [
+        offer(alloc, setup, 0, 0, 0)?,
+        offer(alloc, setup, 1, 0, 0)?,
+        post(setup, What::Bound),
+    ];
+    Some(
+        runs(alloc, setup, 1, &[], &calls, How::Quiet, &CLOSED)
+            && runs(alloc, setup, 1, &[1], &calls, How::Quiet, &STOPPED),
+    )
+}
+
+const WITHDRAWN: Comes = Comes {
+    course: Course::Whole,
+    ran: &[(0, 0)],
+    written: &[HERE_9, ADDRESSING_9, REPLY_0],
+};
+
+fn withdraws(alloc: Global, setup: &Setup) -> Option<bool> {
     let conn = PIPE_CONN;
     let calls = [
-        offer(&rt, alloc, &setup, 0, 0, 1)?,
-        offer(&rt, alloc, &setup, 1, 0, 1)?,
+        offer(alloc, setup, 0, 0, 1)?,
+        offer(alloc, setup, 1, 0, 1)?,
         LaneCall::Cancel { conn, id: 1 },
-        post(&setup, What::Located(true)),
-        post(&setup, What::Addressing),
+        post(setup, What::Located(true)),
+        post(setup, What::Addressing),
     ];
-    let (_, ran, written) = run(&rt, alloc, &setup, 8, &[], &calls, How::Quiet)?;
-    assert!(rt; ran.as_slice() == [(0, 0)].as_slice());
-    assert!(rt; is_joined(written.as_slice(), &[HERE_9, ADDRESSING_9, REPLY_0]));
-    Ok(())
+    Some(runs(alloc, setup, 8, &[], &calls, How::Quiet, &WITHDRAWN))
 }
 
-/// Whether the bytes are these parts, one after the other.
-fn is_joined(bytes: &[u8], parts: &[&[u8]]) -> bool {
-    let mut rest = bytes;
-    for part in parts {
-        match rest.strip_prefix(*part) {
-            Some(after) => rest = after,
-            None => return false,
-        }
+/// What the calls of a connection come to.
+#[derive(Clone, Copy)]
+enum Story {
+    Overtakes,
+    Lends,
+    Closes,
+    Withdraws,
+}
+
+fn tells(alloc: Global, setup: &Setup, story: Story) -> Option<bool> {
+    match story {
+        Story::Overtakes => overtakes(alloc, setup),
+        Story::Lends => lends(alloc, setup),
+        Story::Closes => closes(alloc, setup),
+        Story::Withdraws => withdraws(alloc, setup),
     }
-    rest.is_empty()
+}
+
+fn holds(alloc: Global, config: &[u8], story: Story) -> bool {
+    match read_setup(alloc, config) {
+        Ok(setup) => tells(alloc, &setup, story) == Some(true),
+        Err(_) => false,
+    }
+}
+
+#[test]
+fn an_urgent_request_overtakes_in_its_group(rt: HostRuntime) {
+    assert!(rt; holds(rt.alloc(), FLAT, Story::Overtakes));
+}
+
+#[test]
+fn a_lower_lane_lends_its_thread_and_refuses(rt: HostRuntime) {
+    assert!(rt; holds(rt.alloc(), LANED, Story::Lends));
+}
+
+#[test]
+fn a_run_closes_at_its_limit(rt: HostRuntime) {
+    assert!(rt; holds(rt.alloc(), ONE_CALL, Story::Closes));
+}
+
+#[test]
+fn a_cancelled_request_never_runs(rt: HostRuntime) {
+    assert!(rt; holds(rt.alloc(), FLAT, Story::Withdraws));
 }

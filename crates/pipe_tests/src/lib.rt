@@ -15,3 +15,5 @@ mod lane_driver_tests;
 mod pipe_runs_tests;
 #[cfg(test)]
 mod request_judge_tests;
+#[cfg(test)]
+mod samples;

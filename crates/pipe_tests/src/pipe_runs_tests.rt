@@ -1,39 +1,14 @@
 //! Streams over setups in memory: what is written, and how the run comes out.
-ghost use Rattle.std.specs.Prelude.{[]};
-ghost use Rattle.orb_base.specs.declared.outcome.Outcome.TheVariants.{Returned};
 
+use crate::samples::{Quick, is_joined, join, numbers};
 use adapter_policies::{Setup, read_setup};
 use conn_engine::{READ_LEN, ReadEnd, StreamEnd};
 use giop_frames::FrameCause;
 use giop_messages::Fault;
 use heard_calls::Ending;
-use orb_base::{
-    Completed, Job, List, MemSink, MemSource, NoMemory, Octets, Outcome, Serving, SharedOctets,
-    Sys, SysName, Text,
-};
+use orb_base::{List, MemSink, MemSource, Octets};
 use pipe_runs::*;
 use std::alloc::Global;
-
-/// Answers each request with an empty body.
-#[derive(Drop)]
-struct Quick {
-    alloc: Global,
-}
-
-impl Serving for Quick {
-    ghost outcome = { λ _ _ _. Returned [] };
-
-    fn invoke(&self, _interface: &Text, _job: &Job) -> Outcome {
-        match SharedOctets::new(self.alloc, List::new(self.alloc)) {
-            Ok(body) => Outcome::Returned(body),
-            Err(NoMemory) => Outcome::System(Sys {
-                name: SysName::NoMemory,
-                minor: 1,
-                completed: Completed::Maybe,
-            }),
-        }
-    }
-}
 
 /// Lanes 10 and 20 of one static thread each, with borrowing, a buffer of three requests, and `ping` under CLIENT_PROPAGATED at 10.
 const LANES: &[u8] =
@@ -100,13 +75,6 @@ struct Comes<'a> {
 
 /// The input ended as it may.
 const ENDED: StreamEnd = StreamEnd::Ended(ReadEnd::Ended(Ending::Ended));
-
-fn numbers(alloc: Global, all: &[u64]) -> Option<List<u64>> {
-    match Vec::from_slice(alloc, all) {
-        Ok(all) => Some(List::from_vec(all)),
-        Err(_) => None,
-    }
-}
 
 fn cuts_of(alloc: Global, cut: usize) -> Option<List<usize>> {
     match vec![in alloc; cut; 1024] {
@@ -181,16 +149,6 @@ fn runs(alloc: Global, setup: &Setup, piping: &Piping<'_>, input: &[u8], want: &
         Some(source) => writes(alloc, setup, piping, source, want),
         None => false,
     }
-}
-
-/// Puts these parts after the bytes; whether there was memory.
-fn join(bytes: &mut Octets, parts: &[&[u8]]) -> bool {
-    for part in parts {
-        if bytes.append(part).is_err() {
-            return false;
-        }
-    }
-    true
 }
 
 /// The pipe of a configuration, the parts of its input, one after the other, and what comes of them.
@@ -607,16 +565,4 @@ fn runs_long(alloc: Global, config: &[u8]) -> bool {
 #[test]
 fn a_long_stream_is_run(rt: HostRuntime) {
     assert!(rt; runs_long(rt.alloc(), LANES));
-}
-
-/// Whether the bytes are these parts, one after the other.
-fn is_joined(bytes: &[u8], parts: &[&[u8]]) -> bool {
-    let mut rest = bytes;
-    for part in parts {
-        match rest.strip_prefix(*part) {
-            Some(after) => rest = after,
-            None => return false,
-        }
-    }
-    rest.is_empty()
 }
