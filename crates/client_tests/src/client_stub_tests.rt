@@ -165,6 +165,39 @@ fn a_text_without_a_reading_is_refused(rt: HostRuntime) {
     assert!(rt; all_are_refused(rt.alloc(), REFUSED));
 }
 
+fn all_are_meant_or_full(alloc: Global, rows: &[Meant]) -> bool {
+    for (text, told) in rows {
+        match remote_of(alloc, text) {
+            Ok(remote) if is_told(&remote, told) => (),
+            Err(RefError::NoMemory) => (),
+            _ => return false,
+        }
+    }
+    true
+}
+
+fn all_are_refused_or_full(alloc: Global, rows: &[Refused]) -> bool {
+    for (text, cause, place) in rows {
+        let fault = RefFault {
+            cause: *cause,
+            place: *place,
+        };
+        match remote_of(alloc, text) {
+            Err(error) if error == RefError::Refused(fault) => (),
+            Err(RefError::NoMemory) => (),
+            _ => return false,
+        }
+    }
+    true
+}
+
+#[test]
+fn out_of_memory_no_other_object_is_told(rt: HostRuntime) {
+    assert!(rt; all_are_meant_or_full(rt.alloc(), URLS));
+    assert!(rt; all_are_meant_or_full(rt.alloc(), REFERENCES));
+    assert!(rt; all_are_refused_or_full(rt.alloc(), REFUSED));
+}
+
 /// A model with the server's priority, the given priority, and the band to bind or none, or None for a refusal.
 type Bound = (Option<(PriorityModel, i16)>, Option<i16>, Option<Ends>);
 

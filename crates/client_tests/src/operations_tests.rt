@@ -213,3 +213,64 @@ const TOLD: &[Told] = &[
 fn results_are_one_line(rt: HostRuntime) {
     assert!(rt; all_are_told(rt.alloc(), TOLD));
 }
+
+/// Whether the text means what it does with memory enough, or the call is out of memory.
+fn is_asked_or_full(alloc: Global, row: &Asked) -> bool {
+    let (rows, text, want) = row;
+    let Some(params) = params(alloc, rows) else {
+        return true;
+    };
+    match arguments_from(alloc, params.as_slice(), text) {
+        Ok(values) => Some(values.len()) == *want,
+        Err(JsonError::NotOfType) => want.is_none(),
+        Err(JsonError::NoMemory) => true,
+    }
+}
+
+/// Whether the results print as they do with memory enough, or a call is out of memory.
+fn is_told_or_full(alloc: Global, row: &Told) -> bool {
+    let (rows, gives, text, want) = row;
+    let Some(params) = backs(alloc, rows, *gives) else {
+        return true;
+    };
+    let values = match arguments_from(alloc, params.as_slice(), text) {
+        Ok(values) => values,
+        Err(e) => return e == JsonError::NoMemory,
+    };
+    let Some(operation) = named_operation(alloc, b"op", rows, *gives) else {
+        return true;
+    };
+    match results_json(alloc, &operation, values.as_slice()) {
+        Ok(printed) => printed.as_str() == *want,
+        Err(_) => true,
+    }
+}
+
+fn all_are_asked_or_full(alloc: Global, rows: &[Asked]) -> bool {
+    for row in rows {
+        if !is_asked_or_full(alloc, row) {
+            return false;
+        }
+    }
+    true
+}
+
+fn all_are_told_or_full(alloc: Global, rows: &[Told]) -> bool {
+    for row in rows {
+        if !is_told_or_full(alloc, row) {
+            return false;
+        }
+    }
+    true
+}
+
+#[test]
+fn out_of_memory_no_other_arguments_are_taken(rt: HostRuntime) {
+    assert!(rt; all_are_asked_or_full(rt.alloc(), ASKED));
+    assert!(rt; all_are_asked_or_full(rt.alloc(), REFUSED));
+}
+
+#[test]
+fn out_of_memory_no_other_results_are_printed(rt: HostRuntime) {
+    assert!(rt; all_are_told_or_full(rt.alloc(), TOLD));
+}

@@ -382,6 +382,70 @@ fn other_parts_are_refused(rt: HostRuntime) {
     assert!(rt; all_refuse(rt.alloc(), NO_PARTS));
 }
 
+/// Whether a row prints what it does with memory enough, or is out of memory at one of its calls.
+fn prints_or_is_full(alloc: Global, row: &Row) -> bool {
+    let (of, text, out) = row;
+    let Some(kind) = kind_made(alloc, of) else {
+        return true;
+    };
+    let Ok(json) = Value::from_str(alloc, text) else {
+        return true;
+    };
+    let value = match from_json(alloc, &kind, &json) {
+        Ok(value) => value,
+        Err(e) => return e == JsonError::NoMemory,
+    };
+    let Ok(json) = to_json(alloc, &kind, &value) else {
+        return true;
+    };
+    match json.to_string(alloc) {
+        Ok(again) => again.as_str() == *out,
+        Err(_) => true,
+    }
+}
+
+/// Whether a text means no value of a type, or is out of memory.
+fn refuses_or_is_full(alloc: Global, row: &(Kind, &'static str)) -> bool {
+    let (of, text) = row;
+    let Some(kind) = kind_made(alloc, of) else {
+        return true;
+    };
+    match Value::from_str(alloc, text) {
+        Ok(json) => from_json(alloc, &kind, &json).is_err(),
+        Err(_) => true,
+    }
+}
+
+fn all_print_or_are_full(alloc: Global, rows: &[Row]) -> bool {
+    for row in rows {
+        if !prints_or_is_full(alloc, row) {
+            return false;
+        }
+    }
+    true
+}
+
+fn all_refuse_or_are_full(alloc: Global, rows: &[(Kind, &'static str)]) -> bool {
+    for row in rows {
+        if !refuses_or_is_full(alloc, row) {
+            return false;
+        }
+    }
+    true
+}
+
+#[test]
+fn out_of_memory_no_other_json_is_printed(rt: HostRuntime) {
+    assert!(rt; all_print_or_are_full(rt.alloc(), TEXTS));
+    assert!(rt; all_print_or_are_full(rt.alloc(), PARTS));
+}
+
+#[test]
+fn out_of_memory_nothing_else_is_taken(rt: HostRuntime) {
+    assert!(rt; all_refuse_or_are_full(rt.alloc(), NO_TEXTS));
+    assert!(rt; all_refuse_or_are_full(rt.alloc(), NO_PARTS));
+}
+
 /// Puts a part so often; whether there was memory.
 fn repeat(text: &mut String, part: &str, count: usize) -> bool {
     for _ in 0..count {
