@@ -30,7 +30,7 @@ kind_front a b h = at_front a b 7 (omega arith) h
 size_front : (a b : List ℕ) → 12 ≤ length a → take 4 (drop 8 (a ++ b)) ≡ take 4 (drop 8 a)
 size_front a b h = ap (λ (x : List ℕ). take 4 x) (drop-append-le 8 a b (omega arith)) ∙ take-append-le 4 (drop 8 a) b (omega (arith, length-drop 8 a))
 
-head_size_front : (a b : List ℕ) → 12 ≤ length a → size_of (a ++ b) ≡ size_of a
+pub head_size_front : (a b : List ℕ) → 12 ≤ length a → size_of (a ++ b) ≡ size_of a
 head_size_front a b h =
     ap (λ (o : Order). number_of o w32 (take 4 (drop 8 (a ++ b)))) (order_front a b h)
     ∙ ap (λ (x : List ℕ). number_of (order_of a) w32 x) (size_front a b h)
@@ -68,7 +68,7 @@ kind_with a b (Some k) h =
 abbrev judged_by : Bool → Bool → Result Header FrameCause → Result Header FrameCause
 judged_by m v r = cond (not m) (Err BadMagic) (cond (not v) (Err BadVersion) r)
 
-head_front : (a b : List ℕ) → 12 ≤ length a → header_at (a ++ b) ≡ header_at a
+pub head_front : (a b : List ℕ) → 12 ≤ length a → header_at (a ++ b) ≡ header_at a
 unfolding header_at
 head_front a b h =
     ap (λ (m : Bool). judged_by m (has_version (a ++ b)) (with_kind (a ++ b) (kind_by (kind_of (a ++ b))))) (magic_front a b h)

@@ -104,7 +104,7 @@ joins_all : (limit : ℕ) (p : Piece) (us : List Partial) → piece_cause limit 
 joins_all limit p us h =
     λ u o c.
     let f : is_fragment p.bytes ≡ true = of_fragment u.id p.bytes (is_fragment p.bytes) refl c in
-    let e = ap (fragment_cause limit (order_of p.bytes) p.bytes) (sym o) ∙ joins_within limit us p.bytes h f in
+    let e = ap (fragment_cause limit (order_of p.bytes) (length p.bytes)) (sym o) ∙ joins_within limit us p.bytes h f in
     omega (arith, length-append u.bytes (added p), length-drop 16 p.bytes, fragment_fits limit (order_of p.bytes) p.bytes u e)
 
 pub step_bounded : (limit : ℕ) (p : Piece) (us : List Partial) → IsBounded limit us → IsDistinct us → length p.bytes ≤ limit → 12 ≤ length p.bytes → piece_cause limit us p.bytes ≡ None → IsBounded limit (stepped p us)
@@ -134,6 +134,6 @@ times_16 : (n limit : ℕ) → n ≤ 16 → n * limit ≤ 16 * limit
 times_16 n limit h = mul-le-mul_right limit h
 
 -- between two reads at most 17 times the limit is kept
-pub kept_within : (s : State) → is_whole s.tail ≡ false → tail_cause s.limit s.tail ≡ None → IsBounded s.limit s.partials → kept_bytes s ≤ 17 * s.limit
-kept_within s w h b =
-    omega (arith, tail_by s.limit s.tail (nat_le 12 (length s.tail)) refl w h b.least, sum_within s.limit s.partials b.within, times_16 (length s.partials) s.limit b.few)
+pub kept_within : (s : State) → s.kept ≤ kept_bytes s → is_whole s.tail ≡ false → tail_cause s.limit s.tail ≡ None → IsBounded s.limit s.partials → s.kept ≤ 17 * s.limit
+kept_within s few w h b =
+    omega (arith, few, tail_by s.limit s.tail (nat_le 12 (length s.tail)) refl w h b.least, sum_within s.limit s.partials b.within, times_16 (length s.partials) s.limit b.few)

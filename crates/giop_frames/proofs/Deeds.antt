@@ -51,7 +51,7 @@ found_back id i us f d =
     ap (λ (n : ℕ). open_at n f.back) (sym (id_is f.there.id id f.same))
     ∙ after_none f.front f.there f.back (let P : List Partial → Type 0 = λ vs. IsDistinct vs in subst P f.parts d)
 
-found_remove : (id i : ℕ) (us : List Partial) (f : Found id us i) → remove us i ≡ f.front ++ f.back
+pub found_remove : (id i : ℕ) (us : List Partial) (f : Found id us i) → remove us i ≡ f.front ++ f.back
 found_remove id i us f =
     ap (remove us) (sym f.place) ∙ ap (λ (vs : List Partial). remove vs (length f.front)) f.parts
     ∙ ap (λ (x : List Partial). x ++ drop (suc (length f.front)) (f.front ++ f.there ∷ f.back)) (take-append_seam f.front (f.there ∷ f.back))

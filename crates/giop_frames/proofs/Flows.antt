@@ -1,6 +1,6 @@
 -- A whole piece gives and keeps no more bytes than it has and were kept before.
 use Rattle.std.proofs.Common.{◌≡◌, ℕ, ◌+◌, ◌-◌, ◌≤◌, Bool, true, false, cond, not, ◌==◌, List, [], ◌∷◌, ◌++◌, length, take, drop, Option, Some, None, refl, ap, subst, ◌∙◌, arith, filter, length-append, length-drop}
-use Rattle.std.specs.Prelude.{sum_by, option_to_list, option_map, slice_index}
+use Rattle.std.specs.Prelude.{option_to_list, option_map, slice_index}
 use Rattle.std.specs.Int.{w32}
 use Rattle.std.specs.List.{position}
 use Rattle.std.proofs.lemmas.List.{length-take-le}
@@ -12,18 +12,15 @@ use Rattle.giop_frames.specs.Pieces.{Piece, order_of, has_more, id_of}
 use Rattle.giop_frames.specs.Messages.{Partial, Message, is_fragment, ends, added, open_at, sealed, joined, lone, completed}
 use Rattle.giop_frames.specs.Running.{stepped}
 use Rattle.giop_frames.specs.Steps.{Found, Placed, IsSound}
-use Rattle.giop_frames.specs.Bounds.{AreLong, message_bytes}
+use Rattle.giop_frames.specs.Bounds.{AreLong, held, message_bytes}
 use Rattle.giop_frames.proofs.Places.{placed}
 use Rattle.giop_frames.proofs.Effects.{fragment_opens_none, last_opens_none, opens_first, fragment_continues, middle_ends, last_ends, step_none, step_drops, step_opens, step_grows, step_ends}
 use Rattle.giop_frames.proofs.Deeds.{found_open, found_back, completes_none, completes_joined, completes_lone}
 
-abbrev pub held : List Partial → ℕ
-held us = sum_by (λ u. length u.bytes) us
-
 held_cons : (u : Partial) (us : List Partial) → held (u ∷ us) ≡ length u.bytes + held us
 held_cons u us = sum_by-cons (λ v. length v.bytes) u us
 
-around : (front back : List Partial) (u : Partial) → held (front ++ u ∷ back) ≡ held front + (length u.bytes + held back)
+pub around : (front back : List Partial) (u : Partial) → held (front ++ u ∷ back) ≡ held front + (length u.bytes + held back)
 around front back u = sum_by-append (λ v. length v.bytes) front (u ∷ back) ∙ ap (λ (n : ℕ). held front + n) (held_cons u back)
 
 drop_one : (u : Partial) (us vs : List Partial) (b : Bool) → held vs ≤ held us → held (cond b (u ∷ vs) vs) ≤ held (u ∷ us)

@@ -29,11 +29,11 @@ pub no_bad : (limit : ℕ) (fed : List ℕ) (s : State) → Follows limit fed s 
 no_bad limit fed s f = ap (λ (x : Said). x.bad) (now_said limit fed s f ∙ ap (with_front (stream limit fed).messages) (resting_says s f.resting))
 
 -- the beginning
-pub follows_start : (limit : ℕ) → 16 ≤ limit → limit < 2 ^ 31 → Follows limit [] (record { limit = limit; at = 0; tail = []; partials = [] })
+pub follows_start : (limit : ℕ) → 16 ≤ limit → limit < 2 ^ 31 → Follows limit [] (record { limit = limit; at = 0; tail = []; partials = []; kept = 0 })
 unfolding unfinished
 follows_start limit le lt =
-    let s : State = record { limit = limit; at = 0; tail = []; partials = [] } in
-    let r : IsResting s = record { part = part_short [] (omega arith); sound = refl; distinct = tt; bounded = record { few = omega arith; within = tt; long = tt; least = le }; small = lt } in
+    let s : State = record { limit = limit; at = 0; tail = []; partials = []; kept = 0 } in
+    let r : IsResting s = record { few = omega arith; part = part_short [] (omega arith); sound = refl; distinct = tt; bounded = record { few = omega arith; within = tt; long = tt; least = le }; small = lt } in
     record {
       on = λ more. stream_is limit more
           ∙ ap (λ (x : List Message). with_front x (says s more)) (sym (ap (λ (x : Said). x.messages) (stream_is limit [] ∙ resting_says s r)));

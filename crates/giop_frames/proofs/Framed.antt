@@ -1,14 +1,13 @@
 -- A framer after a feed, and what the feed tells.
 use Rattle.std.proofs.Common.{◌≡◌, ℕ, ◌+◌, ◌*◌, ◌^◌, ◌<◌, ◌≤◌, Bool, false, List, [], ◌++◌, length, drop, Option, Some, None, true, Result, Ok, Err, refl, ap, sym, ◌∙◌, subst, arith, append_assoc}
-use Rattle.std.specs.Prelude.{sum_by}
 use Rattle.std.proofs.lemmas.List.{append-nil}
 use Rattle.std.proofs.Math.Seq.{drop-append_seam}
 use Rattle.giop_frames.specs.declared.fault.FeedFault.{FeedFault}
 use Rattle.giop_frames.specs.declared.fault.FeedFault.TheVariants.{Frame, NoMemory}
-use Rattle.giop_frames.specs.Messages.{Message, Partial}
+use Rattle.giop_frames.specs.Messages.{Message}
 use Rattle.giop_frames.specs.Stream.{Said, stream, with_front, stopped, rest_of, rest_with}
 use Rattle.giop_frames.specs.Running.{State}
-use Rattle.giop_frames.specs.Bounds.{kept_bytes, message_bytes, appended_bytes, unfinished_bytes}
+use Rattle.giop_frames.specs.Bounds.{message_bytes, appended_bytes, unfinished_bytes}
 use Rattle.giop_frames.specs.Joining.{Same, Fails}
 use Rattle.giop_frames.specs.Feeds.{Feed, said, Tells, Lasts}
 use Rattle.giop_frames.specs.Feeding.{Follows, Ended, IsFramed, IsEmptied, lacks, left_by}
@@ -94,7 +93,7 @@ rest_kept (Frame e) limit fed s left f h = sym f.rest
 rest_kept NoMemory limit fed s left f h = absurd (cc)
 
 -- the same, where the code has the parts of the framer
-pub follows_new : (limit : ℕ) (fed : List ℕ) (s : State) → 16 ≤ limit → limit < 2 ^ 31 → fed ≡ [] → s ≡ record { limit = limit; at = 0; tail = []; partials = [] } → Follows limit fed s
+pub follows_new : (limit : ℕ) (fed : List ℕ) (s : State) → 16 ≤ limit → limit < 2 ^ 31 → fed ≡ [] → s ≡ record { limit = limit; at = 0; tail = []; partials = []; kept = 0 } → Follows limit fed s
 follows_new limit fed s le lt hf hs =
     let P : List ℕ → Type 0 = λ b. Follows limit b s in
     let Q : State → Type 0 = λ y. Follows limit [] y in
@@ -107,7 +106,7 @@ follows_of fault limit fed s left n f = let P : Option FeedFault → Type 0 = λ
 abbrev pub Holds : ℕ → List ℕ → State → Option ℕ → Option FeedFault → Type 0
 Holds limit fed s left fault = IsFramed limit fed s left fault × IsEmptied s fault
 
-pub holds_new : (limit : ℕ) (fed : List ℕ) (s : State) → 16 ≤ limit → limit < 2 ^ 31 → fed ≡ [] → s ≡ record { limit = limit; at = 0; tail = []; partials = [] } → Holds limit fed s None None
+pub holds_new : (limit : ℕ) (fed : List ℕ) (s : State) → 16 ≤ limit → limit < 2 ^ 31 → fed ≡ [] → s ≡ record { limit = limit; at = 0; tail = []; partials = []; kept = 0 } → Holds limit fed s None None
 holds_new limit fed s le lt hf hs = (follows_new limit fed s le lt hf hs, tt)
 
 pub feed_ok_framed : (fault : Option FeedFault) (limit : ℕ) (fed fed' bytes : List ℕ) (whole whole' : List Message) (s s' : State) (left : Option ℕ) → fault ≡ None → Holds limit fed s left fault → fed' ≡ fed ++ bytes
@@ -118,12 +117,12 @@ feed_ok_framed fault limit fed fed' bytes whole whole' s s' left n f e m =
     subst P (sym n) (subst Q (sym e) (same_follows limit fed bytes whole whole' s s' (follows_of fault limit fed s left n f.0) m), tt)
 
 pub feed_err_framed : (fault : Option FeedFault) (x : FeedFault) (limit : ℕ) (fed fed' bytes : List ℕ) (whole whole' : List Message) (s s' t : State) (left left' : Option ℕ) → fault ≡ None → Holds limit fed s left fault → fed' ≡ fed ++ bytes
-    → Fails x bytes s s' whole whole' → left' ≡ left_by x s'.partials → t.tail ≡ [] → t.partials ≡ [] → Holds limit fed' t left' (Some x)
-feed_err_framed fault x limit fed fed' bytes whole whole' s s' t left left' n f e m hl ht hp =
+    → Fails x bytes s s' whole whole' → left' ≡ left_by x s'.partials → t.kept ≡ 0 → Holds limit fed' t left' (Some x)
+feed_err_framed fault x limit fed fed' bytes whole whole' s s' t left left' n f e m hl hk =
     let Q : List ℕ → Type 0 = λ b. IsFramed limit b s' left' (Some x) in
     let L : Option ℕ → Type 0 = λ r. IsFramed limit (fed ++ bytes) s' r (Some x) in (
       framed_any x limit fed' s' t left' (subst Q (sym e) (subst L (sym hl) (framed_err x limit fed bytes whole whole' s s' (follows_of fault limit fed s left n f.0) m))),
-      ap (λ (b : List ℕ). length b + sum_by (λ u. length u.bytes) t.partials) ht ∙ ap (λ (us : List Partial). 0 + sum_by (λ u. length u.bytes) us) hp,
+      hk,
     )
 
 pub feed_ok_tells : (v : Feed) (fault : Option FeedFault) (x : Unit {0}) (limit : ℕ) (fed fed' bytes : List ℕ) (whole whole' : List Message) (s s' : State) (left : Option ℕ) (k k' : ℕ) → feed_of limit fed (lacks fault) k ≡ v
@@ -196,34 +195,34 @@ rest_ended v fault x limit fed s left k hv n f h =
     rest_kept x limit fed s left (subst P n f.0) l ∙ ap (λ (y : Feed). (said y).rest) hv
 
 -- at most 17 times the limit is kept
-kept_by : (fault : Option FeedFault) (limit : ℕ) (fed : List ℕ) (s : State) (left : Option ℕ) → Holds limit fed s left fault → kept_bytes s ≤ 17 * limit
-kept_by None limit fed s left f =
-    let w : kept_bytes s ≤ 17 * s.limit = kept_within s f.0.resting.part f.0.resting.sound f.0.resting.bounded in
-    let P : ℕ → Type 0 = λ n. kept_bytes s ≤ 17 * n in subst P f.0.limit_is w
-kept_by (Some x) limit fed s left f = let e : kept_bytes s ≡ 0 = f.1 in omega arith
+held_within : (limit : ℕ) (fed : List ℕ) (s : State) → Follows limit fed s → s.kept ≤ 17 * s.limit
+held_within limit fed s f = kept_within s f.resting.few f.resting.part f.resting.sound f.resting.bounded
 
-pub kept_bound : (fault : Option FeedFault) (limit : ℕ) (fed : List ℕ) (s : State) (left : Option ℕ) → Holds limit fed s left fault → kept_bytes s ≤ 17 * limit
+kept_by : (fault : Option FeedFault) (limit : ℕ) (fed : List ℕ) (s : State) (left : Option ℕ) → Holds limit fed s left fault → s.kept ≤ 17 * limit
+kept_by None limit fed s left f = let P : ℕ → Type 0 = λ n. s.kept ≤ 17 * n in subst P f.0.limit_is (held_within limit fed s f.0)
+kept_by (Some x) limit fed s left f = let e : s.kept ≡ 0 = f.1 in omega arith
+
+pub kept_bound : (fault : Option FeedFault) (limit : ℕ) (fed : List ℕ) (s : State) (left : Option ℕ) → Holds limit fed s left fault → s.kept ≤ 17 * limit
 kept_bound fault limit fed s left f = kept_by fault limit fed s left f
 
 -- the bound on the limit is as long as there is no fault
-pub kept_fits : (fault : Option FeedFault) (limit : ℕ) (fed : List ℕ) (s : State) (left : Option ℕ) → Holds limit fed s left fault → kept_bytes s < 2 ^ 63
-kept_fits None limit fed s left f =
-    let w : kept_bytes s ≤ 17 * s.limit = kept_within s f.0.resting.part f.0.resting.sound f.0.resting.bounded in omega (arith, f.0.resting.small)
-kept_fits (Some x) limit fed s left f = let e : kept_bytes s ≡ 0 = f.1 in omega arith
+pub kept_fits : (fault : Option FeedFault) (limit : ℕ) (fed : List ℕ) (s : State) (left : Option ℕ) → Holds limit fed s left fault → s.kept < 2 ^ 63
+kept_fits None limit fed s left f = omega (arith, held_within limit fed s f.0, f.0.resting.small)
+kept_fits (Some x) limit fed s left f = let e : s.kept ≡ 0 = f.1 in omega arith
 
 -- what is appended and kept came with the feed, or was kept before
-pub feed_flows : (v : Feed) (fault : Option FeedFault) (limit : ℕ) (fed bytes : List ℕ) (whole whole' : List Message) (s s' : State) → feed_of limit fed (lacks fault) (kept_bytes s) ≡ v
-    → Same whole s bytes whole' s' → appended_bytes whole whole' + kept_bytes s' ≤ v.kept + length bytes
+pub feed_flows : (v : Feed) (fault : Option FeedFault) (limit : ℕ) (fed bytes : List ℕ) (whole whole' : List Message) (s s' : State) → feed_of limit fed (lacks fault) s.kept ≡ v
+    → Same whole s bytes whole' s' → appended_bytes whole whole' + s'.kept ≤ v.kept + length bytes
 feed_flows v fault limit fed bytes whole whole' s s' hv m =
     let new : drop (length whole) whole' ≡ m.told = ap (drop (length whole)) m.gives ∙ drop-append_seam whole m.told in
     omega (arith, m.flows, ap (λ (x : List Message). message_bytes x) new, ap (λ (y : Feed). y.kept) hv)
 
 -- no more is kept than has come of what is unfinished
-kept_held_by : (fault : Option FeedFault) (limit : ℕ) (fed : List ℕ) (s : State) (left : Option ℕ) → Holds limit fed s left fault → kept_bytes s ≤ unfinished_bytes fed
-kept_held_by None limit fed s left f = omega (arith, kept_came limit fed s f.0)
-kept_held_by (Some x) limit fed s left f = let e : kept_bytes s ≡ 0 = f.1 in omega arith
+kept_held_by : (fault : Option FeedFault) (limit : ℕ) (fed : List ℕ) (s : State) (left : Option ℕ) → Holds limit fed s left fault → s.kept ≤ unfinished_bytes fed
+kept_held_by None limit fed s left f = omega (arith, f.0.resting.few, kept_came limit fed s f.0)
+kept_held_by (Some x) limit fed s left f = let e : s.kept ≡ 0 = f.1 in omega arith
 
 pub kept_held : (v : Feed) (fault : Option FeedFault) (limit : ℕ) (fed : List ℕ) (s : State) (left : Option ℕ) (k n : ℕ) → feed_of limit fed (lacks fault) k ≡ v
-    → Holds limit fed s left fault → n ≡ kept_bytes s → n ≤ unfinished_bytes v.fed
+    → Holds limit fed s left fault → n ≡ s.kept → n ≤ unfinished_bytes v.fed
 kept_held v fault limit fed s left k n hv f e =
     omega (arith, e, kept_held_by fault limit fed s left f, ap (λ (y : Feed). unfinished_bytes y.fed) hv)

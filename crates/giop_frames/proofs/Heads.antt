@@ -141,14 +141,14 @@ header_within limit bytes e =
 abbrev pub rule : ℕ → List Partial → List ℕ → Bool → ℕ → Order → Option FrameCause
 rule limit us bytes more n order =
     cond (more && comes_whole n) (Some BadPiece) (cond (more && not (length bytes % 8 == 0)) (Some BadPiece)
-    (cond (is_kind Fragment n) (cond (nat_lt (length bytes) 16) (Some BadPiece) (fragment_cause limit order bytes (open_at (id_of bytes) us)))
-    (cond more (first_cause us bytes) None)))
+    (cond (is_kind Fragment n) (cond (nat_lt (length bytes) 16) (Some BadPiece) (fragment_cause limit order (length bytes) (open_at (id_of bytes) us)))
+    (cond more (first_cause us (id_of bytes)) None)))
 
 pub rule_is : (limit : ℕ) (us : List Partial) (bytes : List ℕ) (h : Header) → header_at bytes ≡ Ok h → piece_cause limit us bytes ≡ rule limit us bytes (has_more bytes) (kind_of bytes) (order_of bytes)
 unfolding piece_cause
 rule_is limit us bytes h e =
     let i = head_is bytes h e in
-    ap (piece_rule limit us bytes) e
+    ap (piece_rule limit us (length bytes) (id_of bytes)) e
     ∙ ap (λ (m : Bool). rule limit us bytes m (number h.kind) h.order) (ap (λ (x : Header). x.more) i.is)
     ∙ ap (λ (n : ℕ). rule limit us bytes (has_more bytes) n h.order) i.number_is
     ∙ ap (λ (o : Order). rule limit us bytes (has_more bytes) (kind_of bytes) o) (ap (λ (x : Header). x.order) i.is)
@@ -158,7 +158,7 @@ pub rule_sound : (limit : ℕ) (us : List Partial) (bytes : List ℕ) → header
 rule_sound limit us bytes e = let s = sound_head limit bytes e in rule_is limit us bytes s.0 s.1
 
 -- a whole piece that breaks no rule has a header
-none_by : (limit : ℕ) (us : List Partial) (bytes : List ℕ) (r : Result Header FrameCause) → header_at bytes ≡ r → piece_rule limit us bytes r ≡ None → (h : Header) × (header_at bytes ≡ Ok h)
+none_by : (limit : ℕ) (us : List Partial) (bytes : List ℕ) (r : Result Header FrameCause) → header_at bytes ≡ r → piece_rule limit us (length bytes) (id_of bytes) r ≡ None → (h : Header) × (header_at bytes ≡ Ok h)
 none_by limit us bytes (Err c) e h = absurd (cc)
 none_by limit us bytes (Ok x) e h = (x, e)
 

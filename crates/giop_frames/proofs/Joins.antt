@@ -1,24 +1,23 @@
 -- What the steps of a read do to what the machine says of further bytes.
-use Rattle.std.proofs.Common.{◌≡◌, ℕ, ◌+◌, ◌≤◌, ◌<◌, Bool, true, false, cond, List, [], ◌∷◌, ◌++◌, length, take, drop, Option, Some, None, Result, Ok, Err, OnOk, OnErr, refl, ap, sym, ◌∙◌, subst, arith, nat_le, append_assoc, length-append}
+use Rattle.std.proofs.Common.{◌≡◌, ℕ, ◌+◌, ◌≤◌, ◌<◌, Bool, true, false, cond, List, [], ◌∷◌, ◌++◌, length, take, drop, Option, Some, None, Result, Ok, Err, refl, ap, sym, ◌∙◌, subst, arith, nat_le, append_assoc, length-append}
 use Rattle.std.specs.Prelude.{option_to_list}
 use Rattle.std.proofs.lemmas.List.{append-nil, take-append-drop}
 use Rattle.std.proofs.lemmas.List.Sums.{sum_by-append}
-use Rattle.orb_base.specs.declared.no_memory.NoMemory.{NoMemory as Lack}
 use Rattle.giop_frames.specs.declared.fault.FrameCause.{FrameCause}
 use Rattle.giop_frames.specs.declared.fault.FrameFault.{FrameFault}
 use Rattle.giop_frames.specs.declared.fault.FeedFault.{FeedFault}
 use Rattle.giop_frames.specs.declared.fault.FeedFault.TheVariants.{Frame, NoMemory}
-use Rattle.giop_frames.specs.Pieces.{Piece, Cut, piece_len, cut}
+use Rattle.giop_frames.specs.Pieces.{Piece, Cut, is_whole, cut}
 use Rattle.giop_frames.specs.Messages.{Partial, Message, completed}
-use Rattle.giop_frames.specs.Stream.{Said, header_cause, piece_cause, or_else, or_stopped, stopped, with_front}
+use Rattle.giop_frames.specs.Stream.{Said, header_cause, tail_cause, piece_cause, or_else, or_stopped, stopped, with_front}
 use Rattle.giop_frames.specs.Running.{State, says, stepped, stepped_by, ahead, with_pieces, cut_from}
-use Rattle.giop_frames.specs.Steps.{IsDistinct, IsSound, Does}
-use Rattle.giop_frames.specs.Bounds.{IsBounded}
-use Rattle.giop_frames.specs.Joining.{IsResting, IsFilled, IsReady, Same, Stops, Lacks, Fails, Reads, lifted, with_tail}
-use Rattle.giop_frames.proofs.Ahead.{cut_piece, ahead_piece, ahead_bad, part_short, part_of}
+use Rattle.giop_frames.specs.Steps.{IsDistinct, Does}
+use Rattle.giop_frames.specs.Bounds.{IsBounded, held}
+use Rattle.giop_frames.specs.Joining.{IsResting, IsFilled, IsReady, Same, Stops, Lacks, Fails, Reads, with_tail}
+use Rattle.giop_frames.proofs.Ahead.{cut_piece, ahead_piece, ahead_bad, part_short}
 use Rattle.giop_frames.proofs.Heads.{header_within}
 use Rattle.giop_frames.proofs.Bounds.{step_bounded}
-use Rattle.giop_frames.proofs.Flows.{held, step_flows}
+use Rattle.giop_frames.proofs.Flows.{step_flows}
 use Rattle.giop_frames.proofs.Growing.{stepped-append}
 use Rattle.giop_frames.proofs.Soundness.{sound, opens_new, step_distinct}
 
@@ -45,30 +44,36 @@ lacks_any whole s bytes whole' is = record {
   front = λ more. refl;
 }
 
--- fewer bytes than a header, or than the piece that a sound header counts
-pub rests_short : (whole : List Message) (s : State) → IsFilled s → length s.tail < 12 → Same whole s [] whole s
-rests_short whole s f lt =
-    same_none whole s (record {
-      part = part_short s.tail lt;
-      sound = let n : nat_le 12 (length s.tail) ≡ false = grind arith in ap (λ (b : Bool). cond b (header_cause s.limit s.tail) None) n;
-      distinct = f.distinct;
-      bounded = f.bounded;
-      small = f.small;
-    })
+-- a header that breaks no rule, once its 12 bytes are there
+sound_by : (limit : ℕ) (tail : List ℕ) (b : Bool) → nat_le 12 (length tail) ≡ b → header_cause limit tail ≡ None → cond b (header_cause limit tail) None ≡ None
+sound_by limit tail true e h = h
+sound_by limit tail false e h = refl
 
-judged : (limit : ℕ) (tail : List ℕ) (b : Bool) → nat_le 12 (length tail) ≡ b → header_cause limit tail ≡ None → cond b (header_cause limit tail) None ≡ None
-judged limit tail true e h = h
-judged limit tail false e h = refl
+pub tail_sound : (limit : ℕ) (tail : List ℕ) → header_cause limit tail ≡ None → tail_cause limit tail ≡ None
+tail_sound limit tail h = sound_by limit tail (nat_le 12 (length tail)) refl h
 
-pub rests_part : (whole : List Message) (s : State) → IsFilled s → header_cause s.limit s.tail ≡ None → length s.tail < piece_len s.tail → Same whole s [] whole s
-rests_part whole s f h lt =
-    same_none whole s (record {
-      part = part_of s.tail lt;
-      sound = judged s.limit s.tail (nat_le 12 (length s.tail)) refl h;
-      distinct = f.distinct;
-      bounded = f.bounded;
-      small = f.small;
-    })
+pub tail_short : (limit : ℕ) (tail : List ℕ) → length tail < 12 → tail_cause limit tail ≡ None
+tail_short limit tail lt = let n : nat_le 12 (length tail) ≡ false = grind arith in ap (λ (b : Bool). cond b (header_cause limit tail) None) n
+
+-- the same, and so many bytes are kept
+abbrev pub kept_as : State → ℕ → State
+kept_as s k = record { limit = s.limit; at = s.at; tail = s.tail; partials = s.partials; kept = k }
+
+-- less than a piece, whose header breaks no rule if it is there
+pub rests_kept : (whole : List Message) (s : State) (k : ℕ) → IsFilled s → is_whole s.tail ≡ false → tail_cause s.limit s.tail ≡ None → k ≤ s.kept → k ≤ length s.tail + held s.partials
+    → Same whole s [] whole (kept_as s k)
+rests_kept whole s k f w c few all = record {
+  told = [];
+  gives = sym (append-nil whole);
+  on = λ more. refl;
+  resting = record { few = all; part = w; sound = c; distinct = f.distinct; bounded = f.bounded; small = f.small };
+  limit_is = refl;
+  place = omega arith;
+  took = [];
+  cuts = λ more. refl;
+  steps = refl;
+  flows = omega (arith, few);
+}
 
 pub stops_header : (whole : List Message) (s : State) (cause : FrameCause) → 12 ≤ length s.tail → header_cause s.limit s.tail ≡ Some cause
     → Stops whole s [] whole s.partials (record { cause = cause; offset = s.at })
@@ -99,11 +104,11 @@ stops_piece whole s cause r h = record {
 
 -- the state after a whole piece
 abbrev pub behind : State → List Partial → State
-behind s us = record { limit = s.limit; at = s.at + length s.tail; tail = []; partials = us }
+behind s us = record { limit = s.limit; at = s.at + length s.tail; tail = []; partials = us; kept = held us }
 
 pub finish_same : (whole whole' : List Message) (s : State) (us' : List Partial) → IsReady s → piece_cause s.limit s.partials s.tail ≡ None
-    → Does (record { at = s.at; bytes = s.tail }) s.partials us' whole whole' → Same whole s [] whole' (behind s us')
-finish_same whole whole' s us' r h d =
+    → Does (record { at = s.at; bytes = s.tail }) s.partials us' whole whole' → length s.tail + held s.partials ≤ s.kept → Same whole s [] whole' (behind s us')
+finish_same whole whole' s us' r h d few =
     let p : Piece = record { at = s.at; bytes = s.tail } in
     record {
       told = option_to_list (completed s.partials p);
@@ -111,6 +116,7 @@ finish_same whole whole' s us' r h d =
       on = λ more. says_piece s None more r h
           ∙ ap (λ (us : List Partial). with_front (option_to_list (completed s.partials p)) (ahead s.limit us (s.at + length s.tail) more)) (sym d.steps);
       resting = record {
+        few = omega arith;
         part = part_short [] (omega arith);
         sound = refl;
         distinct = let P : List Partial → Type 0 = λ us. IsDistinct us in
@@ -128,16 +134,9 @@ finish_same whole whole' s us' r h d =
         arith,
         step_flows p s.partials (sound s.limit s.partials s.tail h r.header r.small r.distinct) r.bounded.long,
         ap (λ (us : List Partial). held us) d.steps,
+        few,
       );
     }
-
-pub sound_ready : (s : State) → IsReady s → piece_cause s.limit s.partials s.tail ≡ None → IsSound s.partials s.tail
-sound_ready s r h = sound s.limit s.partials s.tail h r.header r.small r.distinct
-
-pub finish_reads : (r : Result (Unit {0}) Lack) (whole whole' : List Message) (s : State) (us' : List Partial) → IsReady s → piece_cause s.limit s.partials s.tail ≡ None
-    → OnOk r (Does (record { at = s.at; bytes = s.tail }) s.partials us' whole whole') → OnErr r (whole' ≡ whole) → Reads (lifted r) [] s (behind s us') whole whole'
-finish_reads (Ok x) whole whole' s us' r h d e = finish_same whole whole' s us' r h d
-finish_reads (Err x) whole whole' s us' r h d e = lacks_any whole s [] whole' e
 
 put_said : (s : State) (bytes more : List ℕ) → says s (bytes ++ more) ≡ says (with_tail s bytes) ([] ++ more)
 put_said s bytes more = ap (ahead s.limit s.partials s.at) (sym (append_assoc s.tail bytes more))
@@ -153,7 +152,7 @@ put_same whole whole' s s' bytes m = record {
   took = m.took;
   cuts = λ more. ap (λ (x : List ℕ). cut (length x) s.at x) (sym (append_assoc s.tail bytes more)) ∙ m.cuts more;
   steps = m.steps;
-  flows = omega (arith, m.flows, length-append s.tail bytes);
+  flows = omega (arith, m.flows);
 }
 
 pub put_stops : (whole whole' : List Message) (s : State) (bytes : List ℕ) (us : List Partial) (f : FrameFault) → Stops whole (with_tail s bytes) [] whole' us f → Stops whole s bytes whole' us f

@@ -11,6 +11,7 @@ pub mod Bounds
 pub mod Flows
 pub mod Joins
 pub mod JoinParts
+pub mod Opening
 pub mod Following
 pub mod Framed
 pub mod Feedings

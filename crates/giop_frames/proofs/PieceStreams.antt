@@ -29,12 +29,12 @@ unfolding is_fragment first_cause
 first_passes limit p h m f k e = rule_sound limit [] p h ∙ rw (m, k, e, f) refl
 
 middle_passes : (limit : ℕ) (us : List Partial) (p : List ℕ) → header_cause limit p ≡ None → has_more p ≡ true → is_fragment p ≡ true → comes_whole (kind_of p) ≡ false → (length p % 8 == 0) ≡ true
-    → nat_lt (length p) 16 ≡ false → fragment_cause limit (order_of p) p (open_at (id_of p) us) ≡ None → piece_cause limit us p ≡ None
+    → nat_lt (length p) 16 ≡ false → fragment_cause limit (order_of p) (length p) (open_at (id_of p) us) ≡ None → piece_cause limit us p ≡ None
 unfolding is_fragment
 middle_passes limit us p h m f k e l c = rule_sound limit us p h ∙ rw (m, k, e, f, l, c) refl
 
 last_passes : (limit : ℕ) (us : List Partial) (p : List ℕ) → header_cause limit p ≡ None → has_more p ≡ false → is_fragment p ≡ true
-    → nat_lt (length p) 16 ≡ false → fragment_cause limit (order_of p) p (open_at (id_of p) us) ≡ None → piece_cause limit us p ≡ None
+    → nat_lt (length p) 16 ≡ false → fragment_cause limit (order_of p) (length p) (open_at (id_of p) us) ≡ None → piece_cause limit us p ≡ None
 unfolding is_fragment
 last_passes limit us p h m f l c = rule_sound limit us p h ∙ rw (m, f, l, c) refl
 
@@ -43,7 +43,7 @@ unfolding same_order
 order_same Big = refl
 order_same Little = refl
 
-joins_fit : (limit : ℕ) (p : List ℕ) (u : Partial) → order_of p ≡ u.order → nat_lt limit (length u.bytes + (length p - 16)) ≡ false → fragment_cause limit (order_of p) p (Some u) ≡ None
+joins_fit : (limit : ℕ) (p : List ℕ) (u : Partial) → order_of p ≡ u.order → nat_lt limit (length u.bytes + (length p - 16)) ≡ false → fragment_cause limit (order_of p) (length p) (Some u) ≡ None
 unfolding fragment_cause
 joins_fit limit p u o l =
     let s : same_order u.order (order_of p) ≡ true = ap (same_order u.order) o ∙ order_same u.order in rw (s, l) refl
@@ -90,11 +90,11 @@ seven_header limit message more bytes p i l =
     header_passes limit p i.magic i.version (ap (λ (k : ℕ). nat_lt 7 k) i.kind_is) (let e : length p ≡ piece_len p = i.size in grind arith)
 
 part_joins : (limit : ℕ) (message : List ℕ) (more : Bool) (u : Partial) (bytes left p : List ℕ) → IsPieceOf message more 7 bytes p → IsBehind message limit u left → length bytes ≤ length left
-    → fragment_cause limit (order_of p) p (open_at (id_of p) (u ∷ [])) ≡ None
+    → fragment_cause limit (order_of p) (length p) (open_at (id_of p) (u ∷ [])) ≡ None
 part_joins limit message more u bytes left p i b l =
     let e : (u.id == id_of p) ≡ true = let e : u.id ≡ id_of p = b.id_is ∙ sym i.id in grind arith in
     let n : length u.bytes + (length p - 16) ≤ limit = omega (arith, i.long, b.room) in
-    ap (fragment_cause limit (order_of p) p) (open_one (id_of p) u e)
+    ap (fragment_cause limit (order_of p) (length p)) (open_one (id_of p) u e)
     ∙ joins_fit limit p u (i.order ∙ sym b.order_is) (grind arith)
 
 seven_short : comes_whole 7 ≡ false

@@ -22,7 +22,7 @@ pub record Passed (m k e f l : Bool) (fc pc : Option FrameCause) : Type 0 where
   pub fragment : f ≡ true → fc ≡ None
   pub first : m ≡ true → f ≡ false → pc ≡ None
 
-passed : (m k e f l : Bool) (fc pc : Option FrameCause)
+pub passed : (m k e f l : Bool) (fc pc : Option FrameCause)
     → cond (m && k) (Some BadPiece) (cond (m && not e) (Some BadPiece) (cond f (cond l (Some BadPiece) fc) (cond m pc None))) ≡ None → Passed m k e f l fc pc
 passed true true e f l fc pc h = absurd (cc)
 passed true false false f l fc pc h = absurd (cc)
@@ -34,10 +34,10 @@ passed false k e true false fc pc h = record { not_short = λ q. absurd (cc); ei
 passed false k e false l fc pc h = record { not_short = λ q. absurd (cc); eights = λ q. absurd (cc); long = λ q. absurd (cc); fragment = λ q. absurd (cc); first = λ q r. absurd (cc) }
 
 passes : (limit : ℕ) (us : List Partial) (b : List ℕ) → piece_cause limit us b ≡ None
-    → Passed (has_more b) (comes_whole (kind_of b)) (length b % 8 == 0) (is_fragment b) (nat_lt (length b) 16) (fragment_cause limit (order_of b) b (open_at (id_of b) us)) (first_cause us b)
+    → Passed (has_more b) (comes_whole (kind_of b)) (length b % 8 == 0) (is_fragment b) (nat_lt (length b) 16) (fragment_cause limit (order_of b) (length b) (open_at (id_of b) us)) (first_cause us (id_of b))
 unfolding is_fragment
 passes limit us b h =
-    passed (has_more b) (comes_whole (kind_of b)) (length b % 8 == 0) (is_fragment b) (nat_lt (length b) 16) (fragment_cause limit (order_of b) b (open_at (id_of b) us)) (first_cause us b)
+    passed (has_more b) (comes_whole (kind_of b)) (length b % 8 == 0) (is_fragment b) (nat_lt (length b) 16) (fragment_cause limit (order_of b) (length b) (open_at (id_of b) us)) (first_cause us (id_of b))
     (none_rule limit us b h)
 
 in_eights : (n : ℕ) → (n % 8 == 0) ≡ true → 12 ≤ n → 16 ≤ n
@@ -57,11 +57,11 @@ second_none true false h = refl
 second_none false b h = absurd (cc)
 
 -- what a Fragment joins is within the limit
-pub fragment_fits : (limit : ℕ) (order : Order) (b : List ℕ) (u : Partial) → fragment_cause limit order b (Some u) ≡ None → length u.bytes + (length b - 16) ≤ limit
+pub fragment_fits : (limit : ℕ) (order : Order) (b : List ℕ) (u : Partial) → fragment_cause limit order (length b) (Some u) ≡ None → length u.bytes + (length b - 16) ≤ limit
 unfolding fragment_cause
 fragment_fits limit order b u h = not_lt limit (length u.bytes + (length b - 16)) (second_none (same_order u.order order) (nat_lt limit (length u.bytes + (length b - 16))) h)
 
-joins : (limit : ℕ) (order : Order) (b : List ℕ) (o : Option Partial) → limit < 2 ^ 31 → fragment_cause limit order b o ≡ None → JoinFits (length b) o
+joins : (limit : ℕ) (order : Order) (b : List ℕ) (o : Option Partial) → limit < 2 ^ 31 → fragment_cause limit order (length b) o ≡ None → JoinFits (length b) o
 joins limit order b None s h = tt
 joins limit order b (Some u) s h = omega (arith, fragment_fits limit order b u h)
 
@@ -78,7 +78,7 @@ not_le : (n m : ℕ) → nat_le n m ≡ false → m < n
 not_le n m h = grind arith
 
 -- a first piece finds its id not open, and fewer than 16 unfinished messages
-pub first_new : (us : List Partial) (b : List ℕ) → first_cause us b ≡ None → (open_at (id_of b) us ≡ None) × (length us < 16)
+pub first_new : (us : List Partial) (b : List ℕ) → first_cause us (id_of b) ≡ None → (open_at (id_of b) us ≡ None) × (length us < 16)
 unfolding first_cause
 first_new us b h =
     let t : (is_some (open_at (id_of b) us) ≡ false) × (nat_le 16 (length us) ≡ false) = two_none (is_some (open_at (id_of b) us)) (nat_le 16 (length us)) h in
@@ -99,7 +99,7 @@ sound limit us b h l s d =
 pub opens_new : (limit : ℕ) (us : List Partial) (b : List ℕ) → piece_cause limit us b ≡ None → opens b ≡ true → (open_at (id_of b) us ≡ None) × (length us < 16)
 opens_new limit us b h o = let p = passes limit us b h in let k = opens_is b o in first_new us b (p.first k.0 k.1)
 
-pub joins_within : (limit : ℕ) (us : List Partial) (b : List ℕ) → piece_cause limit us b ≡ None → is_fragment b ≡ true → fragment_cause limit (order_of b) b (open_at (id_of b) us) ≡ None
+pub joins_within : (limit : ℕ) (us : List Partial) (b : List ℕ) → piece_cause limit us b ≡ None → is_fragment b ≡ true → fragment_cause limit (order_of b) (length b) (open_at (id_of b) us) ≡ None
 joins_within limit us b h f = (passes limit us b h).fragment f
 
 -- ids stay apart

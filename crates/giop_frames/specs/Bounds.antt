@@ -21,9 +21,13 @@ pub record IsBounded (limit : ℕ) (us : List Partial) : Type 0 where
   pub long : AreLong us
   pub least : 16 ≤ limit
 
--- the bytes of the unfinished messages, and those that have come of the next piece
+-- the bytes of unfinished messages
+abbrev pub held : List Partial → ℕ
+held us = sum_by (λ u. length u.bytes) us
+
+-- the bytes that have come of the next piece, and those of the unfinished messages
 abbrev pub kept_bytes : State → ℕ
-kept_bytes s = length s.tail + sum_by (λ u. length u.bytes) s.partials
+kept_bytes s = length s.tail + held s.partials
 
 -- the bytes of whole messages
 abbrev pub message_bytes : List Message → ℕ

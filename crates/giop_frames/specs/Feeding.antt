@@ -7,7 +7,6 @@ use Rattle.giop_frames.specs.Pieces.{Piece, cut}
 use Rattle.giop_frames.specs.Messages.{Partial, unfinished}
 use Rattle.giop_frames.specs.Stream.{stream, with_front, rest_of}
 use Rattle.giop_frames.specs.Running.{State, says, with_pieces, cut_from}
-use Rattle.giop_frames.specs.Bounds.{kept_bytes}
 use Rattle.giop_frames.specs.Joining.{IsResting}
 
 -- what the stream says of further bytes, the machine says of them after the messages so far
@@ -40,7 +39,7 @@ left_by NoMemory us = None
 -- after a fault nothing is kept
 abbrev pub IsEmptied : State → Option FeedFault → Type 0
 IsEmptied s None = Unit {0}
-IsEmptied s (Some fault) = kept_bytes s ≡ 0
+IsEmptied s (Some fault) = s.kept ≡ 0
 
 -- memory was wanting
 abbrev pub lacks : Option FeedFault → Bool

@@ -11,8 +11,9 @@ use Rattle.giop_frames.specs.Running.{State, says, stepped_by, with_pieces, cut_
 use Rattle.giop_frames.specs.Steps.{IsDistinct}
 use Rattle.giop_frames.specs.Bounds.{IsBounded, kept_bytes, message_bytes}
 
--- between two reads: less than a piece has come, and its header, if it is there, breaks no rule
+-- between two reads: less than a piece has come, and its header, if it is there, breaks no rule; no more is kept than has come
 pub record IsResting (s : State) : Type 0 where
+  pub few : s.kept ≤ kept_bytes s
   pub part : is_whole s.tail ≡ false
   pub sound : tail_cause s.limit s.tail ≡ None
   pub distinct : IsDistinct s.partials
@@ -46,7 +47,7 @@ pub record Same (whole : List Message) (s : State) (bytes : List ℕ) (whole' : 
   pub took : List Piece
   pub cuts : (more : List ℕ) → cut_from s (bytes ++ more) ≡ with_pieces took (cut_from s' more)
   pub steps : s'.partials ≡ stepped_by took s.partials
-  pub flows : message_bytes told + kept_bytes s' ≤ kept_bytes s + length bytes
+  pub flows : message_bytes told + s'.kept ≤ s.kept + length bytes
 
 -- the bytes hold a fault, whatever follows
 pub record Stops (whole : List Message) (s : State) (bytes : List ℕ) (whole' : List Message) (us : List Partial) (f : FrameFault) : Type 0 where
@@ -89,13 +90,13 @@ lifted (Err e) = Err NoMemory
 
 -- bytes put to what has come of a piece
 abbrev pub with_tail : State → List ℕ → State
-with_tail s bytes = record { limit = s.limit; at = s.at; tail = s.tail ++ bytes; partials = s.partials }
+with_tail s bytes = record { limit = s.limit; at = s.at; tail = s.tail ++ bytes; partials = s.partials; kept = s.kept + length bytes }
 
--- how many bytes the header, or else the piece, still lacks
+-- how many bytes are read at most: what the header lacks, or else no more than the piece lacks
 pub record Needs (s : State) (n : ℕ) : Type 0 where
   pub some : 0 < n
   pub header : length s.tail < 12 → length s.tail + n ≡ 12
-  pub piece : 12 ≤ length s.tail → length s.tail + n ≡ piece_len s.tail
+  pub piece : 12 ≤ length s.tail → length s.tail + n ≤ piece_len s.tail
 
 -- a prefix of the input was read
 pub record SoFar (n : ℕ) (input : List ℕ) (whole : List Message) (s : State) (whole' : List Message) (s' : State) : Type 0 where

@@ -8,6 +8,7 @@ pub mod Running
 pub mod Steps
 pub mod Bounds
 pub mod Joining
+pub mod Opening
 pub mod Feeding
 pub mod Laws
 pub mod Splitting

@@ -34,12 +34,14 @@ run_cut limit us c = run limit us c.whole c.tail
 unfoldable pub ahead : ℕ → List Partial → ℕ → List ℕ → Said
 ahead limit us at bytes = run_cut limit us (cut (length bytes) at bytes)
 
--- a framer between two reads: its limit, the offset of what has come of the next piece, that, and the unfinished messages
+-- a framer between two reads: its limit, the offset of what has come of the next piece, that, the unfinished messages, and how many bytes
+-- it keeps of both
 pub record State : Type 0 where
   pub limit : ℕ
   pub at : ℕ
   pub tail : List ℕ
   pub partials : List Partial
+  pub kept : ℕ
 
 -- what it says of further bytes
 abbrev pub says : State → List ℕ → Said

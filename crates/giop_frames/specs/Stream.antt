@@ -29,35 +29,35 @@ same_order Little Little = true
 same_order Big Little = false
 same_order Little Big = false
 
--- the rule that a Fragment of an order breaks, by the unfinished message of its id
-unfoldable pub fragment_cause : ℕ → Order → List ℕ → Option Partial → Option FrameCause
-fragment_cause limit order bytes None = Some BadPiece
-fragment_cause limit order bytes (Some u) =
+-- the rule that a Fragment of an order and a length breaks, by the unfinished message of its id
+unfoldable pub fragment_cause : ℕ → Order → ℕ → Option Partial → Option FrameCause
+fragment_cause limit order len None = Some BadPiece
+fragment_cause limit order len (Some u) =
     if not (same_order u.order order) then Some BadPiece
-    else if nat_lt limit (length u.bytes + (length bytes - 16)) then Some TooLong
+    else if nat_lt limit (length u.bytes + (len - 16)) then Some TooLong
     else None
 
--- the rule that a first piece breaks: its id is open, or 16 messages are unfinished
-unfoldable pub first_cause : List Partial → List ℕ → Option FrameCause
-first_cause us bytes =
-    if is_some (open_at (id_of bytes) us) then Some BadPiece
+-- the rule that a first piece of an id breaks: the id is open, or 16 messages are unfinished
+unfoldable pub first_cause : List Partial → ℕ → Option FrameCause
+first_cause us id =
+    if is_some (open_at id us) then Some BadPiece
     else if nat_le 16 (length us) then Some TooManyPartials
     else None
 
--- the first rule that a whole piece with a header breaks after these unfinished messages
-abbrev pub piece_rule : ℕ → List Partial → List ℕ → Result Header FrameCause → Option FrameCause
-piece_rule limit us bytes (Err cause) = Some cause
-piece_rule limit us bytes (Ok h) =
+-- the first rule that a piece of a length and an id breaks after these unfinished messages, by its header
+abbrev pub piece_rule : ℕ → List Partial → ℕ → ℕ → Result Header FrameCause → Option FrameCause
+piece_rule limit us len id (Err cause) = Some cause
+piece_rule limit us len id (Ok h) =
     if h.more && comes_whole (number h.kind) then Some BadPiece
-    else if h.more && not (length bytes % 8 == 0) then Some BadPiece
+    else if h.more && not (len % 8 == 0) then Some BadPiece
     else if is_kind Fragment (number h.kind) then
-    (if nat_lt (length bytes) 16 then Some BadPiece else fragment_cause limit h.order bytes (open_at (id_of bytes) us))
-    else if h.more then first_cause us bytes
+    (if nat_lt len 16 then Some BadPiece else fragment_cause limit h.order len (open_at id us))
+    else if h.more then first_cause us id
     else None
 
 -- the first rule that these bytes, a whole piece, break after these unfinished messages
 unfoldable pub piece_cause : ℕ → List Partial → List ℕ → Option FrameCause
-piece_cause limit us bytes = piece_rule limit us bytes (header_at bytes)
+piece_cause limit us bytes = piece_rule limit us (length bytes) (id_of bytes) (header_at bytes)
 
 -- the first, or else the second
 abbrev pub or_else : Option FrameCause → Option FrameCause → Option FrameCause

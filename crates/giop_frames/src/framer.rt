@@ -32,7 +32,6 @@ impl Model for Framer {
     ghost Value = { Feed };
 
     ghost use Rattle.giop_frames.specs.Feeding.{IsFramed, IsEmptied, lacks};
-    ghost use Rattle.giop_frames.specs.Bounds.{kept_bytes};
 
     ghost invariant = { λ f. IsFramed f.limit f.fed.items f.joiner f.left f.fault × IsEmptied f.joiner f.fault };
 
@@ -40,7 +39,7 @@ impl Model for Framer {
       limit = f.limit;
       fed = f.fed.items;
       lacked = lacks f.fault;
-      kept = kept_bytes f.joiner;
+      kept = f.joiner.kept;
     } };
 }
 

@@ -8,6 +8,7 @@ mod header;
 mod joiner;
 mod kind;
 pub mod laws;
+mod opened;
 mod partials;
 mod rules;
 mod stream;

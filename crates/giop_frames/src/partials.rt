@@ -1,17 +1,19 @@
 //! What a whole piece does to the unfinished messages.
-ghost use Rattle.std.specs.Prelude.{◌≡◌, ◌≤◌, ◌<◌, ◌+◌, ◌-◌, ◌^◌, [], ◌∷◌, ◌++◌, length, slice_index, true, false, OnOk, OnErr, IfOk};
+ghost use Rattle.std.specs.Prelude.{◌≡◌, ◌≤◌, ◌<◌, ◌+◌, ◌-◌, ◌^◌, [], ◌∷◌, ◌++◌, length, slice_index, true, false, insert, OnOk, OnErr, IfOk};
 ghost use Rattle.giop_frames.specs.Pieces.{has_more as has_more_of};
 ghost use Rattle.giop_frames.specs.Headers.{BeginsWith};
 ghost use Rattle.giop_frames.specs.Messages.{is_fragment as is_fragment_of, opens, sealed, joined};
 ghost use Rattle.giop_frames.specs.Running.{stepped};
 ghost use Rattle.giop_frames.specs.Steps.{written, IsSound, StepsBy, GrowsAt, Does};
+ghost use Rattle.giop_frames.specs.Opening.{JoinsSo, own_part};
 
 use crate::header::{HEADER, Header, kind_of};
 use crate::kind::Kind;
+use crate::opened::{Here, Joining};
 use crate::unfinished::{Unfinished, place_of};
 use crate::whole::Whole;
 use cdr_core::bytes_of_u32;
-use orb_base::{List, NoMemory, Octets, Order};
+use orb_base::{List, NoMemory, Octets, Order, Told};
 
 fn give(whole: &mut List<Whole>, message: Whole) -> Result<(), NoMemory>
     ensures ok { OnOk result (whole.new.items ≡ whole.old.items ++ message ∷ []) }
@@ -177,8 +179,8 @@ fn lone(
     )
 }
 
-/// Takes a whole piece that breaks no rule.
-pub(crate) fn take_piece(
+/// A piece that is no Fragment and breaks no rule. Its bytes are not copied.
+pub(crate) fn take_own(
     partials: &mut Vec<Unfinished>,
     at: u64,
     header: Header,
@@ -187,18 +189,86 @@ pub(crate) fn take_piece(
 ) -> Result<(), NoMemory>
     requires header { BeginsWith header bytes.items }
     requires sound { IsSound partials.old.items bytes.items }
+    requires other { is_fragment_of bytes.items ≡ false }
     ensures ok { OnOk result (Does (record { at = at; bytes = bytes.items }) partials.old.items partials.new.items whole.old.items whole.new.items) }
     ensures err { OnErr result (whole.new.items ≡ whole.old.items) }
 {
-    if header.is(Kind::Fragment) {
-        if header.more {
-            go_on(partials, header, bytes.as_slice())
-        } else {
-            end(partials, at, header, bytes.as_slice(), whole)
-        }
-    } else if header.more {
+    if header.more {
         begin(partials, at, header, bytes)
     } else {
         lone(partials, at, header, bytes, whole)
     }
+}
+
+/// A copy of bytes, of exactly their length.
+fn copied(here: Here, bytes: &[u8]) -> Result<Octets, NoMemory>
+    ensures { IfOk result (λ copy. copy.items ≡ bytes.now) }
+{
+    let mut copy = List::new(here.alloc);
+    copy.reserve_exact(bytes.len())?;
+    copy.append(bytes)?;
+    Ok(copy)
+}
+
+/// Takes a whole piece that breaks no rule. Its bytes are copied once.
+pub(crate) fn take_piece(
+    here: Here,
+    partials: &mut Vec<Unfinished>,
+    header: Header,
+    bytes: &[u8],
+    whole: &mut List<Whole>,
+) -> Result<(), NoMemory>
+    requires header { BeginsWith header bytes.now }
+    requires sound { IsSound partials.old.items bytes.now }
+    ensures ok { OnOk result (Does (record { at = here.at; bytes = bytes.now }) partials.old.items partials.new.items whole.old.items whole.new.items) }
+    ensures err { OnErr result (whole.new.items ≡ whole.old.items) }
+{
+    if header.is(Kind::Fragment) {
+        if header.more {
+            go_on(partials, header, bytes)
+        } else {
+            end(partials, here.at, header, bytes, whole)
+        }
+    } else {
+        take_own(partials, here.at, header, copied(here, bytes)?, whole)
+    }
+}
+
+/// Takes a whole Fragment whose bytes are at its message: the message goes back in its place, or it is complete.
+pub(crate) fn end_joined(
+    partials: &mut Vec<Unfinished>,
+    at: u64,
+    header: Header,
+    joining: Joining,
+    tail: &Told<u8>,
+    whole: &mut List<Whole>,
+) -> Result<(), NoMemory>
+    requires header { BeginsWith header tail.now.items }
+    requires joins { JoinsSo joining tail.now.items partials.old.items }
+    requires sound { IsSound (insert partials.old.items joining.place (own_part joining)) tail.now.items }
+    ensures ok { OnOk result (Does (record { at = at; bytes = tail.now.items }) (insert partials.old.items joining.place (own_part joining))
+        partials.new.items whole.old.items whole.new.items) }
+    ensures err { OnErr result (whole.new.items ≡ whole.old.items) }
+{
+    let Joining {
+        place,
+        message,
+        own: _,
+        kind,
+    } = joining;
+    if header.more {
+        partials.insert(place, message)?;
+        return Ok(());
+    }
+    let order = message.order;
+    let bytes = seal(order, message.bytes);
+    give(
+        whole,
+        Whole {
+            at,
+            order,
+            kind,
+            bytes,
+        },
+    )
 }

@@ -2,6 +2,7 @@
 ghost use Rattle.std.specs.Prelude.{◌≡◌, ◌≤◌, ◌+◌, length, nat_lt, Ok};
 ghost use Rattle.std.specs.Option.{option_copied};
 ghost use Rattle.giop_frames.specs.Headers.{BeginsWith};
+ghost use Rattle.giop_frames.specs.Pieces.{id_of};
 ghost use Rattle.giop_frames.specs.Stream as Rule;
 
 use crate::fault::FrameCause;
@@ -40,18 +41,18 @@ fn exceeds(limit: usize, has: usize, more: usize) -> bool
 fn fragment_cause(
     limit: usize,
     order: Order,
-    bytes: &[u8],
+    len: usize,
     begun: Option<&Unfinished>,
 ) -> Option<FrameCause>
-    requires { 16 ≤ length bytes.now }
-    ensures { result ≡ Rule.fragment_cause limit order bytes.now (option_copied begun.entry) }
+    requires { 16 ≤ len }
+    ensures { result ≡ Rule.fragment_cause limit order len (option_copied begun.entry) }
 {
     match begun {
         None => Some(FrameCause::BadPiece),
         Some(u) => {
             if !same_order(u.order, order) {
                 Some(FrameCause::BadPiece)
-            } else if exceeds(limit, u.bytes.len(), bytes.len() - 16) {
+            } else if exceeds(limit, u.bytes.len(), len - 16) {
                 Some(FrameCause::TooLong)
             } else {
                 None
@@ -61,12 +62,10 @@ fn fragment_cause(
 }
 
 #[tactic(auto, unfolding(crate::specs::Stream::first_cause))]
-fn first_cause(partials: &[Unfinished], header: Header, bytes: &[u8]) -> Option<FrameCause>
-    requires header { BeginsWith header bytes.now }
-    requires long { 16 ≤ length bytes.now }
-    ensures { result ≡ Rule.first_cause partials.now bytes.now }
+fn first_cause(partials: &[Unfinished], id: u32) -> Option<FrameCause>
+    ensures { result ≡ Rule.first_cause partials.now id }
 {
-    if open_at(header.id_of(bytes), partials).is_some() {
+    if open_at(id, partials).is_some() {
         Some(FrameCause::BadPiece)
     } else if partials.len() >= MAX_PARTIALS {
         Some(FrameCause::TooManyPartials)
@@ -75,29 +74,33 @@ fn first_cause(partials: &[Unfinished], header: Header, bytes: &[u8]) -> Option<
     }
 }
 
-/// The first rule that a whole piece with this header breaks after these unfinished messages.
+/// The first rule that a piece of a length breaks after these unfinished messages, by its header and its first bytes: 16
+/// of them, or all of a shorter piece.
 pub(crate) fn piece_cause(
     limit: usize,
     partials: &[Unfinished],
     header: Header,
     bytes: &[u8],
+    len: usize,
 ) -> Option<FrameCause>
-    requires { BeginsWith header bytes.now }
-    ensures { result ≡ Rule.piece_rule limit partials.now bytes.now (Ok header) }
+    requires begins { BeginsWith header bytes.now }
+    requires least { 12 ≤ len }
+    requires long { 16 ≤ len → 16 ≤ length bytes.now }
+    ensures { result ≡ Rule.piece_rule limit partials.now len (id_of bytes.now) (Ok header) }
 {
     if header.more && header.kind.comes_whole() {
         Some(FrameCause::BadPiece)
-    } else if header.more && bytes.len() % 8 != 0 {
+    } else if header.more && len % 8 != 0 {
         Some(FrameCause::BadPiece)
     } else if header.is(Kind::Fragment) {
-        if bytes.len() < 16 {
+        if len < 16 {
             Some(FrameCause::BadPiece)
         } else {
             let begun = open_at(header.id_of(bytes), partials);
-            fragment_cause(limit, header.order, bytes, begun)
+            fragment_cause(limit, header.order, len, begun)
         }
     } else if header.more {
-        first_cause(partials, header, bytes)
+        first_cause(partials, header.id_of(bytes))
     } else {
         None
     }

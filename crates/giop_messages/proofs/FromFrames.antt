@@ -222,7 +222,7 @@ none_is = All-nil IsMessage
 one_is : (m : Message) → IsMessage m → All IsMessage (m ∷ [])
 one_is m h = All-cons IsMessage m [] h none_is
 
-joined_is : (limit : ℕ) (p : Piece) (u : Partial) → limit ≤ MAX_MESSAGE → IsBegun u.order true u.bytes → fragment_cause limit (order_of p.bytes) p.bytes (Some u) ≡ None → IsMessage (joined_message p u)
+joined_is : (limit : ℕ) (p : Piece) (u : Partial) → limit ≤ MAX_MESSAGE → IsBegun u.order true u.bytes → fragment_cause limit (order_of p.bytes) (length p.bytes) (Some u) ≡ None → IsMessage (joined_message p u)
 joined_is limit p u few h e =
     let all : List ℕ = u.bytes ++ added p in
     let short : length all ≤ MAX_MESSAGE = omega (arith, length-append u.bytes (added p), length-drop 16 p.bytes, fragment_fits limit (order_of p.bytes) p.bytes u e, few) in
@@ -237,7 +237,7 @@ completed_by limit us p false false o em ef eo few hs l w h k = one_is (lone p) 
 completed_by limit us p false true None em ef eo few hs l w h k = none_is
 completed_by limit us p false true (Some u) em ef eo few hs l w h k =
     one_is (joined_message p u)
-    (joined_is limit p u few (found_begun (id_of p.bytes) us u hs eo) (ap (fragment_cause limit (order_of p.bytes) p.bytes) (sym eo) ∙ joins_within limit us p.bytes k ef))
+    (joined_is limit p u few (found_begun (id_of p.bytes) us u hs eo) (ap (fragment_cause limit (order_of p.bytes) (length p.bytes)) (sym eo) ∙ joins_within limit us p.bytes k ef))
 
 completed_is : (limit : ℕ) (us : List Partial) (p : Piece) → limit ≤ MAX_MESSAGE → AreBegun us → 12 ≤ length p.bytes → length p.bytes ≡ piece_len p.bytes → header_cause limit p.bytes ≡ None
     → piece_cause limit us p.bytes ≡ None → All IsMessage (option_to_list (completed us p))

@@ -11,7 +11,7 @@ pub invariant_of-self-in-Err : goal.invariant_of-self-in-Err
 invariant_of-self-in-Err c =
     feed_err_framed c.self.inside.fault c.in-Err.fault c.self.inside.limit c.self.inside.fed.items c.and-self-inside.result.items c.args.piece.now c.args.whole.now.items c.read.new.whole.items
     c.self.inside.joiner c.read.new.self c.clear.new.self c.self.inside.left c.left_by-self-inside.result c.in-None.is c.self.invariant c.and-self-inside.ensures c.in-Err.ensures
-    c.left_by-self-inside.ensures c.clear.ensures.tail c.clear.ensures.partials
+    c.left_by-self-inside.ensures c.clear.ensures.kept
 
 pub returns-in-Ok-clause-tells : goal.returns-in-Ok-clause-tells
 returns-in-Ok-clause-tells c =
