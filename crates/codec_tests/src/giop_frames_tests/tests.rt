@@ -379,8 +379,8 @@ fn a_header_alone_keeps_its_12_bytes(rt: HostRuntime) {
     assert!(rt; keeps_a_header(rt.alloc()));
 }
 
-/// Whether so many bytes at most are kept after each feed of at most `n` bytes, and none after the last.
-fn keeps_at_most(alloc: Global, bytes: &[u8], n: usize, most: u64) -> bool
+/// Whether so many bytes at most are kept after each feed of at most `n` bytes, and `at_last` after the last.
+fn keeps_at_most(alloc: Global, bytes: &[u8], n: usize, most: u64, at_last: u64) -> bool
     requires { 0 < n }
 {
     let mut whole = List::new(alloc);
@@ -396,7 +396,7 @@ fn keeps_at_most(alloc: Global, bytes: &[u8], n: usize, most: u64) -> bool
         }
         left = back;
     }
-    framer.kept() == 0
+    framer.kept() == at_last
 }
 
 /// What is kept after the first bytes of the two pings: of the open message 24 bytes, and 40 once it goes on; with them
@@ -437,11 +437,35 @@ fn all_keep(alloc: Global, rows: &[(usize, u64)]) -> bool {
 #[test]
 fn what_is_unfinished_is_kept_and_no_more(rt: HostRuntime) {
     assert!(rt; all_keep(rt.alloc(), KEPT));
-    assert!(rt; keeps_at_most(rt.alloc(), &INTERLEAVED, 1, 72));
+    assert!(rt; keeps_at_most(rt.alloc(), &INTERLEAVED, 1, 72, 0));
     assert!(rt;
-        keeps_at_most(rt.alloc(), &INTERLEAVED, 5, 72)
-            && keeps_at_most(rt.alloc(), &INTERLEAVED, 128, 0)
+        keeps_at_most(rt.alloc(), &INTERLEAVED, 5, 72, 0)
+            && keeps_at_most(rt.alloc(), &INTERLEAVED, 128, 0, 0)
     );
+}
+
+/// The first bytes of a Fragment of 200,000 bytes, whose id isn't open.
+const STRAY: [u8; 16] = [
+    0x47, 0x49, 0x4f, 0x50, 1, 2, 0, 7, 0, 3, 0x0d, 0x34, 0, 0, 0, 9,
+];
+
+/// Whether the stray Fragment, but for its last byte, costs 16 bytes, however it comes, and is refused at its last byte.
+fn counts_a_stray(alloc: Global, bytes: &mut Vec<u8>) -> bool {
+    let mut whole = List::new(alloc);
+    bytes.extend_from_slice(&STRAY).is_ok()
+        && put_zeros(bytes, 199_983)
+        && keeps_at_most(alloc, bytes.as_slice(), 1, 16, 16)
+        && keeps_at_most(alloc, bytes.as_slice(), 4_096, 16, 16)
+        && put_zeros(bytes, 1)
+        && match fed_by(alloc, 262_144, bytes.as_slice(), 4_096, &mut whole) {
+            Ok(answer) => answer == (Err(fault(FrameCause::BadPiece, 0)), None),
+            Err(_) => false,
+        }
+}
+
+#[test]
+fn a_fragment_that_no_message_waits_for_is_counted_and_not_kept(rt: HostRuntime) {
+    assert!(rt; counts_a_stray(rt.alloc(), &mut Vec::new(rt.alloc())));
 }
 
 fn octets(alloc: Global, bytes: &[u8]) -> Option<Octets>
