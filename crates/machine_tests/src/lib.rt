@@ -1,6 +1,8 @@
-//! Tests of `turn_cell`, `thread_borrowing`, `request_buffer`, `history_lines`, `lane_pool`, `trace_lines`.
+//! Tests of `turn_cell`, `thread_borrowing`, `request_buffer`, `history_lines`, `lane_pool`, `trace_lines`, `fit_audit`.
 #![tactic(auto)]
 
+#[cfg(test)]
+mod fit_audit_tests;
 #[cfg(test)]
 mod history_lines_tests;
 #[cfg(test)]
