@@ -33,7 +33,9 @@ use Rattle.trace_lines.specs.declared.trace_line.CollectReply.TheVariants as col
 use Rattle.trace_lines.specs.declared.trace_line.Action.{Action}
 use Rattle.trace_lines.specs.declared.trace_line.Action.TheVariants as action
 use Rattle.trace_lines.specs.declared.trace_line.TraceLine.{TraceLine}
-use Rattle.fit_audit.specs.Seats.{offer_closing, post_closing, cancel_closing, one_more, hearing, reader_after, set_reader, readers_after, last_reply, collected, Heard}
+use Rattle.fit_audit.specs.LastReplies.{last_reply, collected}
+use Rattle.fit_audit.specs.Readers.{offer_closing, post_closing, cancel_closing, one_more, hearing, reader_after}
+use Rattle.fit_audit.specs.Seats.{set_reader, readers_after, Heard}
 use Rattle.fit_audit.specs.declared.last_reply.LastReply.{LastReply}
 use Rattle.fit_audit.specs.declared.last_reply.LastReply.TheVariants as kind
 use Rattle.fit_audit.specs.declared.reader.Reader.{Reader}

@@ -16,7 +16,8 @@ use Rattle.lane_machine.specs.Entries.{One}
 use Rattle.lane_machine.specs.SeatLaws.{known}
 use Rattle.trace_lines.specs.ReadBack.{jobs_of, entry_by, entries_after, history_of}
 use Rattle.trace_lines.specs.declared.trace_line.TraceLine.{TraceLine}
-use Rattle.fit_audit.specs.Seats.{allows, new_reader, Opened, Heard}
+use Rattle.fit_audit.specs.Readers.{new_reader}
+use Rattle.fit_audit.specs.Seats.{allows, Opened, Heard}
 use Rattle.fit_audit.specs.declared.last_reply.LastReply.{LastReply}
 use Rattle.fit_audit.specs.declared.last_reply.LastReply.TheVariants.{Unheard}
 use Rattle.fit_audit.specs.declared.reader.Reader.{Reader}

@@ -26,7 +26,8 @@ use Rattle.trace_lines.specs.ReadBack.{job_of, answer_of, with_job, finish_by, c
 use Rattle.trace_lines.specs.declared.trace_line.Action.{Action}
 use Rattle.trace_lines.specs.declared.trace_line.Action.TheVariants as action
 use Rattle.trace_lines.specs.declared.trace_line.TraceLine.{TraceLine}
-use Rattle.fit_audit.specs.Seats.{seat_by, reads, may_hear, reader_may, slot_may, worker_may, writer_may, may_call, allows}
+use Rattle.fit_audit.specs.Readers.{reads, may_hear, reader_may}
+use Rattle.fit_audit.specs.Seats.{seat_by, slot_may, worker_may, writer_may, may_call, allows}
 use Rattle.fit_audit.specs.declared.last_reply.LastReply.{LastReply}
 use Rattle.fit_audit.specs.declared.last_reply.LastReply.TheVariants.{Unheard, Finished, Handed, Other}
 use Rattle.fit_audit.specs.declared.reader.Reader.{Reader}

@@ -1,20 +1,14 @@
 -- What is kept of the seats of a run along its lines, and the next call that it allows. Own profile.
-use Rattle.std.specs.Prelude.{◌≡◌, ℕ, ◌+◌, ◌*◌, ◌-◌, ◌^◌, ◌==◌, ◌&&◌, ◌||◌, not, nat_lt, min, Bool, true, false, List, replicate, Option, Some, None, slice_get, slice_set}
+use Rattle.std.specs.Prelude.{◌≡◌, ℕ, ◌+◌, ◌*◌, ◌==◌, ◌&&◌, nat_lt, Bool, true, false, List, replicate, Option, Some, None, slice_get, slice_set}
 use Rattle.orb_base.specs.declared.conn_id.ConnId.{ConnId}
 use Rattle.lane_machine.specs.Callers as seat
-use Rattle.trace_lines.specs.declared.trace_line.OfferReply.{OfferReply}
-use Rattle.trace_lines.specs.declared.trace_line.OfferReply.TheVariants as offer_reply
-use Rattle.trace_lines.specs.declared.trace_line.PostReply.{PostReply}
-use Rattle.trace_lines.specs.declared.trace_line.PostReply.TheVariants as post_reply
-use Rattle.trace_lines.specs.declared.trace_line.CancelReply.{CancelReply}
-use Rattle.trace_lines.specs.declared.trace_line.CancelReply.TheVariants as cancel_reply
-use Rattle.trace_lines.specs.declared.trace_line.CollectReply.{CollectReply}
-use Rattle.trace_lines.specs.declared.trace_line.CollectReply.TheVariants as collect_reply
 use Rattle.trace_lines.specs.declared.trace_line.Action.{Action}
 use Rattle.trace_lines.specs.declared.trace_line.Action.TheVariants as action
 use Rattle.trace_lines.specs.declared.trace_line.TraceLine.{TraceLine}
+use Rattle.fit_audit.specs.LastReplies.{last_reply, may_take, may_collect}
+use Rattle.fit_audit.specs.Readers.{reader_may, reader_after, new_reader}
 use Rattle.fit_audit.specs.declared.last_reply.LastReply.{LastReply}
-use Rattle.fit_audit.specs.declared.last_reply.LastReply.TheVariants.{Unheard, Finished, Handed, Other}
+use Rattle.fit_audit.specs.declared.last_reply.LastReply.TheVariants.{Unheard}
 use Rattle.fit_audit.specs.declared.reader.Reader.{Reader}
 use Rattle.fit_audit.specs.declared.seats.Seats.{Seats}
 
@@ -36,88 +30,6 @@ seat_by slots (action.Collect conn r) = writer_seat conn
 seat_by slots (action.End conn how) = seat.slot_seat conn.slot
 seat_by slots (action.Leave slot) = seat.slot_seat slot
 
--- a message was handed over, or nothing comes any more
-abbrev pub collected : CollectReply → LastReply
-collected (collect_reply.Answered k) = Handed
-collected (collect_reply.Early k) = Handed
-collected (collect_reply.Transient k) = Handed
-collected (collect_reply.Posted id) = Handed
-collected collect_reply.Close = Other
-collected collect_reply.Error = Other
-collected collect_reply.Done = Other
-
--- what a call's reply says of the next call
-abbrev pub last_reply : Action → LastReply
-last_reply (action.Finish t k len) = Finished
-last_reply (action.Collect conn r) = collected r
-last_reply a = Other
-
--- nothing is in the worker's hands, and it was not told that all has ended
-abbrev pub may_take : LastReply → Bool
-may_take Unheard = true
-may_take Finished = true
-may_take r = false
-
--- the writing side was not told that nothing comes any more
-abbrev pub may_collect : LastReply → Bool
-may_collect Unheard = true
-may_collect Handed = true
-may_collect r = false
-
--- an Offer was answered Closing, a Post, a Cancel
-abbrev pub offer_closing : OfferReply → Bool
-offer_closing offer_reply.Closing = true
-offer_closing r = false
-
-abbrev pub post_closing : PostReply → Bool
-post_closing post_reply.Closing = true
-post_closing r = false
-
-abbrev pub cancel_closing : CancelReply → Bool
-cancel_closing cancel_reply.Closing = true
-cancel_closing r = false
-
--- the call was answered Closing
-abbrev pub is_closing : Action → Bool
-is_closing (action.Offer request r) = offer_closing r
-is_closing (action.Post conn id r) = post_closing r
-is_closing (action.Cancel conn id r) = cancel_closing r
-is_closing a = false
-
--- the slot reads its connection of this number, of which it has so many
-abbrev pub reads : ℕ → Reader → ℕ → Bool
-reads per_slot r nth = nat_lt nth per_slot && (r.ended == nth) && not r.left
-
--- no call of this connection was answered Closing
-abbrev pub may_hear : ℕ → Reader → ℕ → Bool
-may_hear per_slot r nth = reads per_slot r nth && not r.closed
-
--- the slot's caller may call this
-abbrev pub reader_may : ℕ → Reader → Action → Bool
-reader_may per_slot r (action.Offer request x) = may_hear per_slot r request.conn.nth && (r.heard == request.serial)
-reader_may per_slot r (action.Post conn id x) = may_hear per_slot r conn.nth
-reader_may per_slot r (action.Cancel conn id x) = may_hear per_slot r conn.nth
-reader_may per_slot r (action.End conn how) = reads per_slot r conn.nth
-reader_may per_slot r (action.Leave slot) = not r.left && (r.heard == 0)
-reader_may per_slot r a = false
-
--- one more, up to the greatest number
-abbrev pub one_more : ℕ → ℕ
-one_more n = min (n + 1) (2 ^ 64 - 1)
-
--- the slot's caller after a call of its connection
-abbrev pub hearing : Reader → Bool → Reader
-hearing r closing = record { ended = r.ended; heard = one_more r.heard; closed = r.closed || closing; left = r.left }
-
--- the slot's caller after it called this
-abbrev pub reader_after : Reader → Action → Reader
-reader_after r (action.Offer request x) = hearing r (offer_closing x)
-reader_after r (action.Post conn id x) = hearing r (post_closing x)
-reader_after r (action.Cancel conn id x) = hearing r (cancel_closing x)
-reader_after r (action.End conn how) = record { ended = one_more r.ended; heard = 0; closed = false; left = r.left }
-reader_after r (action.Leave slot) = record { ended = r.ended; heard = r.heard; closed = r.closed; left = true }
-reader_after r a = r
-
 -- the caller of a slot may call this, if there is such a slot
 abbrev pub slot_may : ℕ → Option Reader → Action → Bool
 slot_may per_slot (Some r) a = reader_may per_slot r a
@@ -135,7 +47,8 @@ writer_may None = false
 
 -- the seat whose call this is may make it now
 abbrev pub may_call : Seats → Action → Bool
-may_call seats (action.Offer request x) = slot_may seats.per_slot (slice_get seats.readers.items request.conn.slot) (action.Offer request x)
+may_call seats (action.Offer request x) =
+    slot_may seats.per_slot (slice_get seats.readers.items request.conn.slot) (action.Offer request x)
 may_call seats (action.Post conn id x) = slot_may seats.per_slot (slice_get seats.readers.items conn.slot) (action.Post conn id x)
 may_call seats (action.Cancel conn id x) = slot_may seats.per_slot (slice_get seats.readers.items conn.slot) (action.Cancel conn id x)
 may_call seats (action.Take t task) = worker_may (slice_get seats.replies.items (worker_seat seats.slots t))
@@ -152,16 +65,13 @@ set_reader readers slot None a = readers
 
 -- the callers of the slots after this call
 abbrev pub readers_after : List Reader → Action → List Reader
-readers_after readers (action.Offer request x) = set_reader readers request.conn.slot (slice_get readers request.conn.slot) (action.Offer request x)
+readers_after readers (action.Offer request x) =
+    set_reader readers request.conn.slot (slice_get readers request.conn.slot) (action.Offer request x)
 readers_after readers (action.Post conn id x) = set_reader readers conn.slot (slice_get readers conn.slot) (action.Post conn id x)
 readers_after readers (action.Cancel conn id x) = set_reader readers conn.slot (slice_get readers conn.slot) (action.Cancel conn id x)
 readers_after readers (action.End conn how) = set_reader readers conn.slot (slice_get readers conn.slot) (action.End conn how)
 readers_after readers (action.Leave slot) = set_reader readers slot (slice_get readers slot) (action.Leave slot)
 readers_after readers a = readers
-
--- the slot's caller before any call
-abbrev pub new_reader : Reader
-new_reader = record { ended = 0; heard = 0; closed = false; left = false }
 
 -- the seats of a run of so many slots and connections of each, before any call
 pub record Opened (count each : ℕ) (seats : Seats) : Type 0 where

@@ -1,6 +1,6 @@
 //! The last reply to a seat.
 ghost use Rattle.std.specs.Prelude.{◌≡◌};
-ghost use Rattle.fit_audit.specs.Seats as Spec;
+ghost use Rattle.fit_audit.specs.LastReplies as Spec;
 
 use trace_lines::{Action, CollectReply};
 

@@ -1,6 +1,6 @@
 //! The caller of a slot.
 ghost use Rattle.std.specs.Prelude.{◌≡◌};
-ghost use Rattle.fit_audit.specs.Seats as Spec;
+ghost use Rattle.fit_audit.specs.Readers as Spec;
 
 use trace_lines::{Action, CancelReply, OfferReply, PostReply};
 

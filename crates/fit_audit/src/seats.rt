@@ -1,5 +1,6 @@
 //! The seats of a run: the caller of each slot, each worker and each connection's writing side.
 ghost use Rattle.std.specs.Prelude.{◌≡◌, IfOk, slice_get, slice_set};
+ghost use Rattle.fit_audit.specs.LastReplies.{last_reply as last_reply_lem};
 ghost use Rattle.fit_audit.specs.Seats as Spec;
 
 use crate::last_reply::{LastReply, last_reply};
@@ -8,8 +9,8 @@ use orb_base::{ConnId, NoMemory};
 use std::alloc::Global;
 use trace_lines::{Action, TraceLine};
 
-/// What was called so far by each seat of a run, as far as it says what may be called next. It is as much as the slots and
-/// connections that the run opened with, however long the run is.
+/// What was called so far by each seat of a run, as far as it says what may be called next. It takes as much memory as the run has
+/// slots, however long the run is.
 #[derive(Drop)]
 pub struct Seats {
     slots: u8,
@@ -77,7 +78,7 @@ fn note_action(readers: &mut Vec<Reader>, action: &Action)
 
 /// Notes the reply to a seat.
 fn note_reply(replies: &mut Vec<LastReply>, line: &TraceLine)
-    ensures { replies.new.items ≡ slice_set replies.old.items line.now.caller (Spec.last_reply line.now.action) }
+    ensures { replies.new.items ≡ slice_set replies.old.items line.now.caller (last_reply_lem line.now.action) }
 {
     let at = line.caller as usize;
     if at < replies.len() {
