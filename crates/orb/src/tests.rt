@@ -1,15 +1,17 @@
 //! The lines that notes print.
 
 use crate::note_text::NoteText;
+use crate::run_door::RunDoor;
 use crate::std_files::StdFiles;
 use crate::std_net::StdNet;
+use crate::turned_away::CLOSE;
 use crate::{orb_main, without_words};
 use config_tables::{ConfigCause, ConfigFault};
 use giop_messages::Fault;
 use idl_grammar::{IdlCause, IdlFault};
 use object_refs::{RefCause, RefFault};
 use orb_base::{Filed, Files, List, MemSink, Sink, SteadySource, Text};
-use orb_command::{Note, Role};
+use orb_command::{Answered, Note, Role};
 use orb_nets::Net;
 use script_checks::{CheckCause, CheckFault};
 use script_grammar::ScriptFault;
@@ -140,7 +142,7 @@ fn words_that_cannot_be_had_have_their_status(rt: HostRuntime) -> Result<(), Fai
         (io::ErrorKind::InvalidData, 1, "usage"),
     ] {
         let fault = io::Error::from(kind);
-        let answered = without_words(rt.alloc(), &fault);
+        let answered: Answered<(), (), ()> = without_words(rt.alloc(), &fault);
         assert_eq!(rt; answered.status, status);
         let text = NoteText {
             note: &answered.note,
@@ -164,18 +166,25 @@ const REPLY: &[u8] = b"GIOP\x01\x02\0\x01\0\0\0\x0e\0\0\0\x01\0\0\0\0\0\0\0\0\0\
 
 const LINE: &[u8] = b"calls 1 run 1 lent 0 kept 0 full 0 removed 0 connections 1\n";
 
-/// What the server writes that listens at this port of loopback.
+/// One slot of two connections.
+const TWO: &str =
+    "server = { slots = 1, per_slot = 2 }\npool = { static = 1, dynamic = 0, default_priority = 100 }\nadapter = [{ name = \"main\", model = \"CLIENT_PROPAGATED\", priority = 100 }]\nobject = [{ key = \"ping\", adapter = \"main\", interface = \"IDL:Orb/Ping:1.0\" }]\n";
+
+const TWO_LINE: &[u8] = b"calls 2 run 2 lent 0 kept 0 full 0 removed 0 connections 2\n";
+
+/// What the server writes that listens at this port of loopback, by a file of configuration.
 fn serve<
     R: net::Net<Listener = TcpListener, Stream = TcpStream> + rt::Files + Wait + Threads + Sync,
->(rt: &R, alloc: Global, port: u16) -> Option<Vec<u8>> {
+>(rt: &R, alloc: Global, config: &str, port: u16) -> Option<Vec<u8>> {
     let mut words = Vec::new(alloc);
-    for word in ["serve", "--config", "one.toml", "--listen"] {
+    for word in ["serve", "--config", config, "--listen"] {
         words.push(String::from_str(alloc, word).ok()?).ok()?;
     }
     words
         .push(format!(in alloc; "127.0.0.1:{port}").ok()?)
         .ok()?;
-    let mut net = StdNet::new(rt, alloc);
+    let door = RunDoor::new();
+    let mut net = StdNet::new(rt, alloc, &door);
     let mut files = StdFiles::new(rt, alloc);
     let mut input = SteadySource::new(List::new(alloc), List::new(alloc));
     let mut out = MemSink::new(alloc, List::new(alloc), List::new(alloc));
@@ -185,13 +194,14 @@ fn serve<
 }
 
 /// What a client at this port of loopback reads until the server closes. It tries again while nobody listens there.
-fn ask<R: net::Net<Listener = TcpListener, Stream = TcpStream> + rt::Clock + Wait>(
+fn ask<R: net::Net<Listener = TcpListener, Stream = TcpStream> + rt::Clock + Wait + Sync>(
     rt: &R,
     alloc: Global,
     port: u16,
 ) -> Option<Vec<u8>> {
     let host = Text::new(alloc, b"127.0.0.1").ok()?;
-    let mut net = StdNet::new(rt, alloc);
+    let door = RunDoor::new();
+    let mut net = StdNet::new(rt, alloc, &door);
     for _ in 0..1_000 {
         if let Ok((mut source, mut sink)) = net.connect(&host, port) {
             let WriteAll::Whole = write_all(&mut sink, PING_AND_CLOSE) else {
@@ -215,11 +225,78 @@ fn a_request_is_served_over_loopback(rt: HostRuntime) -> Result<(), Fail> {
     let port = TcpListener::bind(&rt, ("127.0.0.1", 0))?
         .local_addr()?
         .port();
-    let (line, reply) = thread::join(&rt, || serve(&rt, alloc, port), || ask(&rt, alloc, port));
+    let (line, reply) = thread::join(
+        &rt,
+        || serve(&rt, alloc, "one.toml", port),
+        || ask(&rt, alloc, port),
+    );
     let reply = reply.ok_or("a reply")?;
     let line = line.ok_or("a summary")?;
     assert!(rt; reply.as_slice() == REPLY);
     assert!(rt; line.as_slice() == LINE);
     fs::remove_file(&rt, "one.toml")?;
+    Ok(())
+}
+
+/// What two clients read, of which the second connects once the first has read the end of its stream.
+fn ask_twice<R: net::Net<Listener = TcpListener, Stream = TcpStream> + rt::Clock + Wait + Sync>(
+    rt: &R,
+    alloc: Global,
+    port: u16,
+) -> Option<(Vec<u8>, Vec<u8>)> {
+    let first = ask(rt, alloc, port)?;
+    let second = ask(rt, alloc, port)?;
+    Some((first, second))
+}
+
+/// A writing side that never closes its sink is refused: the first client would wait for the end of its stream, and the slot for the
+/// second client. So is one that closes before its last write, since a closed link takes nothing more.
+#[test]
+fn a_second_client_comes_after_the_end_of_the_first(rt: HostRuntime) -> Result<(), Fail> {
+    let alloc = rt.alloc();
+    fs::write(&rt, "two.toml", TWO)?;
+    let port = TcpListener::bind(&rt, ("127.0.0.1", 0))?
+        .local_addr()?
+        .port();
+    let (line, replies) = thread::join(
+        &rt,
+        || serve(&rt, alloc, "two.toml", port),
+        || ask_twice(&rt, alloc, port),
+    );
+    let (first, second) = replies.ok_or("two replies")?;
+    let line = line.ok_or("a summary")?;
+    assert!(rt; first.as_slice() == REPLY);
+    assert!(rt; second.as_slice() == REPLY);
+    assert!(rt; line.as_slice() == TWO_LINE);
+    fs::remove_file(&rt, "two.toml")?;
+    Ok(())
+}
+
+/// Two slots, and a run that hears one call.
+const LIMIT: &str =
+    "server = { slots = 2, per_slot = 2, max_calls = 1 }\npool = { static = 1, dynamic = 0, default_priority = 100 }\nadapter = [{ name = \"main\", model = \"CLIENT_PROPAGATED\", priority = 100 }]\nobject = [{ key = \"ping\", adapter = \"main\", interface = \"IDL:Orb/Ping:1.0\" }]\n";
+
+const LIMIT_LINE: &[u8] = b"calls 1 run 1 lent 0 kept 0 full 0 removed 0 connections 2\n";
+
+/// A server whose slots go on waiting for a link is refused: the second client's call closes the run, and no third client comes to end
+/// the wait of the other slot.
+#[test]
+fn a_slot_that_waits_is_woken_where_the_run_closes(rt: HostRuntime) -> Result<(), Fail> {
+    let alloc = rt.alloc();
+    fs::write(&rt, "limit.toml", LIMIT)?;
+    let port = TcpListener::bind(&rt, ("127.0.0.1", 0))?
+        .local_addr()?
+        .port();
+    let (line, replies) = thread::join(
+        &rt,
+        || serve(&rt, alloc, "limit.toml", port),
+        || ask_twice(&rt, alloc, port),
+    );
+    let (first, second) = replies.ok_or("two replies")?;
+    let line = line.ok_or("a summary")?;
+    assert!(rt; first.as_slice() == REPLY);
+    assert!(rt; second.as_slice() == CLOSE);
+    assert!(rt; line.as_slice() == LIMIT_LINE);
+    fs::remove_file(&rt, "limit.toml")?;
     Ok(())
 }
