@@ -280,34 +280,35 @@ impl<'a, R: net::Net<Listener = TcpListener, Stream = TcpStream> + Sync> StdAcce
         came
     }
 
-    /// Hands a link out, or keeps it where the run closes.
-    fn unless_closing(&mut self, stream: TcpStream) -> Came
-        ensures { (self.new.faults ≡ self.old.faults) × (self.new.ends ≡ self.old.ends) }
-    {
-        if self.closer.door().is_closing() {
-            self.kept = Some(stream);
-            return Came::Closing;
-        }
-        Came::Link(stream)
-    }
-
-    /// The next link that isn't one of the server's own.
-    fn next(&mut self) -> Came
-        ensures { (self.new.faults ≡ self.old.faults) × (self.new.ends ≡ self.old.ends) }
-    {
+    /// The next link that isn't one of the server's own, the one that was kept before all others.
+    fn next_after(&self, kept: Option<TcpStream>) -> Came {
+        let mut kept = kept;
         for _ in 0..MOST_OWN {
-            let came = match self.kept.take() {
+            let came = match kept.take() {
                 Some(stream) => Came::Link(stream),
                 None => self.wait(),
             };
             match came {
                 Came::Link(stream) if self.closer.door().is_own(&stream) => {}
-                Came::Link(stream) => return self.unless_closing(stream),
-                Came::Closing => return Came::Closing,
-                Came::Failed => return Came::Failed,
+                other => return other,
             }
         }
         Came::Failed
+    }
+
+    /// The next link. One that comes while the run closes is kept.
+    fn next(&mut self) -> Came
+        ensures counts { (self.new.faults ≡ self.old.faults) × (self.new.ends ≡ self.old.ends) }
+        ensures left { self.new.left ≡ self.old.left }
+    {
+        let kept = self.kept.take();
+        match self.next_after(kept) {
+            Came::Link(stream) if self.closer.door().is_closing() => {
+                self.kept = Some(stream);
+                Came::Closing
+            }
+            other => other,
+        }
     }
 
     /// The halves of a link.
