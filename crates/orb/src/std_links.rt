@@ -241,7 +241,7 @@ pub struct StdAcceptor<'a, R> {
     ends: u64,
 }
 
-impl<'a, R: net::Net<Listener = TcpListener, Stream = TcpStream> + Sync> StdAcceptor<'a, R> {
+impl<'a, R: net::Net<Listener = TcpListener, Stream = TcpStream>> StdAcceptor<'a, R> {
     /// What accepts so many links, with its counts at 0.
     pub fn new(
         alloc: Global,
@@ -249,7 +249,7 @@ impl<'a, R: net::Net<Listener = TcpListener, Stream = TcpStream> + Sync> StdAcce
         closer: DoorCloser<'a, R>,
         each: u32,
     ) -> StdAcceptor<'a, R>
-        ensures { ⟦<StdAcceptor<'a, R> as Acceptor>⟧.state result ≡ record { links = None; faults = 0; ends = 0 } }
+        ensures { (result.faults ≡ 0) × (result.ends ≡ 0) }
     {
         StdAcceptor {
             alloc,

@@ -107,7 +107,7 @@ fn take_waiting(listener: &TcpListener, into: &mut Vec<TcpStream>) {
 
 /// Ends the listening: takes the links that wait, lets the listener go share by share, so that the next peer is refused at once, and
 /// then turns away those that were taken.
-pub fn end_listening<'a, R: net::Net<Listener = TcpListener, Stream = TcpStream> + Sync>(
+pub fn end_listening<'a, R: net::Net<Listener = TcpListener, Stream = TcpStream>>(
     alloc: Global,
     acceptors: List<StdAcceptor<'a, R>>,
 ) {
