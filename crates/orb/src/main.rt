@@ -6,7 +6,9 @@ ghost use Rattle.orb_command.specs.Command.{status_of};
 
 #[cfg(test)]
 mod cause_tests;
+mod door_sink;
 mod note_text;
+mod run_door;
 mod std_files;
 mod std_links;
 mod std_net;
@@ -14,19 +16,22 @@ mod std_sink;
 mod std_source;
 #[cfg(test)]
 mod tests;
+mod turned_away;
 
+use door_sink::DoorSink;
 use note_text::NoteText;
 use orb_base::List;
 use orb_command::{Answered, Note, orb_main};
+use run_door::RunDoor;
 use std::alloc::Global;
 use std::process::ExitCode;
 use std::rt::Env;
 use std::{env, io};
 use std_files::StdFiles;
-use std_links::{LinkSink, LinkSource, StdAcceptor};
 use std_net::StdNet;
 use std_sink::StdSink;
 use std_source::StdSource;
+use turned_away::end_listening;
 
 /// The words after the program's name.
 fn words<R: Env + AllocGlobal>(rt: &R, alloc: Global) -> io::Result<Vec<String>> {
@@ -37,11 +42,8 @@ fn words<R: Env + AllocGlobal>(rt: &R, alloc: Global) -> io::Result<Vec<String>>
     Ok(words)
 }
 
-/// What the program ends with, over real devices.
-type Ended = Answered<StdAcceptor, LinkSource, LinkSink>;
-
 /// What is answered where the words can't be had: memory was wanting, or one of them isn't UTF-8.
-fn without_words(alloc: Global, fault: &io::Error) -> Ended
+fn without_words<A, I, O>(alloc: Global, fault: &io::Error) -> Answered<A, I, O>
     ensures { result.status ≡ status_of result.note }
 {
     let (status, note) = match fault.kind() {
@@ -58,12 +60,16 @@ fn without_words(alloc: Global, fault: &io::Error) -> Ended
 }
 
 fn main(rt: HostRuntime) -> ExitCode {
+    let door = RunDoor::new();
     let answered = match words(&rt, rt.alloc()) {
         Ok(words) => {
-            let mut net = StdNet::new(&rt, rt.alloc());
+            let mut net = StdNet::new(&rt, rt.alloc(), &door);
             let mut files = StdFiles::new(&rt, rt.alloc());
             let mut input = StdSource::new(rt.stdin());
-            let mut out = StdSink::new(rt.stdout());
+            let mut out = DoorSink {
+                out: StdSink::new(rt.stdout()),
+                door: &door,
+            };
             orb_main(
                 &rt,
                 rt.alloc(),
@@ -76,6 +82,8 @@ fn main(rt: HostRuntime) -> ExitCode {
         }
         Err(fault) => without_words(rt.alloc(), &fault),
     };
+    // Before the histories are given back, so that peers wait as little as they can for a server that has ended.
+    end_listening(rt.alloc(), answered.acceptors);
     if !matches!(answered.note, Note::Nothing) {
         // A note that can't be printed changes nothing.
         let _ = rt.eprintln(NoteText {

@@ -1,13 +1,15 @@
 //! Links over TCP, of which nothing is given but the counts.
 ghost use Rattle.std.specs.Prelude.{◌≡◌, ◌<◌, ◌≤◌, None, length, IfSome};
-ghost use Rattle.orb_base.specs.Outside.{IsNewSource, IsNewSink};
+ghost use Rattle.orb_base.specs.Outside.{IsNewSource, IsNewSink, Rose};
+ghost use Rattle.orb_base.specs.declared.accepted.Accepted.TheVariants.{Done, Failed};
 
+use crate::run_door::DoorCloser;
+use crate::turned_away::CLOSE;
 use orb_base::{Accepted, Acceptor, Got, Put, Sink, Source};
 use std::alloc::Global;
-use std::io;
 use std::io::{BufReader, Read, Write};
 use std::net::{Shutdown, TcpListener, TcpStream};
-use std::time::Duration;
+use std::{io, net};
 
 /// Bytes that a link reads ahead.
 const READ_AHEAD: usize = 65_536;
@@ -67,14 +69,48 @@ impl Source for LinkSource {
 }
 
 /// The writing half of a link, with its count of faults. A write that takes nothing is a fault. A close ends the link in both
-/// directions, and lets go of it: a write after that is a fault.
+/// directions, and lets go of it: a write after that is a fault. Where its last message is a CloseConnection the run closes, or memory ran
+/// out: then no slot takes another link in this run.
 #[derive(Drop)]
-pub struct LinkSink {
+pub struct LinkSink<'a, R> {
     stream: Option<TcpStream>,
+    closer: Option<DoorCloser<'a, R>>,
+    /// How much is still to come of the message that is being written.
+    rest: u64,
+    /// Whether the last message is a CloseConnection.
+    told: bool,
     faults: u64,
 }
 
-impl LinkSink {
+/// How long a message is whose first piece this is, with its header.
+fn message_len(piece: &[u8]) -> u64 {
+    if piece.len() < 12 {
+        return piece.len() as u64;
+    }
+    let mut size = [0u8; 4];
+    size.copy_from_slice(&piece[8..12]);
+    let size = if piece[6] & 1 == 0 {
+        u32::from_be_bytes(size)
+    } else {
+        u32::from_le_bytes(size)
+    };
+    12 + u64::from(size)
+}
+
+impl<'a, R> LinkSink<'a, R> {
+    /// A sink over a link, with its count at 0.
+    fn new(stream: TcpStream, closer: Option<DoorCloser<'a, R>>) -> LinkSink<'a, R>
+        ensures { result.faults ≡ 0 }
+    {
+        LinkSink {
+            stream: Some(stream),
+            closer,
+            rest: 0,
+            told: false,
+            faults: 0,
+        }
+    }
+
     /// How many bytes the link took; none once it was let go or where the write failed.
     fn bytes(&mut self, piece: &[u8]) -> usize
         ensures fits { result ≤ length piece.now }
@@ -85,18 +121,32 @@ impl LinkSink {
             None => 0,
         }
     }
+
+    /// Notes what is written: a message's first piece has its header, so that no bytes within a message are taken for one.
+    fn note(&mut self, piece: &[u8])
+        ensures { self.new.faults ≡ self.old.faults }
+    {
+        if self.rest == 0 {
+            self.rest = message_len(piece);
+            self.told = piece == CLOSE;
+        }
+    }
 }
 
-impl Sink for LinkSink {
+impl<'a, R: net::Net<Listener = TcpListener, Stream = TcpStream>> Sink for LinkSink<'a, R> {
     ghost state = { λ s. record { held = None; faults = s.faults } };
 
     fn write(&mut self, piece: &[u8]) -> Put {
+        self.note(piece);
         match self.bytes(piece) {
             0 => {
                 self.faults = self.faults.saturating_add(1);
                 Put::Failed
             }
-            n => Put::Took(n),
+            n => {
+                self.rest = self.rest.saturating_sub(n as u64);
+                Put::Took(n)
+            }
         }
     }
 
@@ -105,6 +155,11 @@ impl Sink for LinkSink {
             let _ = stream.shutdown(Shutdown::Both);
         }
         self.stream = None;
+        if let Some(closer) = &self.closer
+            && self.told
+        {
+            closer.close();
+        }
     }
 }
 
@@ -119,26 +174,26 @@ fn read_ahead(alloc: Global, stream: &TcpStream) -> Option<BufReader<TcpStream>>
 }
 
 /// The halves of a stream, whose small writes go at once (TCP_NODELAY). None where the system refuses.
-pub fn halves(alloc: Global, stream: TcpStream) -> Option<(LinkSource, LinkSink)>
+pub fn halves<'a, R: net::Net<Listener = TcpListener, Stream = TcpStream>>(
+    alloc: Global,
+    stream: TcpStream,
+    closer: Option<DoorCloser<'a, R>>,
+) -> Option<(LinkSource, LinkSink<'a, R>)>
     ensures source { IfSome result (λ link. IsNewSource (⟦<LinkSource as Source>⟧.state link.0)) }
-    ensures sink { IfSome result (λ link. IsNewSink (⟦<LinkSink as Sink>⟧.state link.1)) }
+    ensures sink { IfSome result (λ link. IsNewSink (⟦<LinkSink<'a, R> as Sink>⟧.state link.1)) }
 {
     let Ok(()) = stream.set_nodelay(true) else {
         return None;
     };
     let reader = read_ahead(alloc, &stream)?;
-    let sink = LinkSink {
-        stream: Some(stream),
-        faults: 0,
-    };
-    Some((LinkSource::new(reader), sink))
+    Some((LinkSource::new(reader), LinkSink::new(stream, closer)))
 }
 
 /// How many peers in a row may be gone again when they are accepted.
 const MOST_GONE: u32 = 1_000;
 
 /// Whether an accept met a peer that is gone again, or was interrupted: the next one may do.
-fn is_passing(fault: &io::Error) -> bool {
+pub fn is_passing(fault: &io::Error) -> bool {
     matches!(
         fault.kind(),
         io::ErrorKind::ConnectionAborted
@@ -147,137 +202,167 @@ fn is_passing(fault: &io::Error) -> bool {
     )
 }
 
-/// The next stream. None where the system refuses.
-fn next_stream(listener: &TcpListener) -> Option<TcpStream> {
+/// How many links of the server's own are passed over in a row at most.
+const MOST_OWN: u32 = 64;
+
+/// What came of waiting for a link.
+#[derive(Drop)]
+enum Came {
+    Link(TcpStream),
+    /// The run closes.
+    Closing,
+    /// The system refuses.
+    Failed,
+}
+
+/// The next link of a listener.
+fn next_stream(listener: &TcpListener) -> Came {
     for _ in 0..MOST_GONE {
         match listener.accept() {
-            Ok((stream, _)) => return Some(stream),
+            Ok((stream, _)) => return Came::Link(stream),
             Err(fault) if is_passing(&fault) => {}
-            Err(_) => return None,
+            Err(_) => return Came::Failed,
         }
     }
-    None
+    Came::Failed
 }
 
-/// The next link. None where the system refuses.
-fn next_link(alloc: Global, listener: &TcpListener) -> Option<(LinkSource, LinkSink)>
-    ensures source { IfSome result (λ link. IsNewSource (⟦<LinkSource as Source>⟧.state link.0)) }
-    ensures sink { IfSome result (λ link. IsNewSink (⟦<LinkSink as Sink>⟧.state link.1)) }
-{
-    let stream = next_stream(listener)?;
-    halves(alloc, stream)
-}
-
-/// CloseConnection: nothing of what the peer sent was run. CORBA 3.0.3, section 15.4.7.
-const CLOSE: &[u8] = b"GIOP\x01\x02\0\x05\0\0\0\0";
-
-/// How many links that wait are turned away at most.
-const MOST_TURNED_AWAY: u32 = 4_096;
-
-/// How many pieces of what such a peer sent are passed over at most.
-const MOST_PASSED_OVER: u32 = 64;
-
-/// How long such a peer is waited for, in milliseconds.
-const PATIENCE: u64 = 20;
-
-/// Passes over what a peer sent, up to its end: a link that is let go with bytes unread is reset, and the peer may lose what it was
-/// sent.
-fn pass_over(stream: &mut TcpStream) {
-    for _ in 0..MOST_PASSED_OVER {
-        let mut piece = [0u8; 4096];
-        match stream.read(&mut piece) {
-            Ok(n) if n > 0 => {}
-            _ => return,
-        }
-    }
-}
-
-/// Closes a link that wasn't served, so that its peer knows that nothing ran.
-fn turn_away(stream: TcpStream) {
-    let mut stream = stream;
-    let patience = Some(Duration::from_millis(PATIENCE));
-    if stream.set_write_timeout(patience).is_ok()
-        && stream.set_read_timeout(patience).is_ok()
-        && stream.write_all(CLOSE).is_ok()
-        && stream.shutdown(Shutdown::Write).is_ok()
-    {
-        pass_over(&mut stream);
-    }
-}
-
-/// Turns away the links that wait.
-fn turn_away_all(listener: &TcpListener) {
-    if listener.set_nonblocking(true).is_err() {
-        return;
-    }
-    for _ in 0..MOST_TURNED_AWAY {
-        match listener.accept() {
-            Ok((stream, _)) => turn_away(stream),
-            Err(fault) if is_passing(&fault) => {}
-            Err(_) => return,
-        }
-    }
-}
-
-/// One slot's share of a listener, with its counts. It tells no links. Where it is let go, the links that wait are turned away.
-pub struct StdAcceptor {
+/// One slot's share of a listener, with its counts. It tells no links. While the run closes it answers that no link is left, and keeps
+/// one that came for the next run.
+#[derive(Drop)]
+pub struct StdAcceptor<'a, R> {
     alloc: Global,
     listener: TcpListener,
+    closer: DoorCloser<'a, R>,
+    /// A link that came while a run closed.
+    kept: Option<TcpStream>,
     left: u32,
     faults: u64,
     ends: u64,
 }
 
-impl StdAcceptor {
+impl<'a, R: net::Net<Listener = TcpListener, Stream = TcpStream>> StdAcceptor<'a, R> {
     /// What accepts so many links, with its counts at 0.
-    pub fn new(alloc: Global, listener: TcpListener, each: u32) -> StdAcceptor
-        ensures { ⟦<StdAcceptor as Acceptor>⟧.state result ≡ record { links = None; faults = 0; ends = 0 } }
+    pub fn new(
+        alloc: Global,
+        listener: TcpListener,
+        closer: DoorCloser<'a, R>,
+        each: u32,
+    ) -> StdAcceptor<'a, R>
+        ensures { (result.faults ≡ 0) × (result.ends ≡ 0) }
     {
         StdAcceptor {
             alloc,
             listener,
+            closer,
+            kept: None,
             left: each,
             faults: 0,
             ends: 0,
         }
     }
-}
 
-impl Drop for StdAcceptor {
-    fn drop(self) {
-        turn_away_all(&self.listener);
-        let StdAcceptor {
-            alloc: _,
-            listener: _,
-            left: _,
-            faults: _,
-            ends: _,
-        } = self;
+    /// The share of the listener, and the link that was kept.
+    pub fn into_parts(self) -> (TcpListener, Option<TcpStream>) {
+        (self.listener, self.kept)
+    }
+
+    /// Waits for a link, unless the run closes.
+    fn wait(&self) -> Came {
+        let door = self.closer.door();
+        door.begin_waiting();
+        let came = if door.is_closing() {
+            Came::Closing
+        } else {
+            next_stream(&self.listener)
+        };
+        door.end_waiting();
+        came
+    }
+
+    /// The next link that isn't one of the server's own, the one that was kept before all others.
+    fn next_after(&self, kept: Option<TcpStream>) -> Came {
+        let mut kept = kept;
+        for _ in 0..MOST_OWN {
+            let came = match kept.take() {
+                Some(stream) => Came::Link(stream),
+                None => self.wait(),
+            };
+            match came {
+                Came::Link(stream) if self.closer.door().is_own(&stream) => {}
+                other => return other,
+            }
+        }
+        Came::Failed
+    }
+
+    /// The next link. One that comes while the run closes is kept.
+    fn next(&mut self) -> Came
+        ensures counts { (self.new.faults ≡ self.old.faults) × (self.new.ends ≡ self.old.ends) }
+        ensures left { self.new.left ≡ self.old.left }
+    {
+        let kept = self.kept.take();
+        match self.next_after(kept) {
+            Came::Link(stream) if self.closer.door().is_closing() => {
+                self.kept = Some(stream);
+                Came::Closing
+            }
+            other => other,
+        }
+    }
+
+    /// The halves of a link.
+    fn link(&self, stream: TcpStream) -> Option<(LinkSource, LinkSink<'a, R>)>
+        ensures source { IfSome result (λ link. IsNewSource (⟦<LinkSource as Source>⟧.state link.0)) }
+        ensures sink { IfSome result (λ link. IsNewSink (⟦<LinkSink<'a, R> as Sink>⟧.state link.1)) }
+    {
+        halves(self.alloc, stream, Some(self.closer.again()))
+    }
+
+    /// An accept that failed.
+    fn failed(&mut self) -> Accepted<LinkSource, LinkSink<'a, R>>
+        ensures answer { result ≡ Failed }
+        ensures faults { (self.old.faults ≤ self.new.faults) × Rose self.old.faults self.new.faults }
+        ensures ends { self.new.ends ≡ self.old.ends }
+    {
+        self.faults = self.faults.saturating_add(1);
+        Accepted::Failed
+    }
+
+    /// No link is left in this run.
+    fn done(&mut self) -> Accepted<LinkSource, LinkSink<'a, R>>
+        ensures answer { result ≡ Done }
+        ensures ends { (self.old.ends ≤ self.new.ends) × Rose self.old.ends self.new.ends }
+        ensures faults { self.new.faults ≡ self.old.faults }
+    {
+        let ends = self.ends.saturating_add(1);
+        self.ends = ends;
+        Accepted::Done
     }
 }
 
-impl Acceptor for StdAcceptor {
+impl<'a, R: net::Net<Listener = TcpListener, Stream = TcpStream> + Sync> Acceptor
+    for StdAcceptor<'a, R> {
     type In = LinkSource;
 
-    type Out = LinkSink;
+    type Out = LinkSink<'a, R>;
 
     ghost state = { λ a. record { links = None; faults = a.faults; ends = a.ends } };
 
-    fn accept(&mut self) -> Accepted<LinkSource, LinkSink> {
+    fn accept(&mut self) -> Accepted<LinkSource, LinkSink<'a, R>> {
         if self.left == 0 {
-            let ends = self.ends.saturating_add(1);
-            self.ends = ends;
-            return Accepted::Done;
+            return self.done();
         }
-        match next_link(self.alloc, &self.listener) {
-            Some((source, sink)) => {
-                self.left -= 1;
-                Accepted::Link(source, sink)
-            }
-            None => {
-                self.faults = self.faults.saturating_add(1);
-                Accepted::Failed
-            }
+        match self.next() {
+            Came::Link(stream) => match self.link(stream) {
+                Some((source, sink)) => {
+                    self.left -= 1;
+                    Accepted::Link(source, sink)
+                }
+                None => self.failed(),
+            },
+            Came::Closing => self.done(),
+            Came::Failed => self.failed(),
         }
     }
 }

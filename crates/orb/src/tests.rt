@@ -1,22 +1,22 @@
 //! The lines that notes print, files, and a request over loopback.
 
 use crate::cause_tests::is_line;
+use crate::run_door::RunDoor;
 use crate::std_files::StdFiles;
 use crate::std_net::StdNet;
+use crate::turned_away::CLOSE;
 use crate::{orb_main, without_words};
 use config_tables::{ConfigCause, ConfigFault};
 use giop_messages::Fault;
 use idl_grammar::{IdlCause, IdlFault};
 use object_refs::{RefCause, RefFault};
 use orb_base::{Filed, Files, List, MemSink, Octets, Sink, Source, SteadySource, Text};
-use orb_command::{Note, Role};
+use orb_command::{Answered, Note, Role};
 use orb_nets::Net;
 use script_checks::{CheckCause, CheckFault};
 use script_grammar::ScriptFault;
 use std::alloc::Global;
 use std::net::{TcpListener, TcpStream};
-use std::sync::Wait;
-use std::thread::Threads;
 use std::time::Duration;
 use std::{fs, io, net, rt, thread};
 use text_streams::{ReadAll, WriteAll, read_all, write_all};
@@ -223,7 +223,7 @@ const WORDLESS: &[(io::ErrorKind, u8, &str)] = &[
 
 fn ends_so(alloc: Global, kind: io::ErrorKind, status: u8, line: &str) -> bool {
     let fault = io::Error::from(kind);
-    let answered = without_words(alloc, &fault);
+    let answered: Answered<(), (), ()> = without_words(alloc, &fault);
     answered.status == status && is_line(alloc, &answered.note, line, "")
 }
 
@@ -262,9 +262,9 @@ fn put_word(alloc: Global, words: &mut Vec<String>, word: &str) -> bool {
     }
 }
 
-/// Puts the words of a server that listens at this port of loopback.
-fn put_words(alloc: Global, words: &mut Vec<String>, port: u16) -> bool {
-    for word in ["serve", "--config", "one.toml", "--listen"] {
+/// Puts the words of a server of this file of configuration, which listens at this port of loopback.
+fn put_words(alloc: Global, words: &mut Vec<String>, config: &str, port: u16) -> bool {
+    for word in ["serve", "--config", config, "--listen"] {
         if !put_word(alloc, words, word) {
             return false;
         }
@@ -275,56 +275,55 @@ fn put_words(alloc: Global, words: &mut Vec<String>, port: u16) -> bool {
     }
 }
 
-/// Whether a server of these words writes its summary.
-fn sums_up<
-    R: net::Net<Listener = TcpListener, Stream = TcpStream> + rt::Files + Wait + Threads + Sync,
->(rt: &R, alloc: Global, words: &[String]) -> bool {
-    let mut net = StdNet::new(rt, alloc);
+/// Whether a server of these words writes this summary.
+fn sums_up(rt: &HostRuntime, alloc: Global, words: &[String], line: &[u8]) -> bool {
+    let door = RunDoor::new();
+    let mut net = StdNet::new(rt, alloc, &door);
     let mut files = StdFiles::new(rt, alloc);
     let mut input = SteadySource::new(List::new(alloc), List::new(alloc));
     let mut out = MemSink::new(alloc, List::new(alloc), List::new(alloc));
     let _answered = orb_main(rt, alloc, words, &mut net, &mut files, &mut input, &mut out);
-    out.held() == LINE
+    out.held() == line
 }
 
-/// The same of the server that listens at this port of loopback.
-fn serve<
-    R: net::Net<Listener = TcpListener, Stream = TcpStream> + rt::Files + Wait + Threads + Sync,
->(rt: &R, alloc: Global, port: u16) -> bool {
+/// The same of the server of a file of configuration that listens at this port of loopback.
+fn serve(rt: &HostRuntime, alloc: Global, config: &str, port: u16, line: &[u8]) -> bool {
     let mut words = Vec::new(alloc);
-    put_words(alloc, &mut words, port) && sums_up(rt, alloc, words.as_slice())
+    put_words(alloc, &mut words, config, port) && sums_up(rt, alloc, words.as_slice(), line)
 }
 
-/// Whether a server sends its reply and closes.
-fn is_replied<I: Source, O: Sink>(alloc: Global, source: &mut I, sink: &mut O) -> bool {
+/// Whether a server sends these bytes and closes.
+fn is_told<I: Source, O: Sink>(alloc: Global, source: &mut I, sink: &mut O, want: &[u8]) -> bool {
     if write_all(sink, PING_AND_CLOSE) != WriteAll::Whole {
         return false;
     }
-    let is_reply = match read_all(alloc, 1_000, source) {
-        ReadAll::Whole(bytes) => bytes.as_slice() == REPLY,
+    let is_it = match read_all(alloc, 1_000, source) {
+        ReadAll::Whole(bytes) => bytes.as_slice() == want,
         _ => false,
     };
     sink.close();
-    is_reply
+    is_it
 }
 
 /// The same of the server at this port of loopback. It is asked again while nobody listens there.
-fn ask<R: net::Net<Listener = TcpListener, Stream = TcpStream> + rt::Clock + Wait>(
-    rt: &R,
-    alloc: Global,
-    port: u16,
-) -> bool {
+fn ask(rt: &HostRuntime, alloc: Global, port: u16, want: &[u8]) -> bool {
     let Ok(host) = Text::new(alloc, b"127.0.0.1") else {
         return false;
     };
-    let mut net = StdNet::new(rt, alloc);
+    let door = RunDoor::new();
+    let mut net = StdNet::new(rt, alloc, &door);
     for _ in 0..1_000 {
         if let Ok((mut source, mut sink)) = net.connect(&host, port) {
-            return is_replied(alloc, &mut source, &mut sink);
+            return is_told(alloc, &mut source, &mut sink, want);
         }
         thread::sleep(rt, Duration::from_millis(10));
     }
     false
+}
+
+/// The same of two clients, of which the second connects once the first has read the end of its stream.
+fn ask_twice(rt: &HostRuntime, alloc: Global, port: u16, first: &[u8], second: &[u8]) -> bool {
+    ask(rt, alloc, port, first) && ask(rt, alloc, port, second)
 }
 
 /// A port of loopback at which nobody listens.
@@ -341,7 +340,55 @@ fn a_request_is_served_over_loopback(rt: HostRuntime) {
     let alloc = rt.alloc();
     let port = free_port(&rt).unwrap_or(0);
     assert!(rt; fs::write(&rt, "one.toml", ONE).is_ok());
-    let (served, replied) = thread::join(&rt, || serve(&rt, alloc, port), || ask(&rt, alloc, port));
+    let (served, replied) = thread::join(
+        &rt,
+        || serve(&rt, alloc, "one.toml", port, LINE),
+        || ask(&rt, alloc, port, REPLY),
+    );
     assert!(rt; served && replied);
     assert!(rt; fs::remove_file(&rt, "one.toml").is_ok());
+}
+
+/// One slot of two connections.
+const TWO: &str =
+    "server = { slots = 1, per_slot = 2 }\npool = { static = 1, dynamic = 0, default_priority = 100 }\nadapter = [{ name = \"main\", model = \"CLIENT_PROPAGATED\", priority = 100 }]\nobject = [{ key = \"ping\", adapter = \"main\", interface = \"IDL:Orb/Ping:1.0\" }]\n";
+
+const TWO_LINE: &[u8] = b"calls 2 run 2 lent 0 kept 0 full 0 removed 0 connections 2\n";
+
+/// A writing side that never closes its sink is refused: the first client would wait for the end of its stream, and the slot for the
+/// second client. So is one that closes before its last write, since a closed link takes nothing more.
+#[test]
+fn a_second_client_comes_after_the_end_of_the_first(rt: HostRuntime) {
+    let alloc = rt.alloc();
+    let port = free_port(&rt).unwrap_or(0);
+    assert!(rt; fs::write(&rt, "two.toml", TWO).is_ok());
+    let (served, replied) = thread::join(
+        &rt,
+        || serve(&rt, alloc, "two.toml", port, TWO_LINE),
+        || ask_twice(&rt, alloc, port, REPLY, REPLY),
+    );
+    assert!(rt; served && replied);
+    assert!(rt; fs::remove_file(&rt, "two.toml").is_ok());
+}
+
+/// Two slots, and a run that hears one call.
+const LIMIT: &str =
+    "server = { slots = 2, per_slot = 2, max_calls = 1 }\npool = { static = 1, dynamic = 0, default_priority = 100 }\nadapter = [{ name = \"main\", model = \"CLIENT_PROPAGATED\", priority = 100 }]\nobject = [{ key = \"ping\", adapter = \"main\", interface = \"IDL:Orb/Ping:1.0\" }]\n";
+
+const LIMIT_LINE: &[u8] = b"calls 1 run 1 lent 0 kept 0 full 0 removed 0 connections 2\n";
+
+/// A server whose slots go on waiting for a link is refused: the second client's call closes the run, and no third client comes to end
+/// the wait of the other slot.
+#[test]
+fn a_slot_that_waits_is_woken_where_the_run_closes(rt: HostRuntime) {
+    let alloc = rt.alloc();
+    let port = free_port(&rt).unwrap_or(0);
+    assert!(rt; fs::write(&rt, "limit.toml", LIMIT).is_ok());
+    let (served, replied) = thread::join(
+        &rt,
+        || serve(&rt, alloc, "limit.toml", port, LIMIT_LINE),
+        || ask_twice(&rt, alloc, port, REPLY, CLOSE),
+    );
+    assert!(rt; served && replied);
+    assert!(rt; fs::remove_file(&rt, "limit.toml").is_ok());
 }

@@ -71,7 +71,7 @@ module _ {A I O : Type 0} (state : A → AcceptorState I O) (source : I → Sour
     pub faults : CountsNetFault answer net net'
     pub comes : Comes plan served answer out out'
 
-  -- memory ran out for the list of the runs, and the net wasn't asked
+  -- memory ran out for the list of the runs, or a thread of a run couldn't be made, and the net wasn't asked
   pub record AsksNothing (served : Served A I O) (net net' : NetState I O) (out out' : SinkState) : Type 0 where
     pub end : served.end ≡ NoMemory
     pub none : served.runs.items ≡ []

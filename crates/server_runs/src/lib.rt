@@ -8,6 +8,7 @@ mod run_at;
 mod run_count;
 mod run_lines;
 mod run_plan;
+mod run_threads;
 mod runs;
 mod serve_end;
 

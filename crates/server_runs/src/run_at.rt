@@ -3,6 +3,7 @@ ghost use Rattle.std.specs.Prelude.{◌≡◌, ◌≤◌, [], length};
 ghost use Rattle.server_runs.specs.Serving as Spec;
 
 use crate::run_plan::RunPlan;
+use crate::run_threads::can_make_threads;
 use crate::runs::serve_runs;
 use crate::serve_end::ServeEnd;
 use adapter_policies::Setup;
@@ -89,8 +90,9 @@ fn unserved<A, I, O>(alloc: Global, end: ServeEnd) -> Served<A, I, O>
 /// plan asks for it, and a line of summary. Another run follows where those lines were written, the plan has one more, and a slot served as
 /// many links as it may, or closed its last one: the acceptors go on, while pool, history and the numbers of connections begin anew.
 ///
-/// It may wait for ever for a link. Room for the list of all runs is taken before the net is asked, so that no run that ended is lost. A
-/// run costs what its connections cost, two threads a slot and one for each thread of the pool; what it leaves is kept to the end.
+/// It may wait for ever for a link. Room for the list of all runs is taken before the net is asked, so that no run that ended is lost, and
+/// the threads of a run are made and joined once: where one can't be made it is out of memory, and nothing listens. A run costs what its
+/// connections cost, two threads a slot, one for each thread of the pool and one that waits for these; what it leaves is kept to the end.
 #[tactic(auto, using(crate::proofs::Listening::served_over, crate::proofs::Listening::unserved, crate::proofs::Listening::unasked))]
 pub fn serve_at<N: Net, S: Serving + Sync, O: Sink, R: Wait + Threads + Sync>(
     rt: &R,
@@ -113,6 +115,9 @@ pub fn serve_at<N: Net, S: Serving + Sync, O: Sink, R: Wait + Threads + Sync>(
     let Ok(()) = runs.reserve(usize::from(count)) else {
         return unserved(alloc, ServeEnd::NoMemory);
     };
+    if !can_make_threads(rt, alloc, setup) {
+        return unserved(alloc, ServeEnd::NoMemory);
+    }
     let each = u32::from(setup.per_slot()) * u32::from(count);
     match net.listen(&at.host, at.port, setup.slots(), each) {
         Ok(acceptors) => serve_over(rt, alloc, setup, servants, plan, acceptors, runs, out),

@@ -279,11 +279,14 @@ fn run<R: Threads + Wait + Sync>(
     side_by_side(rt, alloc, setup, &pool, slot, worker, source, sink)
 }
 
-/// Whether both sides come out so.
+/// Whether both sides come out so, and the sink was closed once: also after a failed write, and not before the last message.
 fn comes_out(came: Option<Came>, row: &Row) -> bool {
     match came {
         Some((read, write, sink)) => {
-            read == row.read && write == row.write && is_joined(sink.held(), row.output)
+            read == row.read
+                && write == row.write
+                && sink.closes == 1
+                && is_joined(sink.held(), row.output)
         }
         None => false,
     }

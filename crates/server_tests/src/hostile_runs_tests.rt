@@ -292,9 +292,12 @@ fn is_joined(bytes: &[u8], parts: &[&[u8]]) -> bool {
     rest.is_empty()
 }
 
+/// Whether a connection leaves this, and its sink was closed once. A sink that is closed takes nothing more, so that a writing side which
+/// never closes it, closes it again after a failed write, or closes it before the last message is refused.
 fn has_left(log: &ConnLog<MemSource, MemSink>, history: &[Entry<Lanes>], want: &Left<'_>) -> bool {
     log.read == want.read
         && log.write == want.write
+        && log.sink.closes == 1
         && count_heard(history, log.id) == want.heard
         && is_joined(log.sink.held(), want.output)
 }
@@ -385,14 +388,17 @@ fn all_in_lanes(history: &[Entry<Lanes>]) -> bool {
     true
 }
 
-/// Whether each of 128 connections is whole, with ten replies of 26 bytes.
+/// Whether a connection is whole, with ten replies of 26 bytes, and its sink was closed once.
+fn is_answered(log: &ConnLog<MemSource, MemSink>) -> bool {
+    log.read == ENDED
+        && log.write == WriteEnd::Done
+        && log.sink.held().len() == 260
+        && log.sink.closes == 1
+}
+
+/// Whether each of 128 connections is.
 fn all_answered(conns: &[ConnLog<MemSource, MemSink>]) -> bool {
-    for log in conns {
-        if log.read != ENDED || log.write != WriteEnd::Done || log.sink.held().len() != 260 {
-            return false;
-        }
-    }
-    conns.len() == 128
+    conns.len() == 128 && conns.iter().all(is_answered)
 }
 
 fn is_wanted(run: &Run<MemSource, MemSink>, wanted: Wanted<'_>) -> bool {

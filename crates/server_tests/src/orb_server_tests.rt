@@ -215,9 +215,13 @@ fn is_output(bytes: &[u8], want: Output) -> bool {
     }
 }
 
+/// Whether a connection leaves this, and its sink was closed once.
 fn has_left(log: &ConnLog<MemSource, MemSink>, want: Left) -> bool {
     let (read, write, output) = want;
-    log.read == read && log.write == write && is_output(log.sink.held(), output)
+    log.read == read
+        && log.write == write
+        && log.sink.closes == 1
+        && is_output(log.sink.held(), output)
 }
 
 /// Whether the connections leave this, in order.

@@ -170,9 +170,12 @@ fn same(held: &[u8], want: &[u8]) -> bool {
     held == want
 }
 
-/// Whether this is the connection of this number of the first slot, and this was sent to it.
+/// Whether this is the connection of this number of the first slot, this was sent to it, and its sink was closed once.
 fn is_sent(log: &ConnLog<MemSource, MemSink>, nth: usize, want: &[u8]) -> bool {
-    log.id.slot == 0 && usize::from(log.id.nth) == nth && same(log.sink.held(), want)
+    log.id.slot == 0
+        && usize::from(log.id.nth) == nth
+        && log.sink.closes == 1
+        && same(log.sink.held(), want)
 }
 
 fn are_sent(logs: &[ConnLog<MemSource, MemSink>], want: &[&[u8]]) -> bool {
