@@ -14,7 +14,7 @@ use Rattle.trace_lines.specs.Texts.{trace_text}
 use Rattle.trace_lines.specs.Writing.{WritesText}
 use Rattle.trace_lines.proofs.Wrote.{prefix_of_more}
 use Rattle.server_runs.specs.RunLines.{WritesLines, lines_of}
-use Rattle.server_runs.specs.Summaries.{summary_of, summary_line}
+use Rattle.trace_lines.specs.Summaries.{summary_of, summary_line}
 use Rattle.server_runs.specs.declared.serve_end.ServeEnd.{ServeEnd}
 use Rattle.server_runs.specs.declared.serve_end.ServeEnd.TheVariants as end
 

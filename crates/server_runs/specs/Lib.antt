@@ -1,4 +1,3 @@
-pub mod Summaries
 pub mod RunLines
 pub mod Counts
 pub mod Plans

@@ -5,7 +5,7 @@ use Rattle.lane_machine.specs.Histories.{History}
 use Rattle.adapter_policies.specs.SetupData.{SetupData}
 use Rattle.text_streams.specs.Streams.{WroteText, WroteFrontOf}
 use Rattle.trace_lines.specs.Texts.{trace_text}
-use Rattle.server_runs.specs.Summaries.{summary_of, summary_line}
+use Rattle.trace_lines.specs.Summaries.{summary_of, summary_line}
 use Rattle.server_runs.specs.declared.serve_end.ServeEnd.{ServeEnd}
 use Rattle.server_runs.specs.declared.serve_end.ServeEnd.TheVariants.{Done, NetFault, WriteFault, NoMemory}
 

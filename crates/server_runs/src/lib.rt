@@ -10,7 +10,6 @@ mod run_lines;
 mod run_plan;
 mod runs;
 mod serve_end;
-mod summary;
 
 pub use laws::{runs_follow_each_other, runs_without_fault_are_complete};
 pub use open_gate::OpenGate;
@@ -18,4 +17,4 @@ pub use run_at::{Served, serve_at};
 pub use run_count::RunCount;
 pub use run_plan::RunPlan;
 pub use serve_end::ServeEnd;
-pub use summary::{Summary, summary_of};
+pub use trace_lines::{Summary, summary_of};

@@ -1,16 +1,15 @@
 //! What is written of a run.
 ghost use Rattle.std.specs.Prelude.{◌≡◌, false, true};
 ghost use Rattle.server_runs.specs.RunLines as Spec;
-ghost use Rattle.server_runs.specs.Summaries.{summary_of as numbers, summary_line};
+ghost use Rattle.trace_lines.specs.Summaries.{summary_of as numbers, summary_line};
 
 use crate::serve_end::ServeEnd;
-use crate::summary::summary_of;
 use adapter_policies::Setup;
 use lane_machine::Lanes;
 use orb_base::{NoMemory, Sink};
 use std::alloc::Global;
 use text_streams::{WriteAll, write_all};
-use trace_lines::write_trace;
+use trace_lines::{summary_of, write_trace};
 use turn_cell::Entry;
 
 /// Writes the summary of a history.

@@ -5,3 +5,4 @@ pub mod Writing
 pub mod ReadBack
 pub mod Plain
 pub mod Numbers
+pub mod Summaries

@@ -1,6 +1,6 @@
 //! What a run did, in numbers.
 ghost use Rattle.std.specs.Prelude.{◌≡◌, count_by};
-ghost use Rattle.server_runs.specs.Summaries as Spec;
+ghost use Rattle.trace_lines.specs.Summaries as Spec;
 
 use lane_machine::{LaneCall, LaneReply, Lanes};
 use std::fmt;

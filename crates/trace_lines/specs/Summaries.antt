@@ -8,9 +8,9 @@ use Rattle.lane_machine.specs.declared.call.LaneCall.{LaneCall}
 use Rattle.lane_machine.specs.declared.call.LaneCall.TheVariants.{Offer, Post, Cancel}
 use Rattle.lane_machine.specs.declared.call.LaneReply.{LaneReply}
 use Rattle.lane_machine.specs.declared.call.LaneReply.TheVariants as reply
-use Rattle.server_runs.specs.declared.summary.Counted.{Counted}
-use Rattle.server_runs.specs.declared.summary.Counted.TheVariants.{Heard, Own, Lent, Kept, Full, Removed, Ended}
-use Rattle.server_runs.specs.declared.summary.Summary.{Summary}
+use Rattle.trace_lines.specs.declared.summary.Counted.{Counted}
+use Rattle.trace_lines.specs.declared.summary.Counted.TheVariants.{Heard, Own, Lent, Kept, Full, Removed, Ended}
+use Rattle.trace_lines.specs.declared.summary.Summary.{Summary}
 
 -- a call that a connection's bytes mean
 abbrev pub is_heard : LaneCall → Bool
