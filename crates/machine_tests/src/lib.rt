@@ -1,4 +1,5 @@
-//! Tests of `turn_cell`, `thread_borrowing`, `request_buffer`, `history_lines`, `lane_pool`, `trace_lines`.
+//! Tests of `turn_cell`, `thread_borrowing`, `request_buffer`, `history_lines`, `lane_pool`, `trace_lines`,
+//! `trace_reading`.
 #![tactic(auto)]
 
 #[cfg(test)]
@@ -11,5 +12,7 @@ mod request_buffer_tests;
 mod thread_borrowing_tests;
 #[cfg(test)]
 mod trace_lines_tests;
+#[cfg(test)]
+mod trace_reading_tests;
 #[cfg(test)]
 mod turn_cell_tests;
