@@ -1,5 +1,7 @@
-//! Tests of the crates that read and judge traces.
+//! Tests of `fit_audit`, `trace_reading`.
 #![tactic(auto)]
 
 #[cfg(test)]
 mod fit_audit_tests;
+#[cfg(test)]
+mod trace_reading_tests;

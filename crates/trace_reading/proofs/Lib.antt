@@ -1,0 +1,12 @@
+pub mod Numerals
+pub mod Parts
+pub mod Joins
+pub mod Choices
+pub mod ActionsBack
+pub mod ActionsWere
+pub mod RowsBack
+pub mod Printed
+pub mod Counted
+pub mod Pieces
+pub mod OneReading
+pub mod OneFault
