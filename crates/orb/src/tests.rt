@@ -17,6 +17,8 @@ use script_checks::{CheckCause, CheckFault};
 use script_grammar::ScriptFault;
 use std::alloc::Global;
 use std::net::{TcpListener, TcpStream};
+use std::sync::Wait;
+use std::thread::Threads;
 use std::time::Duration;
 use std::{fs, io, net, rt, thread};
 use text_streams::{ReadAll, WriteAll, read_all, write_all};
@@ -276,7 +278,9 @@ fn put_words(alloc: Global, words: &mut Vec<String>, config: &str, port: u16) ->
 }
 
 /// Whether a server of these words writes this summary.
-fn sums_up(rt: &HostRuntime, alloc: Global, words: &[String], line: &[u8]) -> bool {
+fn sums_up<
+    R: net::Net<Listener = TcpListener, Stream = TcpStream> + rt::Files + Wait + Threads + Sync,
+>(rt: &R, alloc: Global, words: &[String], line: &[u8]) -> bool {
     let door = RunDoor::new();
     let mut net = StdNet::new(rt, alloc, &door);
     let mut files = StdFiles::new(rt, alloc);
@@ -287,13 +291,20 @@ fn sums_up(rt: &HostRuntime, alloc: Global, words: &[String], line: &[u8]) -> bo
 }
 
 /// The same of the server of a file of configuration that listens at this port of loopback.
-fn serve(rt: &HostRuntime, alloc: Global, config: &str, port: u16, line: &[u8]) -> bool {
+fn serve<
+    R: net::Net<Listener = TcpListener, Stream = TcpStream> + rt::Files + Wait + Threads + Sync,
+>(rt: &R, alloc: Global, config: &str, port: u16, line: &[u8]) -> bool {
     let mut words = Vec::new(alloc);
     put_words(alloc, &mut words, config, port) && sums_up(rt, alloc, words.as_slice(), line)
 }
 
 /// Whether a server sends these bytes and closes.
-fn is_told<I: Source, O: Sink>(alloc: Global, source: &mut I, sink: &mut O, want: &[u8]) -> bool {
+fn is_answered<I: Source, O: Sink>(
+    alloc: Global,
+    source: &mut I,
+    sink: &mut O,
+    want: &[u8],
+) -> bool {
     if write_all(sink, PING_AND_CLOSE) != WriteAll::Whole {
         return false;
     }
@@ -306,7 +317,12 @@ fn is_told<I: Source, O: Sink>(alloc: Global, source: &mut I, sink: &mut O, want
 }
 
 /// The same of the server at this port of loopback. It is asked again while nobody listens there.
-fn ask(rt: &HostRuntime, alloc: Global, port: u16, want: &[u8]) -> bool {
+fn ask<R: net::Net<Listener = TcpListener, Stream = TcpStream> + rt::Clock + Wait + Sync>(
+    rt: &R,
+    alloc: Global,
+    port: u16,
+    want: &[u8],
+) -> bool {
     let Ok(host) = Text::new(alloc, b"127.0.0.1") else {
         return false;
     };
@@ -314,7 +330,7 @@ fn ask(rt: &HostRuntime, alloc: Global, port: u16, want: &[u8]) -> bool {
     let mut net = StdNet::new(rt, alloc, &door);
     for _ in 0..1_000 {
         if let Ok((mut source, mut sink)) = net.connect(&host, port) {
-            return is_told(alloc, &mut source, &mut sink, want);
+            return is_answered(alloc, &mut source, &mut sink, want);
         }
         thread::sleep(rt, Duration::from_millis(10));
     }
@@ -322,7 +338,13 @@ fn ask(rt: &HostRuntime, alloc: Global, port: u16, want: &[u8]) -> bool {
 }
 
 /// The same of two clients, of which the second connects once the first has read the end of its stream.
-fn ask_twice(rt: &HostRuntime, alloc: Global, port: u16, first: &[u8], second: &[u8]) -> bool {
+fn ask_twice<R: net::Net<Listener = TcpListener, Stream = TcpStream> + rt::Clock + Wait + Sync>(
+    rt: &R,
+    alloc: Global,
+    port: u16,
+    first: &[u8],
+    second: &[u8],
+) -> bool {
     ask(rt, alloc, port, first) && ask(rt, alloc, port, second)
 }
 
