@@ -1,0 +1,11 @@
+pub mod Sums
+pub mod Greatest
+pub mod Cells
+pub mod Finding
+pub mod Keeping
+pub mod Kept
+pub mod Collecting
+pub mod Rights
+pub mod Resolving
+pub mod Asking
+pub mod Runs
