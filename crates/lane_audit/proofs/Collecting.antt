@@ -1,7 +1,7 @@
 -- When a Collect is answered.
 use Rattle.std.proofs.Common.{◌≡◌, ◌≢◌, ℕ, Bool, true, false, cond, ◌&&◌, ◌||◌, List, Option, Some, None, Result, Ok, Err, sym, refl, ap, ◌∙◌, arith, eq-eqb}
-use Rattle.std.specs.Prelude.{is_some, slice_get, ◌==◌, IfOk}
-use Rattle.std.proofs.lemmas.Bool.{and_parts, and_from, eqb-true}
+use Rattle.std.specs.Prelude.{is_some, ◌==◌, IfOk}
+use Rattle.std.proofs.lemmas.Bool.{and_from}
 use Rattle.orb_base.specs.Conn.{same_conn}
 use Rattle.orb_base.specs.declared.conn_id.ConnId.{ConnId}
 use Rattle.orb_base.specs.declared.item.Item.{Item}
@@ -9,14 +9,14 @@ use Rattle.thread_borrowing.proofs.Places.{at_place, sum_remove}
 use Rattle.lane_machine.specs.declared.call.LaneCall.TheVariants.{Collect}
 use Rattle.lane_machine.specs.declared.call.LaneReply.TheVariants as reply
 use Rattle.lane_machine.specs.State.{State}
-use Rattle.lane_machine.specs.Machine.{step, collected, handed, item_conn, item_place, end_of}
+use Rattle.lane_machine.specs.Machine.{step, collected, item_conn, item_place, end_of}
 use Rattle.lane_machine.specs.Readiness.{is_ready, owed}
 use Rattle.lane_machine.proofs.Bounds.{owing, owed_is}
 use Rattle.lane_audit.specs.declared.ending.Ending.{Ending}
 use Rattle.lane_audit.specs.declared.ending.Ending.TheVariants as ending
 use Rattle.lane_audit.specs.Endings.{reply_of_ending}
 use Rattle.lane_audit.specs.Counting.{IsCounted}
-use Rattle.lane_audit.specs.Verdicts.{IsRight, Tries, Judges}
+use Rattle.lane_audit.specs.Verdicts.{Tries, Judges}
 use Rattle.lane_audit.proofs.Keeping.{over_hands_none, kept}
 use Rattle.lane_audit.proofs.Kept.{ended_kept}
 
@@ -54,24 +54,6 @@ ending_hands_none : (e : Ending) (i : Item) → reply_of_ending e ≢ reply.Hand
 ending_hands_none ending.Close i is = absurd (cc)
 ending_hands_none ending.Error i is = absurd (cc)
 ending_hands_none ending.Done i is = absurd (cc)
-
-hands_some : (s : State) (at : ℕ) (o : Option Item) (i : Item) → o ≡ Some i → (handed s at o).1 ≡ reply.Handed i
-hands_some s at o i here = ap (λ (x : Option Item). (handed s at x).1) here
-
-over_by : (s : State) (conn : ConnId) (e : Ending) (o : Option ℕ) → item_place s conn ≡ o → IsRight s (Collect conn) (reply_of_ending e) → is_over_for s conn ≡ true
-over_by s conn e None p right = sym (ap (λ (x : Option ℕ). is_some x || is_over_for s conn) p) ∙ right.ready
-over_by s conn e (Some at) p right = absurd (
-    let h = at_place (λ (x : Item). same_conn (item_conn x) conn) s.out at p in
-    ending_hands_none e h.0 (right.answered ∙ ap (λ (x : Option ℕ). (collected s conn x).1) p ∙ hands_some s at (slice_get s.out at) h.0 h.1))
-
--- a right ending is told where nothing is owed
-pub ending_none_owed : (s : State) (conn : ConnId) (e : Ending) → IsRight s (Collect conn) (reply_of_ending e) → owed s conn ≡ 0
-ending_none_owed s conn e right =
-    eqb-true (owed s conn) 0 (and_parts (owed s conn == 0) (is_some (end_of s conn) || s.closing) (over_by s conn e (item_place s conn) refl right)).0
-
--- and where the connection ended or the run closes
-pub ending_over : (s : State) (conn : ConnId) (e : Ending) → IsRight s (Collect conn) (reply_of_ending e) → (is_some (end_of s conn) || s.closing) ≡ true
-ending_over s conn e right = (and_parts (owed s conn == 0) (is_some (end_of s conn) || s.closing) (over_by s conn e (item_place s conn) refl right)).1
 
 -- an ending, whatever is said of it
 pub ended_any : {E : Type 0} (s s' : State) (conn : ConnId) (e : Ending) (table : List ℕ) (r : Result Bool E) → is_ready s (Collect conn) ≡ true → Tries s (step s (Collect conn)) (reply_of_ending e) s' r → IsCounted s table → IsCounted s' table

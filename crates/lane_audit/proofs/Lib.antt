@@ -5,7 +5,6 @@ pub mod Finding
 pub mod Keeping
 pub mod Kept
 pub mod Collecting
-pub mod Rights
 pub mod Resolving
 pub mod Asking
 pub mod Runs

@@ -15,7 +15,7 @@ use Rattle.trace_lines.specs.ReadBack.{call_by, entry_by, entries_after, history
 use Rattle.lane_audit.specs.declared.offers.Offers.{Offers}
 use Rattle.lane_audit.specs.Verdicts.{IsRight, Judges, IsFirstWrong}
 use Rattle.lane_audit.proofs.Resolving.{reply_same}
-use Rattle.lane_audit.specs.Resolved.{reply_with, KnowsLens, LensAfter, HasOffers}
+use Rattle.lane_audit.specs.Resolved.{reply_with, KnowsLens, LensAfter}
 
 legal_push : (s : State) (h : History) (e : One) → IsLegal s h → IsRight (replay s h) e.call e.reply → IsLegal s (h ++ e ∷ [])
 legal_push s [] e l r = (r.ready, r.sound, r.answered, tt)
@@ -88,15 +88,6 @@ pub record Ran (s : State) (lines : List TraceLine) (i : ℕ) (desk : State) (of
   pub state : desk ≡ replay s (take i (history_of lines))
   pub asked : offers.asked.items ≡ jobs_of lines
   pub lens : KnowsLens (jobs_of lines) offers.lens.items (take i lines)
-
--- before the first line
-pub none_ran : (s desk : State) (lines : List TraceLine) (offers : Offers) → desk ≡ s → HasOffers lines offers → Ran s lines 0 desk offers
-none_ran s desk lines offers is has = record {
-  legal = tt;
-  state = is;
-  asked = has.asked;
-  lens = record { many = has.lens.many; each = λ k b. has.lens.each k };
-}
 
 module _ (s desk : State) (lines : List TraceLine) (i : ℕ) (l : TraceLine) (offers : Offers) (g : slice_get lines i ≡ Some l) (ran : Ran s lines i desk offers) where
   abbrev entry : One

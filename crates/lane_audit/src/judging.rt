@@ -19,8 +19,8 @@ impl Desk {
     /// what waits besides, that of a message that is handed over with what is owed.
     #[tactic(auto, using(crate::proofs::Resolving::no_take))]
     pub fn judge(&mut self, offers: &Offers, action: &Action) -> Result<bool, NoMemory>
-        ensures { let jobs = offers.now.asked.items in
-            IfOk result (λ right. Judges self.old (call_by jobs action.now) (reply_with jobs offers.now.lens.items action.now) self.new right) }
+        ensures { let jobs = offers.now.asked.items in let said = reply_with jobs offers.now.lens.items action.now in
+            IfOk result (λ right. Judges self.old (call_by jobs action.now) said self.new right) }
     {
         match action {
             Action::Offer { request, reply } => self.offer(Asked::new(*request), *reply),
