@@ -1,0 +1,5 @@
+//! Tests of `client_calls`.
+#![tactic(auto)]
+
+#[cfg(test)]
+mod client_calls_tests;
