@@ -3,12 +3,13 @@ ghost use Rattle.std.specs.Prelude.{◌≡◌, ◌<◌, ◌≤◌, None, length,
 ghost use Rattle.orb_base.specs.Outside.{IsNewSource, IsNewSink, Rose};
 ghost use Rattle.orb_base.specs.declared.accepted.Accepted.TheVariants.{Done, Failed};
 
-use crate::run_door::DoorCloser;
+use crate::run_door::{DoorCloser, RunDoor};
 use crate::turned_away::CLOSE;
 use orb_base::{Accepted, Acceptor, Got, Put, Sink, Source};
 use std::alloc::Global;
-use std::io::{BufReader, Read, Write};
+use std::io::{BufRead, BufReader, Read, Write};
 use std::net::{Shutdown, TcpListener, TcpStream};
+use std::time::Duration;
 use std::{io, net};
 
 /// Bytes that a link reads ahead.
@@ -69,16 +70,14 @@ impl Source for LinkSource {
 }
 
 /// The writing half of a link, with its count of faults. A write that takes nothing is a fault. A close ends the link in both
-/// directions, and lets go of it: a write after that is a fault. Where its last message is a CloseConnection the run closes, or memory ran
-/// out: then no slot takes another link in this run.
+/// directions, and lets go of it: a write after that is a fault. Where a CloseConnection is to be written the run closes, or memory ran
+/// out: from then on no slot takes another link in this run, so that a peer that comes back at once is the next run's.
 #[derive(Drop)]
 pub struct LinkSink<'a, R> {
     stream: Option<TcpStream>,
     closer: Option<DoorCloser<'a, R>>,
     /// How much is still to come of the message that is being written.
     rest: u64,
-    /// Whether the last message is a CloseConnection.
-    told: bool,
     faults: u64,
 }
 
@@ -106,7 +105,6 @@ impl<'a, R> LinkSink<'a, R> {
             stream: Some(stream),
             closer,
             rest: 0,
-            told: false,
             faults: 0,
         }
     }
@@ -121,14 +119,21 @@ impl<'a, R> LinkSink<'a, R> {
             None => 0,
         }
     }
+}
 
+impl<'a, R: net::Net<Listener = TcpListener, Stream = TcpStream>> LinkSink<'a, R> {
     /// Notes what is written: a message's first piece has its header, so that no bytes within a message are taken for one.
     fn note(&mut self, piece: &[u8])
         ensures { self.new.faults ≡ self.old.faults }
     {
-        if self.rest == 0 {
-            self.rest = message_len(piece);
-            self.told = piece == CLOSE;
+        if self.rest > 0 {
+            return;
+        }
+        self.rest = message_len(piece);
+        if let Some(closer) = &self.closer
+            && piece == CLOSE
+        {
+            closer.close();
         }
     }
 }
@@ -155,11 +160,6 @@ impl<'a, R: net::Net<Listener = TcpListener, Stream = TcpStream>> Sink for LinkS
             let _ = stream.shutdown(Shutdown::Both);
         }
         self.stream = None;
-        if let Some(closer) = &self.closer
-            && self.told
-        {
-            closer.close();
-        }
     }
 }
 
@@ -173,20 +173,63 @@ fn read_ahead(alloc: Global, stream: &TcpStream) -> Option<BufReader<TcpStream>>
     BufReader::with_capacity(alloc, 0, again).ok()
 }
 
-/// The halves of a stream, whose small writes go at once (TCP_NODELAY). None where the system refuses.
-pub fn halves<'a, R: net::Net<Listener = TcpListener, Stream = TcpStream>>(
-    alloc: Global,
-    stream: TcpStream,
-    closer: Option<DoorCloser<'a, R>>,
-) -> Option<(LinkSource, LinkSink<'a, R>)>
-    ensures source { IfSome result (λ link. IsNewSource (⟦<LinkSource as Source>⟧.state link.0)) }
-    ensures sink { IfSome result (λ link. IsNewSink (⟦<LinkSink<'a, R> as Sink>⟧.state link.1)) }
-{
-    let Ok(()) = stream.set_nodelay(true) else {
-        return None;
-    };
-    let reader = read_ahead(alloc, &stream)?;
-    Some((LinkSource::new(reader), LinkSink::new(stream, closer)))
+/// How long a slot waits at a time for the first bytes of a link, in milliseconds, and how often at most: a second in all.
+const FIRST_WAIT: u64 = 20;
+
+const MOST_WAITS: u32 = 50;
+
+/// A link that nobody serves yet.
+#[derive(Drop)]
+pub struct Fresh {
+    pub stream: TcpStream,
+    /// What reads it, with its first bytes once they are there.
+    pub reader: BufReader<TcpStream>,
+}
+
+impl Fresh {
+    /// A link of a stream, whose small writes go at once (TCP_NODELAY). None where the system refuses.
+    pub fn new(alloc: Global, stream: TcpStream) -> Option<Fresh> {
+        let Ok(()) = stream.set_nodelay(true) else {
+            return None;
+        };
+        let reader = read_ahead(alloc, &stream)?;
+        Some(Fresh { stream, reader })
+    }
+
+    /// Waits until the first bytes or the end of the link are there, the run closes, or a second is over: what a peer sends that was
+    /// accepted before a run's limit was met, and was silent until then, is the next run's.
+    fn wait(&mut self, door: &RunDoor) {
+        let each = Some(Duration::from_millis(FIRST_WAIT));
+        if self.stream.set_read_timeout(each).is_err() {
+            return;
+        }
+        for _ in 0..MOST_WAITS {
+            if door.is_closing() || !is_silent(&mut self.reader) {
+                break;
+            }
+        }
+        let _ = self.stream.set_read_timeout(None);
+    }
+
+    /// Its halves.
+    pub fn halves<'a, R>(self, closer: Option<DoorCloser<'a, R>>) -> (LinkSource, LinkSink<'a, R>)
+        ensures source { IsNewSource (⟦<LinkSource as Source>⟧.state result.0) }
+        ensures sink { result.1.faults ≡ 0 }
+    {
+        let Fresh { stream, reader } = self;
+        (LinkSource::new(reader), LinkSink::new(stream, closer))
+    }
+}
+
+/// Whether nothing came within the time that a read may take.
+fn is_silent(reader: &mut BufReader<TcpStream>) -> bool {
+    match reader.fill_buf() {
+        Ok(_) => false,
+        Err(fault) => matches!(
+            fault.kind(),
+            io::ErrorKind::WouldBlock | io::ErrorKind::TimedOut | io::ErrorKind::Interrupted
+        ),
+    }
 }
 
 /// How many peers in a row may be gone again when they are accepted.
@@ -207,8 +250,8 @@ const MOST_OWN: u32 = 64;
 
 /// What came of waiting for a link.
 #[derive(Drop)]
-enum Came {
-    Link(TcpStream),
+enum Came<L> {
+    Link(L),
     /// The run closes.
     Closing,
     /// The system refuses.
@@ -216,7 +259,7 @@ enum Came {
 }
 
 /// The next link of a listener.
-fn next_stream(listener: &TcpListener) -> Came {
+fn next_stream(listener: &TcpListener) -> Came<TcpStream> {
     for _ in 0..MOST_GONE {
         match listener.accept() {
             Ok((stream, _)) => return Came::Link(stream),
@@ -235,7 +278,7 @@ pub struct StdAcceptor<'a, R> {
     listener: TcpListener,
     closer: DoorCloser<'a, R>,
     /// A link that came while a run closed.
-    kept: Option<TcpStream>,
+    kept: Option<Fresh>,
     left: u32,
     faults: u64,
     ends: u64,
@@ -263,12 +306,12 @@ impl<'a, R: net::Net<Listener = TcpListener, Stream = TcpStream>> StdAcceptor<'a
     }
 
     /// The share of the listener, and the link that was kept.
-    pub fn into_parts(self) -> (TcpListener, Option<TcpStream>) {
+    pub fn into_parts(self) -> (TcpListener, Option<Fresh>) {
         (self.listener, self.kept)
     }
 
     /// Waits for a link, unless the run closes.
-    fn wait(&self) -> Came {
+    fn wait(&self) -> Came<TcpStream> {
         let door = self.closer.door();
         door.begin_waiting();
         let came = if door.is_closing() {
@@ -280,15 +323,10 @@ impl<'a, R: net::Net<Listener = TcpListener, Stream = TcpStream>> StdAcceptor<'a
         came
     }
 
-    /// The next link that isn't one of the server's own, the one that was kept before all others.
-    fn next_after(&self, kept: Option<TcpStream>) -> Came {
-        let mut kept = kept;
+    /// The next link that isn't one of the server's own.
+    fn next_peer(&self) -> Came<TcpStream> {
         for _ in 0..MOST_OWN {
-            let came = match kept.take() {
-                Some(stream) => Came::Link(stream),
-                None => self.wait(),
-            };
-            match came {
+            match self.wait() {
                 Came::Link(stream) if self.closer.door().is_own(&stream) => {}
                 other => return other,
             }
@@ -296,27 +334,37 @@ impl<'a, R: net::Net<Listener = TcpListener, Stream = TcpStream>> StdAcceptor<'a
         Came::Failed
     }
 
-    /// The next link. One that comes while the run closes is kept.
-    fn next(&mut self) -> Came
+    /// The next link, the one that was kept before all others.
+    fn next_fresh(&self, kept: Option<Fresh>) -> Came<Fresh> {
+        if let Some(fresh) = kept {
+            return Came::Link(fresh);
+        }
+        match self.next_peer() {
+            Came::Link(stream) => match Fresh::new(self.alloc, stream) {
+                Some(fresh) => Came::Link(fresh),
+                None => Came::Failed,
+            },
+            Came::Closing => Came::Closing,
+            Came::Failed => Came::Failed,
+        }
+    }
+
+    /// The next link, once its first bytes are there. One that comes, or is silent, while the run closes is kept.
+    fn next(&mut self) -> Came<Fresh>
         ensures counts { (self.new.faults ≡ self.old.faults) × (self.new.ends ≡ self.old.ends) }
         ensures left { self.new.left ≡ self.old.left }
     {
         let kept = self.kept.take();
-        match self.next_after(kept) {
-            Came::Link(stream) if self.closer.door().is_closing() => {
-                self.kept = Some(stream);
-                Came::Closing
-            }
-            other => other,
+        let mut fresh = match self.next_fresh(kept) {
+            Came::Link(fresh) => fresh,
+            other => return other,
+        };
+        fresh.wait(self.closer.door());
+        if self.closer.door().is_closing() {
+            self.kept = Some(fresh);
+            return Came::Closing;
         }
-    }
-
-    /// The halves of a link.
-    fn link(&self, stream: TcpStream) -> Option<(LinkSource, LinkSink<'a, R>)>
-        ensures source { IfSome result (λ link. IsNewSource (⟦<LinkSource as Source>⟧.state link.0)) }
-        ensures sink { IfSome result (λ link. IsNewSink (⟦<LinkSink<'a, R> as Sink>⟧.state link.1)) }
-    {
-        halves(self.alloc, stream, Some(self.closer.again()))
+        Came::Link(fresh)
     }
 
     /// An accept that failed.
@@ -354,13 +402,11 @@ impl<'a, R: net::Net<Listener = TcpListener, Stream = TcpStream> + Sync> Accepto
             return self.done();
         }
         match self.next() {
-            Came::Link(stream) => match self.link(stream) {
-                Some((source, sink)) => {
-                    self.left -= 1;
-                    Accepted::Link(source, sink)
-                }
-                None => self.failed(),
-            },
+            Came::Link(fresh) => {
+                self.left -= 1;
+                let (source, sink) = fresh.halves(Some(self.closer.again()));
+                Accepted::Link(source, sink)
+            }
             Came::Closing => self.done(),
             Came::Failed => self.failed(),
         }

@@ -3,7 +3,7 @@ ghost use Rattle.std.specs.Prelude.{◌≡◌, ◌≤◌, All, None, IfOk, lengt
 ghost use Rattle.orb_base.specs.Outside.{IsNewSource, IsNewSink, Rose};
 
 use crate::run_door::{DoorCloser, RunDoor};
-use crate::std_links::{LinkSink, LinkSource, StdAcceptor, halves};
+use crate::std_links::{Fresh, LinkSink, LinkSource, StdAcceptor};
 use orb_base::{List, Sink, Source, Text};
 use orb_nets::{Net, NetFault};
 use std::alloc::Global;
@@ -97,7 +97,10 @@ fn connect<'a, R: net::Net<Listener = TcpListener, Stream = TcpStream>>(
         return Err(NetFault::Failed);
     };
     match TcpStream::connect(system, (host, port)) {
-        Ok(stream) => halves(alloc, stream, None).ok_or(NetFault::Failed),
+        Ok(stream) => match Fresh::new(alloc, stream) {
+            Some(fresh) => Ok(fresh.halves(None)),
+            None => Err(NetFault::Failed),
+        },
         Err(_) => Err(NetFault::Failed),
     }
 }

@@ -1,6 +1,6 @@
 //! Links that nobody serves.
 
-use crate::std_links::{StdAcceptor, is_passing};
+use crate::std_links::{Fresh, StdAcceptor, is_passing};
 use orb_base::List;
 use std::alloc::Global;
 use std::io::{Read, Write};
@@ -59,10 +59,18 @@ fn refuse(stream: &mut TcpStream, id: &[u8; 4]) -> bool {
         && stream.write_all(TRANSIENT).is_ok()
 }
 
-/// Tells a peer that nothing ran: by a reply to the request that came first, where one is due, and by CloseConnection.
-fn tell(stream: &mut TcpStream) -> bool {
+/// The first bytes of a link, of which these were read ahead. None where it ends before.
+fn first_of(stream: &mut TcpStream, ahead: &[u8]) -> Option<[u8; 17]> {
     let mut first = [0u8; 17];
-    if stream.read_exact(&mut first).is_ok()
+    let n = ahead.len().min(17);
+    first[..n].copy_from_slice(&ahead[..n]);
+    stream.read_exact(&mut first[n..]).ok()?;
+    Some(first)
+}
+
+/// Tells a peer that nothing ran: by a reply to the request that came first, where one is due, and by CloseConnection.
+fn tell(stream: &mut TcpStream, ahead: &[u8]) -> bool {
+    if let Some(first) = first_of(stream, ahead)
         && let Some(id) = awaited(&first)
         && !refuse(stream, &id)
     {
@@ -71,13 +79,13 @@ fn tell(stream: &mut TcpStream) -> bool {
     stream.write_all(CLOSE).is_ok()
 }
 
-/// Closes a link that wasn't served, so that its peer knows that nothing ran.
-fn turn_away(stream: TcpStream) {
+/// Closes a link that wasn't served, of which these bytes were read, so that its peer knows that nothing ran.
+fn turn_away(stream: TcpStream, ahead: &[u8]) {
     let mut stream = stream;
     let patience = Some(Duration::from_millis(PATIENCE));
     if stream.set_write_timeout(patience).is_ok()
         && stream.set_read_timeout(patience).is_ok()
-        && tell(&mut stream)
+        && tell(&mut stream, ahead)
         && stream.shutdown(Shutdown::Write).is_ok()
     {
         pass_over(&mut stream);
@@ -87,8 +95,21 @@ fn turn_away(stream: TcpStream) {
 /// Takes a link, or turns it away at once where there is no memory for it.
 fn take(into: &mut Vec<TcpStream>, stream: TcpStream) {
     if let Err(failed) = into.push(stream) {
-        turn_away(failed.value);
+        turn_away(failed.value, &[]);
     }
+}
+
+/// Keeps a link that a slot kept, or turns it away at once where there is no memory for it.
+fn keep(into: &mut Vec<Fresh>, fresh: Fresh) {
+    if let Err(failed) = into.push(fresh) {
+        turn_away_fresh(failed.value);
+    }
+}
+
+/// Turns away a link that a slot kept.
+fn turn_away_fresh(fresh: Fresh) {
+    let Fresh { stream, reader } = fresh;
+    turn_away(stream, reader.buffer());
 }
 
 /// Takes the links that wait at a listener.
@@ -111,15 +132,19 @@ pub fn end_listening<'a, R: net::Net<Listener = TcpListener, Stream = TcpStream>
     alloc: Global,
     acceptors: List<StdAcceptor<'a, R>>,
 ) {
+    let mut kept = Vec::new(alloc);
     let mut waiting = Vec::new(alloc);
     for acceptor in acceptors.into_vec() {
-        let (listener, kept) = acceptor.into_parts();
+        let (listener, fresh) = acceptor.into_parts();
         take_waiting(&listener, &mut waiting);
-        if let Some(stream) = kept {
-            take(&mut waiting, stream);
+        if let Some(fresh) = fresh {
+            keep(&mut kept, fresh);
         }
     }
+    for fresh in kept {
+        turn_away_fresh(fresh);
+    }
     for stream in waiting {
-        turn_away(stream);
+        turn_away(stream, &[]);
     }
 }
