@@ -15,7 +15,7 @@ use std::marker::Model;
 /// 1.2 joined, or its first fault (CORBA 3.0.3, section 15.4).
 ///
 /// It keeps what has come of the next piece, which is less than its limit, and at most 16 unfinished messages, each within
-/// the limit. Buffers grow as bytes come: a header alone makes it take no memory for what the header counts. Work for each
+/// the limit. Buffers grow as bytes come: a header makes it take at most 16,384 bytes before more of its piece has come. Work for each
 /// byte is constant, whatever the cutting; a byte is copied once into its piece, and once more where a Fragment is joined.
 #[derive(Drop)]
 pub struct Framer {

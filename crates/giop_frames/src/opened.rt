@@ -278,15 +278,35 @@ fn grow_head(
     }
 }
 
-fn fill_more(filling: Filling, bytes: &[u8]) -> Result<Filling, NoMemory>
+/// Room for so many more bytes of a message of this length: where it has to be made, it is up to three times what has come then, and
+/// never more than the message has.
+fn make_room(own: Octets, more: usize, len: usize) -> Result<Octets, NoMemory>
+    ensures { IfOk result (λ grown. grown.items ≡ own.items) }
+{
+    let mut all = own.into_vec();
+    let came = all.len().saturating_add(more);
+    if all.capacity() < came {
+        let room = came.saturating_mul(3).min(len).max(came);
+        all.reserve_exact(room.saturating_sub(all.len()))?;
+    }
+    Ok(List::from_vec(all))
+}
+
+/// More bytes of a message of its own that has this length, or of the first piece of one.
+fn grow_own(own: Octets, bytes: &[u8], len: usize) -> Result<Octets, NoMemory>
+    ensures { IfOk result (λ grown. grown.items ≡ own.items ++ bytes.now) }
+{
+    let mut grown = make_room(own, bytes.len(), len)?;
+    grown.append(bytes)?;
+    Ok(grown)
+}
+
+/// More bytes of a piece of this length that was judged.
+fn fill_more(filling: Filling, bytes: &[u8], len: usize) -> Result<Filling, NoMemory>
     ensures { IfOk result (λ f. MoreOf filling bytes.now f) }
 {
     match filling {
-        Filling::Own(bytes_so_far) => {
-            let mut own = bytes_so_far;
-            own.append(bytes)?;
-            Ok(Filling::Own(own))
-        }
+        Filling::Own(own) => Ok(Filling::Own(grow_own(own, bytes, len)?)),
         Filling::Joins(joining) => {
             let mut joining = joining;
             joining.message.bytes.append(bytes)?;
@@ -335,11 +355,12 @@ fn grow_opened(
     ensures { Advances result (at_opened here opened tail.now.items bytes.now partials.old.items) partials.new.items whole.old.items whole.new.items }
 {
     let Opened { header, filling } = opened;
-    let Ok(filling) = fill_more(filling, bytes) else {
+    let len = header.piece_len();
+    let Ok(filling) = fill_more(filling, bytes, len) else {
         return Err(FeedFault::NoMemory);
     };
     let opened = Opened { header, filling };
-    if came < header.piece_len() {
+    if came < len {
         return Ok(Some(Coming::Open(opened)));
     }
     close(here, partials, opened, &tail.and(bytes), whole)?;

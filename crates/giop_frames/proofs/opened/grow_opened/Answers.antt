@@ -2,10 +2,10 @@ use Rattle.std.proofs.lemmas.Result.{err_from_is_err_and}
 use Rattle.giop_frames.proofs.Opening.{goes_more, more_opened, more_full, more_filled, more_fails, more_taken}
 use Rattle.giop_frames.proofs.opened.grow_opened.Goals as goal
 
-pub returns-then-came-piece_len : goal.returns-then-came-piece_len
-returns-then-came-piece_len c =
-    goes_more c.args.here c.args.opened c.in-Ok.filling c.args.tail.now.items c.args.bytes.now c.args.partials.now.items c.args.whole.now.items c.args.came c.piece_len.result
-    c.requires.opened c.in-Ok.ensures c.requires.came c.piece_len.ensures c.if-came-piece_len.true
+pub returns-then-came-len : goal.returns-then-came-len
+returns-then-came-len c =
+    goes_more c.args.here c.args.opened c.in-Ok.filling c.args.tail.now.items c.args.bytes.now c.args.partials.now.items c.args.whole.now.items c.args.came c.piece_len-len.result
+    c.requires.opened c.in-Ok.ensures c.requires.came c.piece_len-len.ensures c.if-came-len.true
 
 pub close-requires-clause-opened : goal.close-requires-clause-opened
 close-requires-clause-opened c =
@@ -13,8 +13,8 @@ close-requires-clause-opened c =
 
 pub close-requires-clause-full : goal.close-requires-clause-full
 close-requires-clause-full c =
-    more_full c.args.here c.args.opened c.in-Ok.filling c.args.tail.now.items c.args.bytes.now c.and.result.items c.args.partials.now.items c.args.came c.piece_len.result
-    c.requires.opened c.in-Ok.ensures c.and.ensures c.requires.came c.piece_len.ensures c.if-came-piece_len.false c.requires.filled
+    more_full c.args.here c.args.opened c.in-Ok.filling c.args.tail.now.items c.args.bytes.now c.and.result.items c.args.partials.now.items c.args.came c.piece_len-len.result
+    c.requires.opened c.in-Ok.ensures c.and.ensures c.requires.came c.piece_len-len.ensures c.if-came-len.false c.requires.filled
 
 pub close-requires-clause-filled : goal.close-requires-clause-filled
 close-requires-clause-filled c =
