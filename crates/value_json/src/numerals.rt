@@ -35,7 +35,7 @@ pub(crate) fn number_json(alloc: Global, kind: &IdlType, z: i128) -> Result<Valu
     }
 }
 
-fn integer_json(z: i128) -> Value
+pub(crate) fn integer_json(z: i128) -> Value
     ensures { view result ≡ integer_data z }
 {
     if -0x8000_0000_0000_0000 <= z && z < 0x1_0000_0000_0000_0000 {

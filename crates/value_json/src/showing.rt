@@ -4,7 +4,7 @@ ghost use Rattle.serde_json.specs.Data.{Data, array as json_array, object as jso
 ghost use Rattle.serde_json.specs.View.{view, items_view, members_view as json_members};
 ghost use Rattle.cdr_values.specs.Choice.{choose, kind_at, nth_kind};
 ghost use Rattle.cdr_values.specs.Kinds.{kind_of, members_view, cases_view};
-ghost use Rattle.cdr_values.specs.Trees.{Name, words, sequence, array, structure, union, value, no_values, values_of, members_of, cases_of};
+ghost use Rattle.cdr_values.specs.Trees.{Name, scalar, size1, unsigned, words, sequence, array, structure, union, value, no_values, values_of, members_of, cases_of};
 ghost use Rattle.cdr_values.specs.Values.{value_of, values_view};
 ghost use Rattle.value_json.specs.Numerals.{number_data};
 ghost use Rattle.value_json.specs.Gives.{Shows};
@@ -12,7 +12,7 @@ ghost use Rattle.value_json.specs.Texts.{text_of};
 ghost use Rattle.value_json.specs.Shown.{shown, shown_each, shown_members, shown_chosen, plain_data, value_member};
 
 use crate::choice::chosen_case;
-use crate::numerals::number_json;
+use crate::numerals::{integer_json, number_json};
 use crate::objects::put;
 use crate::texts::{text_json, text_of};
 use cdr_values::{Case, IdlType, IdlValue, Member};
@@ -95,7 +95,11 @@ fn array_json(alloc: Global, element: &IdlType, value: &IdlValue) -> Result<Valu
 fn elements_json(alloc: Global, element: &IdlType, values: &[IdlValue]) -> Result<Value, NoMemory>
     ensures { Shows result (json_array (shown_each (values_of (values_view values.now)) (kind_of element.now))) }
 {
-    Ok(Value::Array(each_json(alloc, element, values)?))
+    let list = match element {
+        IdlType::Octet => octets_json(alloc, values)?,
+        _ => each_json(alloc, element, values)?,
+    };
+    Ok(Value::Array(list))
 }
 
 #[cycle(to_json)]
@@ -107,6 +111,29 @@ fn each_json(alloc: Global, element: &IdlType, values: &[IdlValue]) -> Result<Ve
         list.push(to_json(alloc, element, value)?)?;
     }
     Ok(list)
+}
+
+/// Octets, of which there may be many: each takes no memory of its own.
+fn octets_json(alloc: Global, values: &[IdlValue]) -> Result<Vec<Value>, NoMemory>
+    ensures { IfOk result (λ v. items_view v.items ≡ shown_each (values_of (values_view values.now)) (scalar (unsigned size1))) }
+{
+    let mut list = Vec::with_capacity(alloc, values.len())?;
+    for value in values {
+        list.push(octet_json(value))?;
+    }
+    Ok(list)
+}
+
+fn octet_json(value: &IdlValue) -> Value
+    ensures { view result ≡ shown (value_of value.now) (scalar (unsigned size1)) }
+{
+    match value {
+        IdlValue::Boolean(b) => integer_json(i128::from(u8::from(*b))),
+        IdlValue::Number(z) => integer_json(*z),
+        IdlValue::Char(c) => integer_json(i128::from(*c)),
+        IdlValue::Label(n) => integer_json(i128::from(*n)),
+        _ => Value::Null,
+    }
 }
 
 #[cycle(to_json)]
