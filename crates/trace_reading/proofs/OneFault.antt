@@ -16,14 +16,14 @@ pub may_begin : (front rest : List ℕ) → MayBegin (front ++ rest) → MayBegi
 may_begin front rest h = (rest ++ h.0, h.1, subst (λ (z : List ℕ). AreTraces z h.1) (append_assoc front rest h.0) h.2)
 
 -- whole lines end with a line feed
-last_feed : (bytes : List ℕ) → IsWholeLines bytes → 0 < length bytes → get_or bytes (length bytes - 1) 0 ≡ 10
+pub last_feed : (bytes : List ℕ) → IsWholeLines bytes → 0 < length bytes → get_or bytes (length bytes - 1) 0 ≡ 10
 last_feed bytes (inl none) some = absurd (omega (arith, ap length none))
 last_feed bytes (inr h) some =
     let n : length bytes ≡ length h.0 + 1 = ap length h.1 ∙ length-append h.0 (10 ∷ []) in
     ap (λ (z : List ℕ). get_or z (length bytes - 1) 0) h.1 ∙ get_or_at h.0 10 [] 0 (length bytes - 1) (omega arith)
 
 -- a line feed among these bytes is found
-found : (xs : List ℕ) (m : ℕ) (o : Option ℕ) → position is_feed xs ≡ o → m < length xs → get_or xs m 0 ≡ 10 → (p : ℕ) × (o ≡ Some p) × (p ≤ m)
+pub found : (xs : List ℕ) (m : ℕ) (o : Option ℕ) → position is_feed xs ≡ o → m < length xs → get_or xs m 0 ≡ 10 → (p : ℕ) × (o ≡ Some p) × (p ≤ m)
 found xs m (Some p) e l is =
     let h = position-Some is_feed xs p 0 e in
     let within : p ≤ m = elim (cases_order p m) [
@@ -54,7 +54,7 @@ stops ended before after x rest p wrong is l begins =
     wrong (subst (λ (z : List ℕ). MayBegin (before ++ z)) (sym cut) (may_begin (before ++ take (p + 1) x) (drop (p + 1) x) (subst MayBegin all begins)))
 
 -- the last byte of what is joined
-at_end : (a x c : List ℕ) → c ≡ a ++ x → 0 < length x → get_or c (length c - 1) 0 ≡ 10 → get_or x (length x - 1) 0 ≡ 10
+pub at_end : (a x c : List ℕ) → c ≡ a ++ x → 0 < length x → get_or c (length c - 1) 0 ≡ 10 → get_or x (length x - 1) 0 ≡ 10
 at_end a x c is some e =
     let size : length c ≡ length a + length x = ap length is ∙ length-append a x in
     let place : length c - 1 ≡ length a + (length x - 1) = omega arith in

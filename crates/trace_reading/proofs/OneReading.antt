@@ -11,30 +11,30 @@ use Rattle.trace_reading.specs.Traces.{Trace, run_text, IsTrace}
 use Rattle.trace_reading.proofs.Pieces.{Piece, Told, Said, piece_text, Fit, fit-append, pieces_same, lane_piece, entry_piece, said_pieces, run_pieces, run_printed, run_fits}
 use Rattle.trace_reading.proofs.Printed.{head_of}
 
-abbrev pieces : List Trace → List Piece
+abbrev pub pieces : List Trace → List Piece
 pieces ts = flat_map run_pieces ts
 
-tail : (ts : List Trace) (t : Trace) → All IsTrace (t ∷ ts) → All IsTrace ts
+pub tail : (ts : List Trace) (t : Trace) → All IsTrace (t ∷ ts) → All IsTrace ts
 tail ts t h = λ k d l. h (suc k) d (omega arith)
 
-all_printed : (ts : List Trace) → All IsTrace ts → flat_map run_text ts ≡ flat_map piece_text (pieces ts)
+pub all_printed : (ts : List Trace) → All IsTrace ts → flat_map run_text ts ≡ flat_map piece_text (pieces ts)
 all_printed [] h = refl
 all_printed (t ∷ ts) h =
     (λ i. run_printed t (h 0 t (omega arith)) i ++ all_printed ts (tail ts t h) i) ∙ sym (flat_map-append piece_text (run_pieces t) (pieces ts))
 
-all_fit : (ts : List Trace) → All IsTrace ts → Fit (pieces ts)
+pub all_fit : (ts : List Trace) → All IsTrace ts → Fit (pieces ts)
 all_fit [] h = tt
 all_fit (t ∷ ts) h = fit-append (run_pieces t) (pieces ts) (run_fits t (h 0 t (omega arith))) (all_fit ts (tail ts t h))
 
 -- which kind of line it is
-abbrev kind : Piece → ℕ
+abbrev pub kind : Piece → ℕ
 kind (Told (Pool h)) = 0
 kind (Told (Lane l)) = 1
 kind (Told (Entry l)) = 2
 kind (Told (Count n)) = 3
 kind (Said w) = 4
 
-abbrev Other : ℕ → List Piece → Type 0
+abbrev pub Other : ℕ → List Piece → Type 0
 Other k [] = Unit {0}
 Other k (p ∷ ps) = kind p ≡ k → ⊥
 
@@ -63,7 +63,7 @@ no_lane [] n rest = λ e. omega (arith, e)
 no_lane (l ∷ ls) n rest = λ e. omega (arith, e)
 
 -- no summary begins a run
-no_said : (ts : List Trace) → Other 4 (pieces ts)
+pub no_said : (ts : List Trace) → Other 4 (pieces ts)
 no_said [] = tt
 no_said (t ∷ ts) = λ e. omega (arith, e)
 
@@ -93,11 +93,11 @@ made head lanes lines summed = record {
 }
 
 -- what comes after the first line of a run, and of what is after the run
-abbrev after_head : Trace → List Piece → List Piece
+abbrev pub after_head : Trace → List Piece → List Piece
 after_head t r =
     map lane_piece t.pool.lanes ++ (map entry_piece t.lines ++ (Told (Count (length t.lines)) ∷ (said_pieces t.summed t.lines ++ r)))
 
-grouped : (t : Trace) (r : List Piece) → run_pieces t ++ r ≡ Told (Pool (head_of t.pool t.slots t.per_slot)) ∷ after_head t r
+pub grouped : (t : Trace) (r : List Piece) → run_pieces t ++ r ≡ Told (Pool (head_of t.pool t.slots t.per_slot)) ∷ after_head t r
 grouped t r =
     ap (λ (z : List Piece). Told (Pool (head_of t.pool t.slots t.per_slot)) ∷ z)
     (append_assoc (map lane_piece t.pool.lanes) (map entry_piece t.lines ++ (Told (Count (length t.lines)) ∷ said_pieces t.summed t.lines)) r
@@ -119,7 +119,7 @@ run_cut t u r s o p e =
     let told = said_cut t.summed u.summed t.lines r s o p (last ∙ ap (λ (z : List TraceLine). said_pieces u.summed z ++ s) (sym lines.0)) in
     ((λ i. made (head i) (lanes.0 i) (lines.0 i) (told.0 i)), told.1)
 
-no_run : (t : Trace) (r : List Piece) → [] ≡ run_pieces t ++ r → ⊥
+pub no_run : (t : Trace) (r : List Piece) → [] ≡ run_pieces t ++ r → ⊥
 no_run t r e = let h : [] ≡ Told (Pool (head_of t.pool t.slots t.per_slot)) ∷ after_head t r = e ∙ grouped t r in cc
 
 pub runs_same : (ts us : List Trace) → pieces ts ≡ pieces us → ts ≡ us

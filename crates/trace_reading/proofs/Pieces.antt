@@ -39,23 +39,23 @@ abbrev pub Fit : List Piece → Type 0
 Fit [] = Unit {0}
 Fit (p ∷ ps) = FitsPiece p × Fit ps
 
-abbrev piece_by : Option Row → List ℕ → Piece
+abbrev pub piece_by : Option Row → List ℕ → Piece
 piece_by (Some r) w = Told r
 piece_by None w = Said w
 
-abbrev piece_in : List ℕ → Piece
+abbrev pub piece_in : List ℕ → Piece
 piece_in w = piece_by (line_in w) w
 
-piece_back : (p : Piece) → FitsPiece p → piece_in (piece_line p) ≡ p
+pub piece_back : (p : Piece) → FitsPiece p → piece_in (piece_line p) ≡ p
 piece_back (Told r) f = ap (λ (o : Option Row). piece_by o (row_line r)) (line_back r f)
 piece_back (Said w) f = ap (λ (o : Option Row). piece_by o w) f.0
 
-piece_above : (p : Piece) → FitsPiece p → above 10 (piece_line p) ≡ true
+pub piece_above : (p : Piece) → FitsPiece p → above 10 (piece_line p) ≡ true
 piece_above (Told r) f = above_join (row_words r) (row_above r f)
 piece_above (Said w) f = f.1
 
 -- two texts are cut at their first line feeds alike
-cut : (a b x y : List ℕ) → above 10 a ≡ true → above 10 b ≡ true → a ++ 10 ∷ x ≡ b ++ 10 ∷ y → (a ≡ b) × (x ≡ y)
+pub cut : (a b x y : List ℕ) → above 10 a ≡ true → above 10 b ≡ true → a ++ 10 ∷ x ≡ b ++ 10 ∷ y → (a ≡ b) × (x ≡ y)
 cut [] [] x y p q e = (refl, cc)
 cut [] (d ∷ ds) x y p q e = let h : 10 ≡ d = cc in absurd (let k = ltb-true 10 d (and_parts (ltb 10 d) (above 10 ds) q).0 in omega arith)
 cut (c ∷ cs) [] x y p q e = let h : c ≡ 10 = cc in absurd (let k = ltb-true 10 c (and_parts (ltb 10 c) (above 10 cs) p).0 in omega arith)
@@ -65,7 +65,7 @@ cut (c ∷ cs) (d ∷ ds) x y p q e =
     let k = cut cs ds x y (and_parts (ltb 10 c) (above 10 cs) p).1 (and_parts (ltb 10 d) (above 10 ds) q).1 t in
     ((λ i. h i ∷ k.0 i), k.1)
 
-no_text : (p : Piece) (rest : List ℕ) → [] ≡ piece_text p ++ rest → ⊥
+pub no_text : (p : Piece) (rest : List ℕ) → [] ≡ piece_text p ++ rest → ⊥
 no_text p rest e = omega (arith, ap length e, length-append (piece_text p) rest, length-append (piece_line p) (10 ∷ []))
 
 -- a text has its lines one way
@@ -97,11 +97,11 @@ run_pieces t =
     Told (Pool (head_of t.pool t.slots t.per_slot))
     ∷ (map lane_piece t.pool.lanes ++ (map entry_piece t.lines ++ (Told (Count (length t.lines)) ∷ said_pieces t.summed t.lines)))
 
-lanes_printed : (lanes : List LaneSpec) → flat_map lane_text lanes ≡ flat_map piece_text (map lane_piece lanes)
+pub lanes_printed : (lanes : List LaneSpec) → flat_map lane_text lanes ≡ flat_map piece_text (map lane_piece lanes)
 lanes_printed [] = refl
 lanes_printed (l ∷ ls) = λ i. lane_printed l i ++ lanes_printed ls i
 
-lines_printed : (lines : List TraceLine) → flat_map line_text lines ≡ flat_map piece_text (map entry_piece lines)
+pub lines_printed : (lines : List TraceLine) → flat_map line_text lines ≡ flat_map piece_text (map entry_piece lines)
 lines_printed [] = refl
 lines_printed (l ∷ ls) = λ i. line_printed l i ++ lines_printed ls i
 
@@ -129,11 +129,11 @@ pub fit-append : (ps qs : List Piece) → Fit ps → Fit qs → Fit (ps ++ qs)
 fit-append [] qs f g = g
 fit-append (p ∷ ps) qs f g = (f.0, fit-append ps qs f.1 g)
 
-fit_lanes : (lanes : List LaneSpec) → All FitsLane lanes → Fit (map lane_piece lanes)
+pub fit_lanes : (lanes : List LaneSpec) → All FitsLane lanes → Fit (map lane_piece lanes)
 fit_lanes [] h = tt
 fit_lanes (l ∷ ls) h = (h 0 l (omega arith), fit_lanes ls (λ k d m. h (suc k) d (omega arith)))
 
-fit_lines : (t : Trace) (lines : List TraceLine) → All (IsWithin t) lines → Fit (map entry_piece lines)
+pub fit_lines : (t : Trace) (lines : List TraceLine) → All (IsWithin t) lines → Fit (map entry_piece lines)
 fit_lines t [] h = tt
 fit_lines t (l ∷ ls) h = ((h 0 l (omega arith)).0, fit_lines t ls (λ k d m. h (suc k) d (omega arith)))
 
@@ -141,7 +141,7 @@ fit_said : (summed : Bool) (lines : List TraceLine) → length lines < 2 ^ 32 �
 fit_said true lines l = ((said_unread lines l, said_above lines l), tt)
 fit_said false lines l = tt
 
-few_per_slot : (slots per_slot : ℕ) → 1 ≤ slots → slots * per_slot ≤ 128 → per_slot < 2 ^ 8
+pub few_per_slot : (slots per_slot : ℕ) → 1 ≤ slots → slots * per_slot ≤ 128 → per_slot < 2 ^ 8
 few_per_slot zero per_slot some l = absurd (omega arith)
 few_per_slot (suc slots) per_slot some l = grind arith
 

@@ -1,0 +1,9 @@
+pub mod Rests
+pub mod Prefixes
+pub mod Following
+pub mod Texts
+pub mod Growing
+pub mod Opened
+pub mod FirstFaults
+pub mod Summed
+pub mod RunsRead

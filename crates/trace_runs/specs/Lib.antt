@@ -1,0 +1,4 @@
+pub mod Begun
+pub mod Opening
+pub mod Counting
+pub mod Reading
