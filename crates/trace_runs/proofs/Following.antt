@@ -17,11 +17,11 @@ use Rattle.trace_runs.specs.Begun.{run_of, first_lane, MayFollow}
 use Rattle.trace_runs.proofs.Prefixes.{fewer_lanes, fewer_lines}
 
 -- the first ones of these lanes are those; then others come, or one more
-abbrev MoreLanes : List LaneSpec → List LaneSpec → List Piece → List Piece → Type 0
+abbrev pub MoreLanes : List LaneSpec → List LaneSpec → List Piece → List Piece → Type 0
 MoreLanes xs ys a b =
     ((xs ≡ ys) × (a ≡ b)) ⊎ ((x : LaneSpec) × (zs : List LaneSpec) × (xs ≡ ys ++ x ∷ zs) × (b ≡ lane_piece x ∷ (map lane_piece zs ++ a)))
 
-more_lanes : (xs ys : List LaneSpec) (a b : List Piece) → Other 1 a → map lane_piece xs ++ a ≡ map lane_piece ys ++ b → MoreLanes xs ys a b
+pub more_lanes : (xs ys : List LaneSpec) (a b : List Piece) → Other 1 a → map lane_piece xs ++ a ≡ map lane_piece ys ++ b → MoreLanes xs ys a b
 more_lanes [] [] a b o e = inl (refl, e)
 more_lanes [] (y ∷ ys) a b o e = absurd (subst (Other 1) e o refl)
 more_lanes (x ∷ xs) [] a b o e = inr (x, xs, refl, sym e)
@@ -34,11 +34,11 @@ more_lanes (x ∷ xs) (y ∷ ys) a b o e =
     ]
 
 -- and so for entries
-abbrev MoreLines : List TraceLine → List TraceLine → List Piece → List Piece → Type 0
+abbrev pub MoreLines : List TraceLine → List TraceLine → List Piece → List Piece → Type 0
 MoreLines xs ys a b =
     ((xs ≡ ys) × (a ≡ b)) ⊎ ((x : TraceLine) × (zs : List TraceLine) × (xs ≡ ys ++ x ∷ zs) × (b ≡ entry_piece x ∷ (map entry_piece zs ++ a)))
 
-more_lines : (xs ys : List TraceLine) (a b : List Piece) → Other 2 a → map entry_piece xs ++ a ≡ map entry_piece ys ++ b → MoreLines xs ys a b
+pub more_lines : (xs ys : List TraceLine) (a b : List Piece) → Other 2 a → map entry_piece xs ++ a ≡ map entry_piece ys ++ b → MoreLines xs ys a b
 more_lines [] [] a b o e = inl (refl, e)
 more_lines [] (y ∷ ys) a b o e = absurd (subst (Other 2) e o refl)
 more_lines (x ∷ xs) [] a b o e = inr (x, xs, refl, sym e)
@@ -51,7 +51,7 @@ more_lines (x ∷ xs) (y ∷ ys) a b o e =
     ]
 
 -- after the lanes of a run comes no lane
-no_lane : (lines : List TraceLine) (n : ℕ) (rest : List Piece) → Other 1 (map entry_piece lines ++ (Told (Count n) ∷ rest))
+pub no_lane : (lines : List TraceLine) (n : ℕ) (rest : List Piece) → Other 1 (map entry_piece lines ++ (Told (Count n) ∷ rest))
 no_lane [] n rest = λ e. omega (arith, e)
 no_lane (l ∷ ls) n rest = λ e. omega (arith, e)
 

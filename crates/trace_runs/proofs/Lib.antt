@@ -7,3 +7,4 @@ pub mod Opened
 pub mod FirstFaults
 pub mod Summed
 pub mod RunsRead
+pub mod Lifting

@@ -2,3 +2,4 @@ pub mod Begun
 pub mod Opening
 pub mod Counting
 pub mod Reading
+pub mod Laws

@@ -3,6 +3,7 @@
 
 mod bounds;
 mod cut;
+mod laws;
 mod lines;
 mod opening;
 mod reading;
@@ -11,6 +12,7 @@ mod run_read;
 mod step;
 mod summaries;
 
+pub use laws::texts_go_on_afresh;
 pub use reading::read_run;
 pub use run::Run;
 pub use run_read::RunRead;

@@ -77,7 +77,7 @@ fn finish_run(alloc: Global, run: Run, text: &[u8], after: &[u8]) -> Result<RunR
 }
 
 /// Reads a run that was begun. `text` is that of what was read and of the rest.
-#[tactic(auto, using(crate::proofs::RunsRead::within, crate::proofs::RunsRead::shorter, crate::proofs::RunsRead::goes_on, crate::proofs::RunsRead::ends_is, crate::proofs::RunsRead::ends_unsummed, crate::proofs::RunsRead::ends_parts, crate::proofs::RunsRead::refused, crate::proofs::RunsRead::lacking))]
+#[tactic(auto, using(crate::proofs::RunsRead::within, crate::proofs::RunsRead::shorter, crate::proofs::RunsRead::ends_is, crate::proofs::RunsRead::ends_unsummed))]
 fn read_begun(alloc: Global, run: Run, text: &[u8], rest: &[u8]) -> Result<RunRead, NoMemory>
     requires begun { IsBegun run }
     requires parts { text.now ≡ begun_text run ++ rest.now }
