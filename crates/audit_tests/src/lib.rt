@@ -1,4 +1,4 @@
-//! Tests of `lane_audit`, `fit_audit`, `trace_reading`.
+//! Tests of `lane_audit`, `fit_audit`, `trace_reading`, `trace_runs`.
 #![tactic(auto)]
 
 #[cfg(test)]
@@ -7,3 +7,5 @@ mod fit_audit_tests;
 mod lane_audit_tests;
 #[cfg(test)]
 mod trace_reading_tests;
+#[cfg(test)]
+mod trace_runs_tests;
