@@ -9,7 +9,7 @@ use Rattle.lane_machine.specs.declared.call.LaneCall.TheVariants.{Offer, Post, C
 use Rattle.lane_machine.specs.declared.call.LaneReply.{LaneReply}
 use Rattle.lane_machine.specs.declared.call.LaneReply.TheVariants as reply
 use Rattle.trace_lines.specs.declared.summary.Counted.{Counted}
-use Rattle.trace_lines.specs.declared.summary.Counted.TheVariants.{Heard, Own, Lent, Kept, Full, Removed, Ended}
+use Rattle.trace_lines.specs.declared.summary.Counted.TheVariants.{Heard, Offered, Own, Lent, Kept, Full, Removed, Handed, Ended}
 use Rattle.trace_lines.specs.declared.summary.Summary.{Summary}
 
 -- a call that a connection's bytes mean
@@ -35,6 +35,18 @@ abbrev pub is_full : LaneReply → Bool
 is_full reply.Full = true
 is_full r = false
 
+-- the request was given to a thread, waits or was refused
+abbrev pub is_offered : LaneReply → Bool
+is_offered (reply.Run thread lent) = true
+is_offered reply.Kept = true
+is_offered reply.Full = true
+is_offered r = false
+
+-- a message was handed to a connection's writing side
+abbrev pub is_handed : LaneReply → Bool
+is_handed (reply.Handed item) = true
+is_handed r = false
+
 -- the request was withdrawn
 abbrev pub is_removed : LaneReply → Bool
 is_removed reply.Removed = true
@@ -56,6 +68,14 @@ keeps e = is_kept e.reply
 abbrev pub refuses : One → Bool
 refuses e = is_full e.reply
 
+-- the request of the entry was given to a thread, waits or was refused
+abbrev pub offers : One → Bool
+offers e = is_offered e.reply
+
+-- the entry hands a message to a connection's writing side
+abbrev pub hands : One → Bool
+hands e = is_handed e.reply
+
 -- the request of the entry was withdrawn
 abbrev pub removes : One → Bool
 removes e = is_removed e.reply
@@ -67,11 +87,13 @@ is_end e = callers.is_end e.call
 -- an entry is counted so
 abbrev pub is_counted : Counted → One → Bool
 is_counted Heard = counts
+is_counted Offered = offers
 is_counted Own = gives false
 is_counted Lent = gives true
 is_counted Kept = keeps
 is_counted Full = refuses
 is_counted Removed = removes
+is_counted Handed = hands
 is_counted Ended = is_end
 
 -- how many entries are counted so

@@ -13,7 +13,7 @@ mod trace_line;
 mod writer;
 
 pub use laws::{fit_offers_once, lines_are_read_back, offers_admit_once, traces_are_legal};
-pub use summary::{Summary, summary_of};
+pub use summary::{Counted, GivenText, Summary, count, summary_of};
 pub use trace_line::{
     Action, CancelReply, CollectReply, OfferReply, OfferedRequest, PostReply, TraceLine,
 };

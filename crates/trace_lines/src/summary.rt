@@ -25,10 +25,11 @@ pub struct Summary {
     pub connections: usize,
 }
 
-/// What became of the requests of a run when they came.
+/// What became of the requests of a run when they came, as it is told in a line.
 #[derive(Clone, Copy)]
-struct GivenText {
-    summary: Summary,
+pub struct GivenText {
+    /// The numbers of the run.
+    pub summary: Summary,
 }
 
 impl fmt::Display for GivenText {
@@ -110,6 +111,23 @@ fn refuses(entry: &Entry<Lanes>) -> bool
     matches!(entry.reply, LaneReply::Full)
 }
 
+/// Whether an entry gives a request to a thread, keeps it or refuses it.
+fn offers(entry: &Entry<Lanes>) -> bool
+    ensures { result ≡ Spec.offers entry.now }
+{
+    matches!(
+        entry.reply,
+        LaneReply::Run { .. } | LaneReply::Kept | LaneReply::Full
+    )
+}
+
+/// Whether an entry hands a message to a connection's writing side.
+fn hands(entry: &Entry<Lanes>) -> bool
+    ensures { result ≡ Spec.hands entry.now }
+{
+    matches!(entry.reply, LaneReply::Handed(_))
+}
+
 /// Whether an entry withdraws a request.
 fn removes(entry: &Entry<Lanes>) -> bool
     ensures { result ≡ Spec.removes entry.now }
@@ -119,13 +137,24 @@ fn removes(entry: &Entry<Lanes>) -> bool
 
 /// What is counted of a history.
 #[derive(Clone, Copy)]
-enum Counted {
+pub enum Counted {
+    /// The requests, posts and cancels that were heard.
     Heard,
+    /// The requests that were given to a thread, waited first or were refused.
+    Offered,
+    /// The requests that were given to a thread of their own lane.
     Own,
+    /// The requests that were given to a thread of a lower lane.
     Lent,
+    /// The requests that waited first.
     Kept,
+    /// The requests that were refused.
     Full,
+    /// The requests that were withdrawn.
     Removed,
+    /// The messages that were handed to a connection's writing side.
+    Handed,
+    /// The connections whose reading ended.
     Ended,
 }
 
@@ -135,17 +164,19 @@ fn is_counted(entry: &Entry<Lanes>, what: Counted) -> bool
 {
     match what {
         Counted::Heard => counts(entry),
+        Counted::Offered => offers(entry),
         Counted::Own => gives(entry, false),
         Counted::Lent => gives(entry, true),
         Counted::Kept => keeps(entry),
         Counted::Full => refuses(entry),
         Counted::Removed => removes(entry),
+        Counted::Handed => hands(entry),
         Counted::Ended => is_end(entry),
     }
 }
 
-/// How many entries are counted so.
-fn count(history: &[Entry<Lanes>], what: Counted) -> usize
+/// How many entries of a history are counted so. It takes no memory; work grows with the history.
+pub fn count(history: &[Entry<Lanes>], what: Counted) -> usize
     ensures { result ≡ count_by (Spec.is_counted what) history.now }
 {
     history.iter().filter(|e| is_counted(e, what)).count()
