@@ -1,0 +1,6 @@
+pub mod Past
+pub mod Pieces
+pub mod Requests
+pub mod Made
+pub mod Heard
+pub mod Runs
