@@ -1,6 +1,6 @@
 -- Each command's words, written out with all its options.
 use Rattle.std.proofs.Common.{◌≡◌, ◌++◌, ◌∷◌, [], Some, None, codes, refl}
-use Rattle.command_options.specs.Commands.{idl_items, pipe_items, refs_items, serve_items}
+use Rattle.command_options.specs.Commands.{call_items, idl_items, load_items, pipe_items, refs_items, serve_items}
 use Rattle.command_options.specs.Items.{Text}
 use Rattle.command_options.specs.Words.{form_of, has_no_stray_dash, plain}
 use Rattle.command_options.specs.Uses.{reading, uses}
@@ -70,3 +70,29 @@ pub idl_joined_reads : (file : Text)
     ≡ Some ((codes "file", Some file) ∷ [])
 unfolding reading uses has_no_stray_dash
 idl_joined_reads file = refl
+
+pub call_reads : (remote op args priority file id : Text) → form_of remote ≡ plain → form_of op ≡ plain → form_of args ≡ plain → form_of priority ≡ plain → form_of file ≡ plain → form_of id ≡ plain
+    → reading call_items (codes "--ref" ∷ remote ∷ codes "--op" ∷ op ∷ codes "--args" ∷ args ∷ codes "--priority" ∷ priority ∷ codes "--idl" ∷ file ∷ codes "--interface" ∷ id ∷ [])
+    ≡ Some ((codes "ref", Some remote) ∷ (codes "op", Some op) ∷ (codes "args", Some args) ∷ (codes "priority", Some priority) ∷ (codes "idl", Some file) ∷ (codes "interface", Some id) ∷ [])
+unfolding reading uses has_no_stray_dash
+call_reads remote op args priority file id remote_plain op_plain args_plain priority_plain file_plain id_plain =
+    rw (remote_plain, op_plain, args_plain, priority_plain, file_plain, id_plain) refl
+
+pub call_joined_reads : (remote op args priority file id : Text)
+    → reading call_items ((codes "--interface=" ++ id) ∷ (codes "--idl=" ++ file) ∷ (codes "--priority=" ++ priority) ∷ (codes "--args=" ++ args) ∷ (codes "--op=" ++ op) ∷ (codes "--ref=" ++ remote) ∷ [])
+    ≡ Some ((codes "interface", Some id) ∷ (codes "idl", Some file) ∷ (codes "priority", Some priority) ∷ (codes "args", Some args) ∷ (codes "op", Some op) ∷ (codes "ref", Some remote) ∷ [])
+unfolding reading uses has_no_stray_dash
+call_joined_reads remote op args priority file id = refl
+
+pub load_reads : (seed count file batch fragment : Text) → form_of seed ≡ plain → form_of count ≡ plain → form_of file ≡ plain → form_of batch ≡ plain → form_of fragment ≡ plain
+    → reading load_items (seed ∷ count ∷ codes "--config" ∷ file ∷ codes "--batch" ∷ batch ∷ codes "--fragment" ∷ fragment ∷ [])
+    ≡ Some ((codes "seed", Some seed) ∷ (codes "count", Some count) ∷ (codes "config", Some file) ∷ (codes "batch", Some batch) ∷ (codes "fragment", Some fragment) ∷ [])
+unfolding reading uses has_no_stray_dash
+load_reads seed count file batch fragment seed_plain count_plain file_plain batch_plain fragment_plain =
+    rw (seed_plain, count_plain, file_plain, batch_plain, fragment_plain) refl
+
+pub load_joined_reads : (seed count file batch fragment : Text) → form_of seed ≡ plain → form_of count ≡ plain
+    → reading load_items ((codes "--fragment=" ++ fragment) ∷ seed ∷ (codes "--batch=" ++ batch) ∷ count ∷ (codes "--config=" ++ file) ∷ [])
+    ≡ Some ((codes "fragment", Some fragment) ∷ (codes "seed", Some seed) ∷ (codes "batch", Some batch) ∷ (codes "count", Some count) ∷ (codes "config", Some file) ∷ [])
+unfolding reading uses has_no_stray_dash
+load_joined_reads seed count file batch fragment seed_plain count_plain = rw (seed_plain, count_plain) refl

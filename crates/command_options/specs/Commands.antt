@@ -1,7 +1,7 @@
 -- What each command takes: own profile.
 use Rattle.std.specs.Prelude.{true, false, List, [], ◌∷◌, codes}
 use Rattle.command_options.specs.declared.item.Kind.{Kind}
-use Rattle.command_options.specs.declared.item.Kind.TheVariants.{Valued, Switch}
+use Rattle.command_options.specs.declared.item.Kind.TheVariants.{Valued, Switch, Positional}
 use Rattle.command_options.specs.Items.{Item, Text}
 
 -- an item that the words may give
@@ -35,3 +35,19 @@ dump_items = []
 -- `idl --file FILE`
 abbrev pub idl_items : List Item
 idl_items = must_have Valued (codes "file") ∷ []
+
+-- `call --ref TEXT --op NAME [--args JSON] [--priority N] [--idl FILE] [--interface ID]`
+abbrev pub call_items : List Item
+call_items =
+    must_have Valued (codes "ref") ∷ must_have Valued (codes "op") ∷ may_have Valued (codes "args") ∷ may_have Valued (codes "priority")
+    ∷ may_have Valued (codes "idl") ∷ may_have Valued (codes "interface") ∷ []
+
+-- `load SEED COUNT [--config FILE] [--batch N] [--fragment N]`
+abbrev pub load_items : List Item
+load_items =
+    must_have (Positional 1) (codes "seed") ∷ must_have (Positional 2) (codes "count") ∷ may_have Valued (codes "config")
+    ∷ may_have Valued (codes "batch") ∷ may_have Valued (codes "fragment") ∷ []
+
+-- `audit`
+abbrev pub audit_items : List Item
+audit_items = []

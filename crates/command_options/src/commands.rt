@@ -83,6 +83,72 @@ static IDL: [Item<'static>; 1] = [Item {
     is_due: true,
 }];
 
+// `call --ref TEXT --op NAME [--args JSON] [--priority N] [--idl FILE] [--interface ID]`
+static CALL: [Item<'static>; 6] = [
+    Item {
+        name: "ref",
+        kind: Kind::Valued,
+        is_due: true,
+    },
+    Item {
+        name: "op",
+        kind: Kind::Valued,
+        is_due: true,
+    },
+    Item {
+        name: "args",
+        kind: Kind::Valued,
+        is_due: false,
+    },
+    Item {
+        name: "priority",
+        kind: Kind::Valued,
+        is_due: false,
+    },
+    Item {
+        name: "idl",
+        kind: Kind::Valued,
+        is_due: false,
+    },
+    Item {
+        name: "interface",
+        kind: Kind::Valued,
+        is_due: false,
+    },
+];
+
+// `load SEED COUNT [--config FILE] [--batch N] [--fragment N]`
+static LOAD: [Item<'static>; 5] = [
+    Item {
+        name: "seed",
+        kind: Kind::Positional(1),
+        is_due: true,
+    },
+    Item {
+        name: "count",
+        kind: Kind::Positional(2),
+        is_due: true,
+    },
+    Item {
+        name: "config",
+        kind: Kind::Valued,
+        is_due: false,
+    },
+    Item {
+        name: "batch",
+        kind: Kind::Valued,
+        is_due: false,
+    },
+    Item {
+        name: "fragment",
+        kind: Kind::Valued,
+        is_due: false,
+    },
+];
+
+// `audit`
+static AUDIT: [Item<'static>; 0] = [];
+
 /// What the words after `pipe` give, which are `[--config FILE] [--batch N] [--history] [--trace]` in any order.
 /// None where the words have no reading.
 pub fn read_pipe<'a, S: AsStr>(
@@ -141,4 +207,41 @@ pub fn read_idl<'a, S: AsStr>(
         ≡ option_map given (reading Spec.idl_items (map S.text words.entry.now))) }
 {
     read_options(alloc, IDL.as_slice(), words)
+}
+
+/// What the words after `call` give, which are `--ref TEXT --op NAME [--args JSON] [--priority N] [--idl FILE]
+/// [--interface ID]` in any order.
+/// None where the words have no reading.
+pub fn read_call<'a, S: AsStr>(
+    alloc: Global,
+    words: &'a [S],
+) -> Result<Option<Options<'a>>, NoMemory>
+    ensures { IfOk result (λ found. option_map given_by found
+        ≡ option_map given (reading Spec.call_items (map S.text words.entry.now))) }
+{
+    read_options(alloc, CALL.as_slice(), words)
+}
+
+/// What the words after `load` give, which are `SEED COUNT [--config FILE] [--batch N] [--fragment N]` in any order.
+/// None where the words have no reading.
+pub fn read_load<'a, S: AsStr>(
+    alloc: Global,
+    words: &'a [S],
+) -> Result<Option<Options<'a>>, NoMemory>
+    ensures { IfOk result (λ found. option_map given_by found
+        ≡ option_map given (reading Spec.load_items (map S.text words.entry.now))) }
+{
+    read_options(alloc, LOAD.as_slice(), words)
+}
+
+/// What the words after `audit` give: nothing, and there are none.
+/// None where the words have no reading.
+pub fn read_audit<'a, S: AsStr>(
+    alloc: Global,
+    words: &'a [S],
+) -> Result<Option<Options<'a>>, NoMemory>
+    ensures { IfOk result (λ found. option_map given_by found
+        ≡ option_map given (reading Spec.audit_items (map S.text words.entry.now))) }
+{
+    read_options(alloc, AUDIT.as_slice(), words)
 }

@@ -1,6 +1,6 @@
 //! Laws of the reading of words. The bodies are empty: each contract is a law of the definitions.
 ghost use Rattle.std.specs.Prelude.{◌≡◌, ◌++◌, ◌∷◌, [], List, Some, None, codes, option_map};
-ghost use Rattle.command_options.specs.Commands.{idl_items, pipe_items, refs_items, serve_items};
+ghost use Rattle.command_options.specs.Commands.{call_items, idl_items, load_items, pipe_items, refs_items, serve_items};
 ghost use Rattle.command_options.specs.Given.{given};
 ghost use Rattle.command_options.specs.Items.{Item, Text};
 ghost use Rattle.command_options.specs.Uses.{Use, reading};
@@ -56,4 +56,25 @@ pub fn commands_are_read_as_written()
     ensures idl_joined { (file : Text)
         → reading idl_items ((codes "--file=" ++ file) ∷ [])
         ≡ Some ((codes "file", Some file) ∷ []) }
+    ensures call { (remote op args priority file id : Text) → form_of remote ≡ plain → form_of op ≡ plain → form_of args ≡ plain
+        → form_of priority ≡ plain → form_of file ≡ plain → form_of id ≡ plain
+        → reading call_items (codes "--ref" ∷ remote ∷ codes "--op" ∷ op ∷ codes "--args" ∷ args ∷ codes "--priority" ∷ priority
+        ∷ codes "--idl" ∷ file ∷ codes "--interface" ∷ id ∷ [])
+        ≡ Some ((codes "ref", Some remote) ∷ (codes "op", Some op) ∷ (codes "args", Some args) ∷ (codes "priority", Some priority)
+        ∷ (codes "idl", Some file) ∷ (codes "interface", Some id) ∷ []) }
+    ensures call_joined { (remote op args priority file id : Text)
+        → reading call_items ((codes "--interface=" ++ id) ∷ (codes "--idl=" ++ file) ∷ (codes "--priority=" ++ priority)
+        ∷ (codes "--args=" ++ args) ∷ (codes "--op=" ++ op) ∷ (codes "--ref=" ++ remote) ∷ [])
+        ≡ Some ((codes "interface", Some id) ∷ (codes "idl", Some file) ∷ (codes "priority", Some priority) ∷ (codes "args", Some args)
+        ∷ (codes "op", Some op) ∷ (codes "ref", Some remote) ∷ []) }
+    ensures load { (seed count file batch fragment : Text) → form_of seed ≡ plain → form_of count ≡ plain → form_of file ≡ plain
+        → form_of batch ≡ plain → form_of fragment ≡ plain
+        → reading load_items (seed ∷ count ∷ codes "--config" ∷ file ∷ codes "--batch" ∷ batch ∷ codes "--fragment" ∷ fragment ∷ [])
+        ≡ Some ((codes "seed", Some seed) ∷ (codes "count", Some count) ∷ (codes "config", Some file) ∷ (codes "batch", Some batch)
+        ∷ (codes "fragment", Some fragment) ∷ []) }
+    ensures load_joined { (seed count file batch fragment : Text) → form_of seed ≡ plain → form_of count ≡ plain
+        → reading load_items ((codes "--fragment=" ++ fragment) ∷ seed ∷ (codes "--batch=" ++ batch) ∷ count
+        ∷ (codes "--config=" ++ file) ∷ [])
+        ≡ Some ((codes "fragment", Some fragment) ∷ (codes "seed", Some seed) ∷ (codes "batch", Some batch) ∷ (codes "count", Some count)
+        ∷ (codes "config", Some file) ∷ []) }
 {}
