@@ -1,6 +1,7 @@
 -- Which call the words ask for by the interfaces that are known, or the first fault of those that are judged before anything is connected:
 -- own profile.
-use Rattle.std.specs.Prelude.{◌≡◌, ◌⊎◌, ℕ, nat_lt, List, length, codes, if◌then◌else◌, unwrap_or, Option, Some, None, Result, Ok, Err}
+use Rattle.std.specs.Prelude.{◌≡◌, ◌⊎◌, ℕ, nat_lt, List, length, codes, if◌then◌else◌, unwrap_or}
+use Rattle.std.specs.Prelude.{Option, Some, None, Result, Ok, Err}
 use Rattle.std.specs.Result.{result_ok}
 use Rattle.orb_base.specs.Span.{Span}
 use Rattle.cdr_core.specs.Sequence.{◌>>=◌}

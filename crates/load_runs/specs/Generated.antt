@@ -1,6 +1,7 @@
 -- The bytes of a generated load: CORBA 3.0.3, sections 15.4.2 and 15.4.9; Real-time CORBA 1.2, CORBA priorities. Which priorities the
 -- requests carry is own profile.
-use Rattle.std.specs.Prelude.{◌≡◌, ℕ, zero, suc, ◌+◌, ◌*◌, ◌%◌, List, [], ◌∷◌, ◌++◌, length, slice_get, codes, Option, Some, None, Ok, if◌then◌else◌}
+use Rattle.std.specs.Prelude.{◌≡◌, ℕ, zero, suc, ◌+◌, ◌*◌, ◌%◌, List, [], ◌∷◌, ◌++◌, length, slice_get, codes}
+use Rattle.std.specs.Prelude.{Option, Some, None, Ok, if◌then◌else◌}
 use Rattle.std.specs.Option.{option_map, option_map_or, option_and_then}
 use Rattle.orb_base.specs.Pool.{Pool}
 use Rattle.orb_base.specs.Room.{Room}

@@ -25,7 +25,8 @@ TookWhole closing end rest = closing ≡ false → (rest ≡ []) × (end ≡ rea
 
 -- this is the history of the pipe's run over the input, which met a limit of the run or not: of the bytes that were taken, which are
 -- all of them unless a limit was met
-pub record RunsInput (setup : SetupData) (outcome : List ℕ → JobRecord → Outcome) (batch : ℕ) (input : List ℕ) (closing : Bool) (history : History) : Type 0 where
+pub record RunsInput (setup : SetupData) (outcome : List ℕ → JobRecord → Outcome) (batch : ℕ) (input : List ℕ) (closing : Bool)
+    (history : History) : Type 0 where
   pub bytes : List ℕ
   pub rest : List ℕ
   pub parts : input ≡ bytes ++ rest
@@ -41,13 +42,15 @@ is_closed Closed = true
 is_closed end = false
 
 -- the input was run, with this history, whose numbers these are
-pub record RunsLoad (setup : SetupData) (outcome : List ℕ → JobRecord → Outcome) (plan : LoadPlan) (input : List ℕ) (closing : Bool) (line : LoadLine) : Type 0 where
+pub record RunsLoad (setup : SetupData) (outcome : List ℕ → JobRecord → Outcome) (plan : LoadPlan) (input : List ℕ) (closing : Bool)
+    (line : LoadLine) : Type 0 where
   pub history : History
   pub runs : RunsInput setup outcome plan.batch input closing history
   pub line_is : line ≡ line_of input history
 
 -- the load of a plan was run, and these are its numbers
-pub record RunsMade (setup : SetupData) (outcome : List ℕ → JobRecord → Outcome) (plan : LoadPlan) (closing : Bool) (line : LoadLine) : Type 0 where
+pub record RunsMade (setup : SetupData) (outcome : List ℕ → JobRecord → Outcome) (plan : LoadPlan) (closing : Bool)
+    (line : LoadLine) : Type 0 where
   pub input : List ℕ
   pub is_load : IsLoad setup plan input
   pub runs : RunsLoad setup outcome plan input closing line
@@ -60,7 +63,8 @@ WritesLine load.WriteFault closing text out out' = WroteFrontOf text out out' ×
 WritesLine load.NoMemory closing text out out' = out' ≡ out
 
 -- the load of a plan was run, and its line came out so
-pub record WritesLoad (end : LoadEnd) (setup : SetupData) (outcome : List ℕ → JobRecord → Outcome) (plan : LoadPlan) (out out' : SinkState) : Type 0 where
+pub record WritesLoad (end : LoadEnd) (setup : SetupData) (outcome : List ℕ → JobRecord → Outcome) (plan : LoadPlan)
+    (out out' : SinkState) : Type 0 where
   pub closing : Bool
   pub line : LoadLine
   pub loaded : RunsMade setup outcome plan closing line
