@@ -11,7 +11,7 @@ use Rattle.giop_frames.specs.Messages.{lone}
 use Rattle.giop_frames.specs.Pieces as Pieces
 use Rattle.giop_frames.specs.Running.{ahead}
 use Rattle.giop_frames.specs.Splitting.{IsUncut}
-use Rattle.giop_frames.specs.Stream.{Said, stream, with_front}
+use Rattle.giop_frames.specs.Stream.{Said, with_front}
 use Rattle.giop_frames.proofs.Growing.{stream_is}
 use Rattle.giop_frames.proofs.Grows.{nothing_said}
 use Rattle.giop_messages.specs.Message.{Message, Fits, kind_of}
@@ -21,7 +21,7 @@ use Rattle.giop_messages.specs.Written.{whole_at}
 use Rattle.giop_messages.proofs.Written.{reads_written}
 use Rattle.adapter_policies.specs.SetupData.{AdapterData, SetupData}
 use Rattle.adapter_policies.specs.declared.object_spec.ObjectSpec.{ObjectSpec}
-use Rattle.load_runs.specs.Generated.{Aim, aim_of, asking, request_at, sent_level, AreRead, StreamsThem}
+use Rattle.load_runs.specs.Generated.{Aim, aim_of, asking, request_at, sent_level, StreamsThem}
 use Rattle.load_runs.specs.Making.{AreShort, Sends, Puts, MadeSoFar, IsMade}
 use Rattle.load_runs.specs.declared.load_plan.LoadPlan.{LoadPlan}
 use Rattle.load_runs.proofs.Past.{IsEven, past}

@@ -1,5 +1,5 @@
 -- What a stream says of bytes that left nothing unfinished, and of further ones after them.
-use Rattle.std.proofs.Common.{◌≡◌, ℕ, zero, suc, ◌+◌, ◌-◌, ◌≤◌, Bool, true, false, List, [], ◌∷◌, ◌++◌, length, take, drop, Option, Some, None, refl, sym, ap, ◌∙◌, subst, arith, append_assoc, take-append-drop, length-drop, length-take-le}
+use Rattle.std.proofs.Common.{◌≡◌, ℕ, zero, suc, ◌+◌, ◌-◌, ◌≤◌, Bool, true, false, List, [], ◌∷◌, ◌++◌, length, take, drop, Option, Some, None, refl, sym, ap, ◌∙◌, arith, append_assoc, take-append-drop, length-drop, length-take-le, eqb}
 use Rattle.std.specs.Prelude.{option_to_list}
 use Rattle.giop_frames.specs.declared.fault.FrameCause.{FrameCause}
 use Rattle.giop_frames.specs.declared.fault.FrameFault.{FrameFault}
@@ -14,9 +14,12 @@ pub record IsEven (s : Said) : Type 0 where
   pub rest : s.rest ≡ None
   pub bad : s.bad ≡ None
 
+not_zero : (n : ℕ) → eqb (suc n) 0 ≡ false
+not_zero n = grind arith
+
 tail_there : (at b : ℕ) (bytes : List ℕ) → tail_rest (record { at = at; bytes = b ∷ bytes }) ≡ Some at
 unfolding tail_rest
-tail_there at b bytes = refl
+tail_there at b bytes = rw (not_zero (length bytes)) refl
 
 no_tail : (at : ℕ) (bytes : List ℕ) → tail_rest (record { at = at; bytes = bytes }) ≡ None → bytes ≡ []
 unfolding tail_rest

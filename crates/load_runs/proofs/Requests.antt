@@ -1,5 +1,5 @@
 -- How long a request of a load is, and that it can be cut.
-use Rattle.std.proofs.Common.{◌≡◌, ℕ, ◌+◌, ◌≤◌, ◌^◌, true, List, [], ◌∷◌, length, map, Option, Some, None, refl, ap, arith, subst, sym}
+use Rattle.std.proofs.Common.{◌≡◌, ℕ, ◌+◌, ◌≤◌, true, List, [], ◌∷◌, length, map, Option, Some, None, refl, ap, arith, subst, sym}
 use Rattle.orb_base.specs.Tagged.{Context}
 use Rattle.orb_base.specs.declared.limits.TheConstants.{MAX_MESSAGE}
 use Rattle.orb_base.specs.declared.order.Order.{Order}
@@ -11,7 +11,7 @@ use Rattle.service_contexts.specs.Layout.{priority_fields}
 use Rattle.giop_frames.specs.Kinds.{is_long_kind}
 use Rattle.giop_frames.specs.Splitting.{IsUncut}
 use Rattle.giop_messages.specs.Lengths.{held, data_len}
-use Rattle.giop_messages.specs.Message.{Message, key, request_of, kind_of}
+use Rattle.giop_messages.specs.Message.{key, request_of}
 use Rattle.giop_messages.specs.Spelling.{spelled}
 use Rattle.giop_messages.proofs.Written.{uncut_written}
 use Rattle.load_runs.specs.Generated.{operation, contexts_of, asking}

@@ -1,4 +1,3 @@
-use Rattle.std.proofs.Common.{◌≡◌}
 use Rattle.load_runs.specs.Generated.{request_at}
 use Rattle.load_runs.specs.Making.{MadeSoFar}
 use Rattle.load_runs.proofs.input.requests.Given as goal
