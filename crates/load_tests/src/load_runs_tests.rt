@@ -1,6 +1,6 @@
 //! Loads over configurations in memory: the line that tells them, and how they come out.
 
-use load_runs::*;
+use load_runs::{FragmentLen, LoadCount, LoadEnd, LoadPlan, load_of_setup};
 use orb_base::{List, MemFile, MemFiles, MemSink, Text};
 use pipe_runs::Batch;
 use setup_files::{Broker, read_broker};
@@ -292,16 +292,45 @@ fn sink_of(alloc: Global, fails: bool) -> Option<MemSink> {
     Some(MemSink::new(alloc, List::new(alloc), failing))
 }
 
-/// How the load of a row comes out, and whether this is all that it writes.
-fn outcome_of(alloc: Global, row: &Row, fails: bool, written: &[u8]) -> Option<LoadEnd> {
-    let broker = broker_of(alloc, row.config)?;
+/// How a load comes out.
+fn load(alloc: Global, broker: &Broker, plan: &LoadPlan, out: &mut MemSink) -> LoadEnd {
+    load_of_setup(alloc, &broker.setup, &broker.servants, plan, out)
+}
+
+/// How a load comes out; none where it writes anything else than this.
+fn outcome(
+    alloc: Global,
+    broker: &Broker,
+    plan: &LoadPlan,
+    fails: bool,
+    written: &[u8],
+) -> Option<LoadEnd> {
     let mut out = sink_of(alloc, fails)?;
-    let plan = plan_of(row)?;
-    let end = load_of_setup(alloc, &broker.setup, &broker.servants, &plan, &mut out);
+    let end = load(alloc, broker, plan, &mut out);
     if out.held() == written {
         Some(end)
     } else {
         None
+    }
+}
+
+/// The same of the load of a plan for a configuration.
+fn planned(
+    alloc: Global,
+    config: Option<&[u8]>,
+    plan: &LoadPlan,
+    fails: bool,
+    written: &[u8],
+) -> Option<LoadEnd> {
+    let broker = broker_of(alloc, config)?;
+    outcome(alloc, &broker, plan, fails, written)
+}
+
+/// The same of the load of a row.
+fn outcome_of(alloc: Global, row: &Row, fails: bool, written: &[u8]) -> Option<LoadEnd> {
+    match plan_of(row) {
+        Some(plan) => planned(alloc, row.config, &plan, fails, written),
+        None => None,
     }
 }
 
