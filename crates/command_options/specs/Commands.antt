@@ -47,7 +47,3 @@ abbrev pub load_items : List Item
 load_items =
     must_have (Positional 1) (codes "seed") ∷ must_have (Positional 2) (codes "count") ∷ may_have Valued (codes "config")
     ∷ may_have Valued (codes "batch") ∷ may_have Valued (codes "fragment") ∷ []
-
--- `audit`
-abbrev pub audit_items : List Item
-audit_items = []

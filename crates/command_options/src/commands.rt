@@ -146,9 +146,6 @@ static LOAD: [Item<'static>; 5] = [
     },
 ];
 
-// `audit`
-static AUDIT: [Item<'static>; 0] = [];
-
 /// What the words after `pipe` give, which are `[--config FILE] [--batch N] [--history] [--trace]` in any order.
 /// None where the words have no reading.
 pub fn read_pipe<'a, S: AsStr>(
@@ -232,16 +229,4 @@ pub fn read_load<'a, S: AsStr>(
         ≡ option_map given (reading Spec.load_items (map S.text words.entry.now))) }
 {
     read_options(alloc, LOAD.as_slice(), words)
-}
-
-/// What the words after `audit` give: nothing, and there are none.
-/// None where the words have no reading.
-pub fn read_audit<'a, S: AsStr>(
-    alloc: Global,
-    words: &'a [S],
-) -> Result<Option<Options<'a>>, NoMemory>
-    ensures { IfOk result (λ found. option_map given_by found
-        ≡ option_map given (reading Spec.audit_items (map S.text words.entry.now))) }
-{
-    read_options(alloc, AUDIT.as_slice(), words)
 }
