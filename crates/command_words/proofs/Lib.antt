@@ -1,4 +1,4 @@
-pub mod Built
+pub mod Digits
 pub mod NulWords
 pub mod Orders
 pub mod Written

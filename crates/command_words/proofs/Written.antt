@@ -1,6 +1,6 @@
 -- Each command's words, written out with all its options.
 use Rattle.std.proofs.Common.{◌≡◌, ◌∙◌, ◌++◌, ◌∷◌, ◌==◌, ◌+◌, ◌||◌, ℕ, Bool, true, false, List, [], Option, Some, None, if◌then◌else◌, codes, refl, sym, ap, true≢false}
-use Rattle.std.specs.Prelude.{is_some}
+use Rattle.std.specs.Prelude.{is_some, option_map}
 use Rattle.std.specs.List.{list_any, position_from}
 use Rattle.std.proofs.lemmas.Iterator.Adapters.{position_from-zero}
 use Rattle.orb_base.specs.NulFree.{HasNoNul}
@@ -10,7 +10,8 @@ use Rattle.command_options.specs.Given.{given}
 use Rattle.command_options.specs.Items.{Text}
 use Rattle.command_options.specs.Words.{form_of, plain}
 use Rattle.command_options.proofs.Written as options
-use Rattle.command_words.specs.Meanings.{batch_of, listed, piped, refs_at, runs_of, served_at}
+use Rattle.command_words.specs.Meanings.{called, listed, loaded, piped, planned, refs_at, served_at}
+use Rattle.command_words.specs.Numbers.{batch_of, count_of, fragment_of, number_of, priority_of, runs_of}
 use Rattle.command_words.specs.Words.{command_of}
 
 -- ---- bytes before a value
@@ -112,3 +113,50 @@ unfolding command_of given
 idl_joined_means file file_clean =
     let file_so : HasNoNul (codes "--file=" ++ file) = clean (codes "--file=" ++ file) file refl file_clean in
     rw (file_so, options.idl_joined_reads file) refl
+
+pub call_means : (remote op args priority file id : Text) → form_of remote ≡ plain → form_of op ≡ plain → form_of args ≡ plain → form_of priority ≡ plain → form_of file ≡ plain → form_of id ≡ plain
+    → HasNoNul remote → HasNoNul op → HasNoNul args → HasNoNul priority → HasNoNul file → HasNoNul id
+    → command_of (codes "call" ∷ codes "--ref" ∷ remote ∷ codes "--op" ∷ op ∷ codes "--args" ∷ args ∷ codes "--priority" ∷ priority ∷ codes "--idl" ∷ file ∷ codes "--interface" ∷ id ∷ [])
+    ≡ called (Some remote) (Some op) (Some args) (option_map Some (priority_of priority)) (Some file) (Some id)
+unfolding command_of given
+call_means remote op args priority file id remote_plain op_plain args_plain priority_plain file_plain id_plain remote_clean op_clean args_clean priority_clean file_clean id_clean =
+    rw (
+      remote_clean,
+      op_clean,
+      args_clean,
+      priority_clean,
+      file_clean,
+      id_clean,
+      options.call_reads remote op args priority file id remote_plain op_plain args_plain priority_plain file_plain id_plain,
+    ) refl
+
+pub call_joined_means : (remote op args priority file id : Text) → HasNoNul remote → HasNoNul op → HasNoNul args → HasNoNul priority → HasNoNul file → HasNoNul id
+    → command_of (codes "call" ∷ (codes "--interface=" ++ id) ∷ (codes "--idl=" ++ file) ∷ (codes "--priority=" ++ priority) ∷ (codes "--args=" ++ args) ∷ (codes "--op=" ++ op) ∷ (codes "--ref=" ++ remote) ∷ [])
+    ≡ called (Some remote) (Some op) (Some args) (option_map Some (priority_of priority)) (Some file) (Some id)
+unfolding command_of given
+call_joined_means remote op args priority file id remote_clean op_clean args_clean priority_clean file_clean id_clean =
+    let remote_so : HasNoNul (codes "--ref=" ++ remote) = clean (codes "--ref=" ++ remote) remote refl remote_clean in
+    let op_so : HasNoNul (codes "--op=" ++ op) = clean (codes "--op=" ++ op) op refl op_clean in
+    let args_so : HasNoNul (codes "--args=" ++ args) = clean (codes "--args=" ++ args) args refl args_clean in
+    let priority_so : HasNoNul (codes "--priority=" ++ priority) = clean (codes "--priority=" ++ priority) priority refl priority_clean in
+    let file_so : HasNoNul (codes "--idl=" ++ file) = clean (codes "--idl=" ++ file) file refl file_clean in
+    let id_so : HasNoNul (codes "--interface=" ++ id) = clean (codes "--interface=" ++ id) id refl id_clean in
+    rw (remote_so, op_so, args_so, priority_so, file_so, id_so, options.call_joined_reads remote op args priority file id) refl
+
+pub load_means : (seed count file batch fragment : Text) → form_of seed ≡ plain → form_of count ≡ plain → form_of file ≡ plain → form_of batch ≡ plain → form_of fragment ≡ plain
+    → HasNoNul seed → HasNoNul count → HasNoNul file → HasNoNul batch → HasNoNul fragment
+    → command_of (codes "load" ∷ seed ∷ count ∷ codes "--config" ∷ file ∷ codes "--batch" ∷ batch ∷ codes "--fragment" ∷ fragment ∷ [])
+    ≡ loaded (Some file) (planned (number_of seed) (count_of count) (batch_of batch) (option_map Some (fragment_of fragment)))
+unfolding command_of given
+load_means seed count file batch fragment seed_plain count_plain file_plain batch_plain fragment_plain seed_clean count_clean file_clean batch_clean fragment_clean =
+    rw (seed_clean, count_clean, file_clean, batch_clean, fragment_clean, options.load_reads seed count file batch fragment seed_plain count_plain file_plain batch_plain fragment_plain) refl
+
+pub load_joined_means : (seed count file batch fragment : Text) → form_of seed ≡ plain → form_of count ≡ plain → HasNoNul seed → HasNoNul count → HasNoNul file → HasNoNul batch → HasNoNul fragment
+    → command_of (codes "load" ∷ (codes "--fragment=" ++ fragment) ∷ seed ∷ (codes "--batch=" ++ batch) ∷ count ∷ (codes "--config=" ++ file) ∷ [])
+    ≡ loaded (Some file) (planned (number_of seed) (count_of count) (batch_of batch) (option_map Some (fragment_of fragment)))
+unfolding command_of given
+load_joined_means seed count file batch fragment seed_plain count_plain seed_clean count_clean file_clean batch_clean fragment_clean =
+    let fragment_so : HasNoNul (codes "--fragment=" ++ fragment) = clean (codes "--fragment=" ++ fragment) fragment refl fragment_clean in
+    let batch_so : HasNoNul (codes "--batch=" ++ batch) = clean (codes "--batch=" ++ batch) batch refl batch_clean in
+    let file_so : HasNoNul (codes "--config=" ++ file) = clean (codes "--config=" ++ file) file refl file_clean in
+    rw (seed_clean, count_clean, fragment_so, batch_so, file_so, options.load_joined_reads seed count file batch fragment seed_plain count_plain) refl

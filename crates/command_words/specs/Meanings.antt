@@ -1,30 +1,20 @@
 -- What each command means by what its words give its items: own profile.
 use Rattle.std.specs.Prelude.{ℕ, Bool, codes, is_some, Option, Some, None}
 use Rattle.std.specs.Option.{option_and_then}
-use Rattle.object_refs.specs.LocationReading.{port_number}
 use Rattle.object_lines.specs.Addresses.{Place, address_of}
-use Rattle.pipe_runs.specs.Batches.{batch}
+use Rattle.load_runs.specs.declared.load_plan.LoadPlan.{LoadPlan}
 use Rattle.pipe_runs.specs.declared.shown.Shown.{Shown}
 use Rattle.pipe_runs.specs.declared.shown.Shown.TheVariants as shown
-use Rattle.server_runs.specs.Counts.{run_count}
 use Rattle.command_options.specs.Items.{Text}
+use Rattle.command_words.specs.Numbers.{number_of, batch_by, runs_by, priority_by, count_of, fragment_by}
 use Rattle.command_words.specs.declared.meaning.Meaning.{Meaning}
-use Rattle.command_words.specs.declared.meaning.Meaning.TheVariants.{Pipe, Serve, Dump, Refs, RefsAt, Idl, Unread}
+use Rattle.command_words.specs.declared.meaning.Meaning.TheVariants.{Pipe, Serve, Dump, Refs, RefsAt, Idl, Call, Load, Unread}
 
 -- what words give the items of a command: for each name its text, where the item is used
 abbrev pub Gives : Type 0
 Gives = Text → Option Text
 
 -- ---- `pipe [--config FILE] [--batch N]`, and `--history` or `--trace`
-
--- a number from 1 to 64, of 1 to 10 decimal digits
-abbrev pub batch_of : Text → Option ℕ
-batch_of word = option_and_then batch (port_number 10 word)
-
--- how many calls a group has: the number that the word is, or 1 where there is no word
-abbrev pub batch_by : Option Text → Option ℕ
-batch_by (Some word) = batch_of word
-batch_by None = Some 1
 
 -- what is written, by the switches for the text of the history and for its trace: the bytes without them, and nothing with both
 abbrev pub shown_by : Option Text → Option Text → Option Shown
@@ -45,15 +35,6 @@ pipe_by gives =
     piped (gives (codes "config")) (batch_by (gives (codes "batch"))) (shown_by (gives (codes "history")) (gives (codes "trace")))
 
 -- ---- `serve --config FILE --listen HOST:PORT [--runs N] [--trace]`
-
--- a number from 1 to 16, of 1 to 10 decimal digits
-abbrev pub runs_of : Text → Option ℕ
-runs_of word = option_and_then run_count (port_number 10 word)
-
--- how many runs are made at most: the number that the word is, or 1 where there is no word
-abbrev pub runs_by : Option Text → Option ℕ
-runs_by (Some word) = runs_of word
-runs_by None = Some 1
 
 -- the server of a configuration, where its place is an address and its runs are a number that they may be; with the trace of each run, or
 -- without
@@ -103,3 +84,42 @@ listed None = Unread
 -- the listing, by the text of its option
 abbrev pub idl_by : Gives → Meaning
 idl_by gives = listed (gives (codes "file"))
+
+-- ---- `call --ref TEXT --op NAME [--args JSON] [--priority N] [--idl FILE] [--interface ID]`
+
+-- the call of an operation of a reference, where its priority is a number that it may be
+abbrev pub called : (remote op args : Option Text) → Option (Option ℕ) → (file id : Option Text) → Meaning
+called (Some remote) (Some op) args (Some priority) file id =
+    Call (record { reference = remote; operation = op; arguments = args; priority = priority; idl = file; interface = id })
+called (Some remote) (Some op) args None file id = Unread
+called (Some remote) None args priority file id = Unread
+called None op args priority file id = Unread
+
+-- the call, by the texts of its options
+abbrev pub call_by : Gives → Meaning
+call_by gives =
+    called (gives (codes "ref")) (gives (codes "op")) (gives (codes "args")) (priority_by (gives (codes "priority")))
+    (gives (codes "idl")) (gives (codes "interface"))
+
+-- ---- `load SEED COUNT [--config FILE] [--batch N] [--fragment N]`
+
+-- what a load is to be, where each of its numbers is such as it may be
+abbrev pub planned : Option ℕ → Option ℕ → Option ℕ → Option (Option ℕ) → Option LoadPlan
+planned (Some seed) (Some count) (Some batch) (Some fragment) =
+    Some (record { seed = seed; count = count; batch = batch; fragment = fragment })
+planned _ _ _ _ = None
+
+-- what a load is to be, by the texts of its items
+abbrev pub plan_by : Gives → Option LoadPlan
+plan_by gives =
+    planned (option_and_then number_of (gives (codes "seed"))) (option_and_then count_of (gives (codes "count")))
+    (batch_by (gives (codes "batch"))) (fragment_by (gives (codes "fragment")))
+
+-- the load of a setup, where there is a plan of it
+abbrev pub loaded : Option Text → Option LoadPlan → Meaning
+loaded config (Some plan) = Load (record { config = config; plan = plan })
+loaded config None = Unread
+
+-- the load, by the texts of its items
+abbrev pub load_by : Gives → Meaning
+load_by gives = loaded (gives (codes "config")) (plan_by gives)

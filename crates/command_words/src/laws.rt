@@ -1,5 +1,5 @@
 //! Laws of what words mean. The bodies are empty: each contract is a law of the definitions.
-ghost use Rattle.std.specs.Prelude.{◌≡◌, ◌++◌, ◌∷◌, [], List, Some, codes, false, true};
+ghost use Rattle.std.specs.Prelude.{◌≡◌, ◌++◌, ◌∷◌, [], List, Some, codes, false, true, option_map};
 ghost use Rattle.orb_base.specs.NulFree.{HasNoNul};
 ghost use Rattle.object_lines.specs.Addresses.{address_of};
 ghost use Rattle.pipe_runs.specs.declared.shown.Shown.TheVariants as shown;
@@ -8,7 +8,8 @@ ghost use Rattle.command_options.specs.Uses.{Use};
 ghost use Rattle.command_options.specs.Whole.{IsWhole};
 ghost use Rattle.command_options.specs.Words.{form_of, plain};
 ghost use Rattle.command_words.specs.declared.meaning.Meaning.TheVariants.{Unread};
-ghost use Rattle.command_words.specs.Meanings.{batch_of, listed, piped, refs_at, runs_of, served_at};
+ghost use Rattle.command_words.specs.Meanings.{called, listed, loaded, piped, planned, refs_at, served_at};
+ghost use Rattle.command_words.specs.Numbers.{batch_of, count_of, fragment_of, number_of, priority_of, runs_of};
 ghost use Rattle.command_words.specs.Words.{Command, command_named, command_of};
 
 /// The order of options is free: words in which two options of a command, each written out whole, change places mean the same. So do
@@ -28,7 +29,7 @@ pub fn second_use_is_refused()
 
 /// What each command's words mean, written out with all its options: with a value after each name, where no value begins with a
 /// dash, and the other way round with `=`; no value holds a NUL. What isn't the number or the address that it has to be has no
-/// reading, by `piped`, `served_at` and `refs_at`.
+/// reading, by `piped`, `served_at`, `refs_at`, `called` and `planned`.
 pub fn commands_mean_what_they_say()
     ensures pipe { (file number : Text) → form_of file ≡ plain → form_of number ≡ plain → HasNoNul file → HasNoNul number
         → command_of (codes "pipe" ∷ codes "--config" ∷ file ∷ codes "--batch" ∷ number ∷ codes "--history" ∷ [])
@@ -65,4 +66,26 @@ pub fn commands_mean_what_they_say()
     ensures idl_joined { (file : Text) → HasNoNul file
         → command_of (codes "idl" ∷ (codes "--file=" ++ file) ∷ [])
         ≡ listed (Some file) }
+    ensures call { (remote op args priority file id : Text) → form_of remote ≡ plain → form_of op ≡ plain → form_of args ≡ plain
+        → form_of priority ≡ plain → form_of file ≡ plain → form_of id ≡ plain → HasNoNul remote → HasNoNul op → HasNoNul args
+        → HasNoNul priority → HasNoNul file → HasNoNul id
+        → command_of (codes "call" ∷ codes "--ref" ∷ remote ∷ codes "--op" ∷ op ∷ codes "--args" ∷ args ∷ codes "--priority" ∷ priority
+        ∷ codes "--idl" ∷ file ∷ codes "--interface" ∷ id ∷ [])
+        ≡ called (Some remote) (Some op) (Some args) (option_map Some (priority_of priority)) (Some file) (Some id) }
+    ensures call_joined { (remote op args priority file id : Text) → HasNoNul remote → HasNoNul op → HasNoNul args → HasNoNul priority
+        → HasNoNul file → HasNoNul id
+        → command_of (codes "call" ∷ (codes "--interface=" ++ id) ∷ (codes "--idl=" ++ file) ∷ (codes "--priority=" ++ priority)
+        ∷ (codes "--args=" ++ args) ∷ (codes "--op=" ++ op) ∷ (codes "--ref=" ++ remote) ∷ [])
+        ≡ called (Some remote) (Some op) (Some args) (option_map Some (priority_of priority)) (Some file) (Some id) }
+    ensures load { (seed count file batch fragment : Text) → form_of seed ≡ plain → form_of count ≡ plain → form_of file ≡ plain
+        → form_of batch ≡ plain → form_of fragment ≡ plain → HasNoNul seed → HasNoNul count → HasNoNul file → HasNoNul batch
+        → HasNoNul fragment
+        → command_of (codes "load" ∷ seed ∷ count ∷ codes "--config" ∷ file ∷ codes "--batch" ∷ batch ∷ codes "--fragment" ∷ fragment
+        ∷ [])
+        ≡ loaded (Some file) (planned (number_of seed) (count_of count) (batch_of batch) (option_map Some (fragment_of fragment))) }
+    ensures load_joined { (seed count file batch fragment : Text) → form_of seed ≡ plain → form_of count ≡ plain → HasNoNul seed
+        → HasNoNul count → HasNoNul file → HasNoNul batch → HasNoNul fragment
+        → command_of (codes "load" ∷ (codes "--fragment=" ++ fragment) ∷ seed ∷ (codes "--batch=" ++ batch) ∷ count
+        ∷ (codes "--config=" ++ file) ∷ [])
+        ≡ loaded (Some file) (planned (number_of seed) (count_of count) (batch_of batch) (option_map Some (fragment_of fragment))) }
 {}

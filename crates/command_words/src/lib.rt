@@ -4,8 +4,9 @@
 
 mod laws;
 mod meaning;
+mod numbers;
 mod words;
 
 pub use laws::{commands_mean_what_they_say, order_is_free, second_use_is_refused};
-pub use meaning::{Meaning, PipeWords, ServeWords};
+pub use meaning::{LoadWords, Meaning, PipeWords, ServeWords};
 pub use words::read_words;

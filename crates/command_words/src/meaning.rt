@@ -1,5 +1,7 @@
 //! What the words of a command line mean.
 
+use client_runs::CallWords;
+use load_runs::LoadPlan;
 use object_lines::Address;
 use orb_base::Text;
 use pipe_runs::{Batch, Shown};
@@ -27,6 +29,15 @@ pub struct ServeWords {
     pub plan: RunPlan,
 }
 
+/// The options of `load`.
+#[derive(Drop)]
+pub struct LoadWords {
+    /// The name of a configuration, where there is one.
+    pub config: Option<Text>,
+    /// What the load is to be.
+    pub plan: LoadPlan,
+}
+
 /// What the words of a command line mean.
 #[derive(Drop)]
 pub enum Meaning {
@@ -42,8 +53,10 @@ pub enum Meaning {
     RefsAt(Address, Option<Text>),
     /// The command `idl`, with the name of a file.
     Idl(Text),
-    /// A command that isn't built yet, with any words after it.
-    Unbuilt,
+    /// The command `call`.
+    Call(CallWords),
+    /// The command `load`.
+    Load(LoadWords),
     /// The words have no reading.
     Unread,
 }

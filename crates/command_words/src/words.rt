@@ -8,18 +8,19 @@ ghost use Rattle.command_options.specs.Uses.{reading};
 ghost use Rattle.command_words.specs.Meanings as By;
 ghost use Rattle.command_words.specs.Words as Spec;
 
-use crate::meaning::{Meaning, PipeWords, ServeWords};
-use command_options::{Options, read_dump, read_idl, read_pipe, read_refs, read_serve};
+use crate::meaning::{LoadWords, Meaning, PipeWords, ServeWords};
+use crate::numbers::{batch_by, count_of, fragment_by, number_of, priority_by, runs_by};
+use client_runs::{ArgumentText, CallWords};
+use command_options::{
+    Options, read_call, read_dump, read_idl, read_load, read_pipe, read_refs, read_serve,
+};
+use load_runs::LoadPlan;
 use object_lines::read_address;
-use object_refs::port_number;
 use orb_base::{NoMemory, Text, first_nul};
-use pipe_runs::{Batch, Shown};
-use server_runs::{RunCount, RunPlan};
+use pipe_runs::Shown;
+use server_runs::RunPlan;
 use std::alloc::Global;
 use std::convert::AsStr;
-
-/// The most digits of a number, own profile.
-const MAX_DIGITS: usize = 10;
 
 /// What the words mean, the first of which is the command: the options after it come in any order, each once at most, as
 /// `--name value` or `--name=value`. The reading, also of words that have none, takes time and memory in the length of the words.
@@ -27,7 +28,7 @@ const MAX_DIGITS: usize = 10;
 pub fn read_words(alloc: Global, words: &[String]) -> Result<Meaning, NoMemory>
     // The meaning, where memory is there.
     ensures meaning { IfOk result (λ meaning. meaning ≡ Spec.command_of (map string_bytes words.now)) }
-    // Memory is asked for the words of a command that is built alone, where none of them holds a NUL.
+    // Memory is asked for the words of a command alone, where none of them holds a NUL.
     ensures memory { OnErr result (Spec.asks_memory (map string_bytes words.now) ≡ true) }
 {
     if has_nul(words) {
@@ -58,13 +59,6 @@ fn holds_nul(word: &str) -> bool
     first_nul(word.as_bytes()).is_some()
 }
 
-/// Whether this is the name of a command that isn't built yet.
-fn is_unbuilt(name: &str) -> bool
-    ensures { result ≡ Spec.is_unbuilt name.now }
-{
-    name == "call" || name == "load"
-}
-
 /// What the command of this name means with these words after it.
 fn read_named(alloc: Global, name: &str, words: &[String]) -> Result<Meaning, NoMemory>
     ensures meaning { IfOk result (λ meaning. meaning ≡ Spec.named_by (name.now ∷ map string_bytes words.now)) }
@@ -80,8 +74,10 @@ fn read_named(alloc: Global, name: &str, words: &[String]) -> Result<Meaning, No
         dump(alloc, words)
     } else if name == "idl" {
         idl(alloc, words)
-    } else if is_unbuilt(name) {
-        Ok(Meaning::Unbuilt)
+    } else if name == "call" {
+        call(alloc, words)
+    } else if name == "load" {
+        load(alloc, words)
     } else {
         Ok(Meaning::Unread)
     }
@@ -114,20 +110,6 @@ fn pipe_by(alloc: Global, options: &Options<'_>) -> Result<Meaning, NoMemory>
         batch,
         shown,
     }))
-}
-
-/// How many calls a group has: the number that the word is, 1 to 64 in 1 to 10 decimal digits, or 1 where there is no word. None
-/// where the word is no such number.
-fn batch_by(word: Option<&str>) -> Option<Batch>
-    ensures { result ≡ By.batch_by (option_map (λ word. word.now) word.entry) }
-{
-    match word {
-        Some(word) => {
-            let number = port_number(word.as_bytes(), MAX_DIGITS)?;
-            Batch::new(number)
-        }
-        None => Some(Batch::one()),
-    }
 }
 
 /// What is written: the bytes, with `--history` the text of the history, or with `--trace` its trace. None with both.
@@ -171,20 +153,6 @@ fn serve_by(alloc: Global, options: &Options<'_>) -> Result<Meaning, NoMemory>
     let config = text_of(alloc, config)?;
     let plan = RunPlan { runs, trace };
     Ok(Meaning::Serve(ServeWords { config, at, plan }))
-}
-
-/// How many runs are made at most: the number that the word is, 1 to 16 in 1 to 10 decimal digits, or 1 where there is no word. None
-/// where the word is no such number.
-fn runs_by(word: Option<&str>) -> Option<RunCount>
-    ensures { result ≡ By.runs_by (option_map (λ word. word.now) word.entry) }
-{
-    match word {
-        Some(word) => {
-            let number = port_number(word.as_bytes(), MAX_DIGITS)?;
-            RunCount::new(number)
-        }
-        None => Some(RunCount::one()),
-    }
 }
 
 /// What `refs` means with these words after it.
@@ -254,6 +222,93 @@ fn idl_by(alloc: Global, options: &Options<'_>) -> Result<Meaning, NoMemory>
         }
         None => Ok(Meaning::Unread),
     }
+}
+
+/// What `call` means with these words after it.
+fn call(alloc: Global, words: &[String]) -> Result<Meaning, NoMemory>
+    ensures { IfOk result (λ meaning. meaning
+        ≡ Spec.meant By.call_by (option_map given (reading Takes.call_items (map string_bytes words.now)))) }
+{
+    match read_call(alloc, words)? {
+        Some(options) => call_by(alloc, &options),
+        None => Ok(Meaning::Unread),
+    }
+}
+
+/// What `call` means by what its options give.
+fn call_by(alloc: Global, options: &Options<'_>) -> Result<Meaning, NoMemory>
+    ensures { IfOk result (λ meaning. meaning ≡ By.call_by (given_by options.now)) }
+{
+    let (Some(remote), Some(name)) = (options.value("ref"), options.value("op")) else {
+        return Ok(Meaning::Unread);
+    };
+    let Some(priority) = priority_by(options.value("priority")) else {
+        return Ok(Meaning::Unread);
+    };
+    let reference = text_of(alloc, remote)?;
+    let operation = text_of(alloc, name)?;
+    let arguments = arguments_by(alloc, options.value("args"))?;
+    let idl = text_by(alloc, options.value("idl"))?;
+    let interface = text_by(alloc, options.value("interface"))?;
+    Ok(Meaning::Call(CallWords {
+        reference,
+        operation,
+        arguments,
+        priority,
+        idl,
+        interface,
+    }))
+}
+
+/// The text of arguments, if there is one.
+fn arguments_by(alloc: Global, word: Option<&str>) -> Result<Option<ArgumentText>, NoMemory>
+    ensures { IfOk result (λ text. text ≡ option_map (λ word. word.now) word.entry) }
+{
+    match word {
+        Some(word) => {
+            let text = ArgumentText::new(alloc, word)?;
+            Ok(Some(text))
+        }
+        None => Ok(None),
+    }
+}
+
+/// What `load` means with these words after it.
+fn load(alloc: Global, words: &[String]) -> Result<Meaning, NoMemory>
+    ensures { IfOk result (λ meaning. meaning
+        ≡ Spec.meant By.load_by (option_map given (reading Takes.load_items (map string_bytes words.now)))) }
+{
+    match read_load(alloc, words)? {
+        Some(options) => load_by(alloc, &options),
+        None => Ok(Meaning::Unread),
+    }
+}
+
+/// What `load` means by what its items give.
+fn load_by(alloc: Global, options: &Options<'_>) -> Result<Meaning, NoMemory>
+    ensures { IfOk result (λ meaning. meaning ≡ By.load_by (given_by options.now)) }
+{
+    let Some(plan) = plan_by(options) else {
+        return Ok(Meaning::Unread);
+    };
+    let config = text_by(alloc, options.value("config"))?;
+    Ok(Meaning::Load(LoadWords { config, plan }))
+}
+
+/// What a load is to be by what the items of `load` give. None where one of them is no number that it may be.
+fn plan_by(options: &Options<'_>) -> Option<LoadPlan>
+    ensures { result ≡ By.plan_by (given_by options.now) }
+{
+    let seed = number_of(options.value("seed")?)?;
+    let count = count_of(options.value("count")?)?;
+    let batch = batch_by(options.value("batch"))?;
+    let fragment = fragment_by(options.value("fragment"))?;
+    Some(LoadPlan {
+        seed,
+        count,
+        batch,
+        fragment,
+    })
 }
 
 /// The text of a word, if there is one.
