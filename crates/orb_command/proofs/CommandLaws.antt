@@ -13,8 +13,8 @@ use Rattle.giop_dump.proofs.Runs.{dump_wants_first}
 use Rattle.reference_lines.proofs.RefsLaws.{wanting as refs_wants}
 use Rattle.text_streams.proofs.CallerLemmas.{gave_none}
 use Rattle.orb_command.specs.declared.answered.Reported.{Reported}
-use Rattle.command_words.specs.declared.meaning.Meaning.TheVariants.{Dump, Refs as RefsMeaning, Unbuilt, Unread}
-use Rattle.orb_command.specs.declared.note.Note.TheVariants.{Usage, Memory, NotBuilt}
+use Rattle.command_words.specs.declared.meaning.Meaning.TheVariants.{Dump, Refs as RefsMeaning, Unread}
+use Rattle.orb_command.specs.declared.note.Note.TheVariants.{Usage, Memory}
 use Rattle.orb_command.specs.Moment.{Moment}
 use Rattle.orb_command.specs.DumpAnswer.{dump_note}
 use Rattle.orb_command.specs.RefsAnswer.{refs_note}
@@ -61,16 +61,7 @@ refs_answers ran answered before after same h note status none = record {
   few = record { bytes = h.bytes; few = h.few; gave = h.gave };
 }
 
--- ---- no command that is built
-
-pub unbuilt_answers : (answered : Reported) (before : Moment) → answered.note ≡ NotBuilt → answered.status ≡ 14 → answered.piped ≡ None → Reports Unbuilt answered before before
-unbuilt_answers answered before note status none = record {
-  status = status ∙ ap status_of (sym note);
-  means = (note, refl);
-  piped = none;
-  faults = (refl, subst (λ n. StreamFaults n before before) (sym note) (refl, refl));
-  few = gave_none 0 before.input;
-}
+-- ---- no command
 
 pub unread_answers : (answered : Reported) (before : Moment) → answered.note ≡ Usage → answered.status ≡ 1 → answered.piped ≡ None → Reports Unread answered before before
 unread_answers answered before note status none = record {

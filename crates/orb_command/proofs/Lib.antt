@@ -1,5 +1,7 @@
 pub mod CommandLaws
 pub mod AtLaws
+pub mod CallNotes
+pub mod LoadNotes
 pub mod IdlLaws
 pub mod PipeNotes
 pub mod Plain

@@ -35,17 +35,17 @@ use Rattle.text_streams.proofs.CallerLemmas.{gave_none}
 use Rattle.text_streams.specs.Streams.{GaveFew}
 use Rattle.orb_command.specs.declared.answered.Reported.{Reported}
 use Rattle.command_words.specs.declared.meaning.Meaning.{Meaning}
-use Rattle.command_words.specs.declared.meaning.Meaning.TheVariants.{Pipe, Serve, Dump, Refs, RefsAt, Idl, Unbuilt, Unread}
+use Rattle.command_words.specs.declared.meaning.Meaning.TheVariants.{Pipe, Serve, Dump, Refs, RefsAt, Idl, Call, Load, Unread}
 use Rattle.orb_command.specs.declared.note.Note.{Note}
 use Rattle.orb_command.specs.declared.note.Note.TheVariants.{Memory}
 use Rattle.orb_command.specs.Command.{status_of, Reports}
-use Rattle.orb_command.specs.Faults.{RunFaults, ConfiguredFaults, PipeFaults, ServeFaults}
+use Rattle.orb_command.specs.Faults.{RunFaults, ConfiguredFaults, PipeFaults, ServeFaults, CallFaults}
 use Rattle.orb_command.specs.Moment.{Moment, moment}
 use Rattle.orb_command.specs.PipeAnswer.{note_of, note_of_run, piped_of, Ran, Declined, PipeAnswers}
 use Rattle.orb_command.specs.SetupNotes.{serving_note, setup_note}
-use Rattle.command_words.proofs.Built.{IsBuilt}
 use Rattle.orb_command.proofs.CommandLaws.{dump_wanting, refs_wanting, unread_wanting}
 use Rattle.orb_command.proofs.IdlLaws.{idl_wanting}
+use Rattle.orb_command.proofs.LoadNotes.{load_wanting}
 use Rattle.orb_command.proofs.AtLaws.{broker_wanting, at_wanting}
 
 -- ---- a setup and its servants
@@ -194,22 +194,29 @@ pipe_answers words answered before after h status = record {
 
 -- ---- where memory runs out over the words, nothing was done
 
-pub wanting_answers : (command : Meaning) (answered : Reported) (before : Moment) → IsBuilt command → answered.note ≡ Memory → answered.status ≡ 12 → answered.piped ≡ None
+pub wanting_answers : (command : Meaning) (answered : Reported) (before : Moment) → answered.note ≡ Memory → answered.status ≡ 12 → answered.piped ≡ None
     → Reports command answered before before
-wanting_answers (RefsAt place config) answered before h note status none = at_wanting place config answered before note status none
-wanting_answers (Pipe words) answered before h note status none =
+wanting_answers (RefsAt place config) answered before note status none = at_wanting place config answered before note status none
+wanting_answers (Pipe words) answered before note status none =
     pipe_answers words answered before before
     (refl, inr (why.NoMemory, broker_wanting words.config before.files, record { told = note; kept = none; input = refl; output = refl }))
     (status ∙ ap status_of (sym note))
-wanting_answers (Idl name) answered before h note status none = idl_wanting name answered before note status none
-wanting_answers (Serve words) answered before h note status none = record {
+wanting_answers (Idl name) answered before note status none = idl_wanting name answered before note status none
+wanting_answers (Serve words) answered before note status none = record {
   status = status ∙ ap status_of (sym note);
   means = refl;
   piped = none;
   faults = (refl, subst (λ n. ServeFaults n before before) (sym note) (refl, refl));
   few = gave_none 0 before.input;
 }
-wanting_answers Dump answered before h note status none = dump_wanting answered before note status none
-wanting_answers Refs answered before h note status none = refs_wanting answered before note status none
-wanting_answers Unread answered before h note status none = unread_wanting answered before note status none
-wanting_answers Unbuilt answered before h note status none = absurd h
+wanting_answers Dump answered before note status none = dump_wanting answered before note status none
+wanting_answers Refs answered before note status none = refs_wanting answered before note status none
+wanting_answers Unread answered before note status none = unread_wanting answered before note status none
+wanting_answers (Load words) answered before note status none = load_wanting words answered before note status none
+wanting_answers (Call words) answered before note status none = record {
+  status = status ∙ ap status_of (sym note);
+  means = refl;
+  piped = none;
+  faults = (refl, subst (λ n. CallFaults n before before) (sym note) (refl, refl));
+  few = gave_none 0 before.input;
+}

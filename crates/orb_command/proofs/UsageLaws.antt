@@ -7,11 +7,11 @@ use Rattle.giop_dump.specs.declared.dump_end.DumpEnd.TheVariants as dump
 use Rattle.reference_lines.specs.declared.refs_end.RefsEnd.{RefsEnd}
 use Rattle.reference_lines.specs.declared.refs_end.RefsEnd.TheVariants as refs
 use Rattle.command_words.specs.declared.meaning.Meaning.{Meaning}
-use Rattle.command_words.specs.declared.meaning.Meaning.TheVariants.{Pipe, Serve, Dump, Refs as RefsMeaning, RefsAt, Idl, Unbuilt, Unread}
+use Rattle.command_words.specs.declared.meaning.Meaning.TheVariants.{Pipe, Serve, Dump, Refs as RefsMeaning, RefsAt, Idl, Call, Load, Unread}
 use Rattle.orb_command.specs.declared.answered.Reported.{Reported}
 use Rattle.orb_command.specs.declared.note.Note.{Note}
 use Rattle.orb_command.specs.declared.note.Note.TheVariants.{Nothing, Usage, Config, Idl as IdlNote, Script, Check, TooLong, ReadFault}
-use Rattle.orb_command.specs.declared.note.Note.TheVariants.{WriteFault, NetFault, Input, Absent, Reference, Memory, Limit, NotBuilt}
+use Rattle.orb_command.specs.declared.note.Note.TheVariants.{WriteFault, NetFault, Input, Absent, Reference, Local, System, User, Forward, Peer, PeerBody, Closed, Memory, Limit}
 use Rattle.orb_command.specs.Command.{status_of, Reports}
 use Rattle.orb_command.specs.DumpAnswer.{dump_note}
 use Rattle.orb_command.specs.Faults.{FaultsAt, PipeFaults}
@@ -39,7 +39,13 @@ usage_note (Reference f) e = absurd (is_no_one 8 refl e)
 usage_note (Absent role) e = absurd (is_no_one 10 refl e)
 usage_note Memory e = absurd (is_no_one 12 refl e)
 usage_note Limit e = absurd (is_no_one 13 refl e)
-usage_note NotBuilt e = absurd (is_no_one 14 refl e)
+usage_note (Local f) e = absurd (is_no_one 11 refl e)
+usage_note (System x) e = absurd (is_no_one 6 refl e)
+usage_note (User id) e = absurd (is_no_one 6 refl e)
+usage_note (Forward n) e = absurd (is_no_one 6 refl e)
+usage_note (Peer n f) e = absurd (is_no_one 7 refl e)
+usage_note PeerBody e = absurd (is_no_one 7 refl e)
+usage_note Closed e = absurd (is_no_one 9 refl e)
 
 -- a dump and a reference have other notes
 dump_other : (ran : Result DumpEnd NoMemory) → status_of (dump_note ran) ≡ 1 → ⊥
@@ -76,5 +82,7 @@ usage_only (Idl name) reported before after h e =
     absurd ((subst (λ n. FaultsAt (Idl name) n before after) (usage_note reported.note (sym h.status ∙ e)) h.faults).1)
 usage_only Dump reported before after h e = absurd (dump_other h.means.answer (ap status_of (sym h.means.told) ∙ sym h.status ∙ e))
 usage_only RefsMeaning reported before after h e = absurd (refs_other h.means.answer (ap status_of (sym h.means.told) ∙ sym h.status ∙ e))
-usage_only Unbuilt reported before after h e =
-    let no : Usage ≡ NotBuilt = sym (usage_note reported.note (sym h.status ∙ e)) ∙ h.means.0 in absurd (cc)
+usage_only (Call words) reported before after h e =
+    absurd ((subst (λ n. FaultsAt (Call words) n before after) (usage_note reported.note (sym h.status ∙ e)) h.faults).1)
+usage_only (Load words) reported before after h e =
+    absurd ((subst (λ n. FaultsAt (Load words) n before after) (usage_note reported.note (sym h.status ∙ e)) h.faults).1)

@@ -6,13 +6,15 @@ use Rattle.orb_nets.specs.Nets.{NetState}
 use Rattle.command_options.specs.Items.{Text}
 use Rattle.command_words.specs.Words.{asks_memory, command_of}
 use Rattle.command_words.specs.declared.meaning.Meaning.{Meaning}
-use Rattle.command_words.specs.declared.meaning.Meaning.TheVariants.{Pipe, Serve, Dump, Refs, RefsAt, Idl, Unbuilt, Unread}
+use Rattle.command_words.specs.declared.meaning.Meaning.TheVariants.{Pipe, Serve, Dump, Refs, RefsAt, Idl, Call, Load, Unread}
 use Rattle.orb_command.specs.declared.answered.Answered.{Answered}
 use Rattle.orb_command.specs.declared.answered.Reported.{Reported}
 use Rattle.orb_command.specs.declared.note.Note.{Note}
+use Rattle.orb_command.specs.declared.call.CallTold.{CallTold}
 use Rattle.orb_command.specs.declared.serve.ServeTold.{ServeTold}
 use Rattle.orb_command.specs.declared.note.Note.TheVariants.{Nothing, Usage, Config, Idl as IdlNote, Script, Check, TooLong, ReadFault}
-use Rattle.orb_command.specs.declared.note.Note.TheVariants.{WriteFault, NetFault, Input, Absent, Reference, Memory, Limit, NotBuilt}
+use Rattle.orb_command.specs.declared.note.Note.TheVariants.{WriteFault, NetFault, Input, Absent, Reference, Local, System, User, Forward}
+use Rattle.orb_command.specs.declared.note.Note.TheVariants.{Peer, PeerBody, Closed, Memory, Limit}
 use Rattle.conn_engine.specs.declared.read_end.TheConstants.{MAX_TAKEN}
 use Rattle.pipe_runs.specs.declared.piped.Piped.{Piped}
 use Rattle.giop_dump.specs.declared.dump_end.TheConstants.{MAX_DUMPED}
@@ -26,6 +28,8 @@ use Rattle.orb_command.specs.RefsAnswer.{RefsAnswers}
 use Rattle.orb_command.specs.AtAnswer.{AtAnswers}
 use Rattle.orb_command.specs.IdlAnswer.{IdlAnswers}
 use Rattle.orb_command.specs.ServeAnswer.{ServesBy}
+use Rattle.orb_command.specs.CallAnswer.{CallsSo}
+use Rattle.orb_command.specs.LoadAnswer.{LoadAnswers}
 
 -- the exit status of a note
 abbrev pub status_of : Note → ℕ
@@ -39,26 +43,28 @@ status_of (TooLong _) = 2
 status_of ReadFault = 3
 status_of WriteFault = 4
 status_of NetFault = 5
+status_of (System _) = 6
+status_of (User _) = 6
+status_of (Forward _) = 6
+status_of (Peer _ _) = 7
+status_of PeerBody = 7
 status_of (Input _ _) = 8
 status_of (Reference _) = 8
+status_of Closed = 9
 status_of (Absent _) = 10
+status_of (Local _) = 11
 status_of Memory = 12
 status_of Limit = 13
-status_of NotBuilt = 14
 
 -- how many bytes are taken at most: of an input of `refs` one more than it may have, so that a longer one is seen
 abbrev pub most_taken : Meaning → ℕ
 most_taken (Pipe words) = MAX_TAKEN
-most_taken (Serve words) = 0
 most_taken Dump = MAX_DUMPED
 most_taken Refs = MAX_REFERENCE + 2
-most_taken (RefsAt place config) = 0
-most_taken (Idl name) = 0
-most_taken Unbuilt = 0
-most_taken Unread = 0
+most_taken _ = 0
 
 -- what each note means, and what a run of the pipe says, by what the words mean; words without a reading do nothing, whether they are
--- refused or memory runs out over them, and neither does a command that isn't built; the server takes no input
+-- refused or memory runs out over them; the server and a call take no input, and what their notes mean is by what they do to the net
 abbrev pub NoteMeans : Meaning → Note → Option Piped → Moment → Moment → Type 0
 NoteMeans (Pipe words) note piped before after = PipeAnswers words note piped before after
 NoteMeans (Serve words) note piped before after = after.input ≡ before.input
@@ -66,19 +72,14 @@ NoteMeans Dump note piped before after = DumpAnswers note before after
 NoteMeans Refs note piped before after = RefsAnswers note before after
 NoteMeans (RefsAt place config) note piped before after = AtAnswers place config note before after
 NoteMeans (Idl name) note piped before after = IdlAnswers name note before after
-NoteMeans Unbuilt note piped before after = (note ≡ NotBuilt) × (after ≡ before)
+NoteMeans (Call words) note piped before after = after.input ≡ before.input
+NoteMeans (Load words) note piped before after = LoadAnswers words note before after
 NoteMeans Unread note piped before after = ((note ≡ Usage) ⊎ (note ≡ Memory)) × (after ≡ before)
 
 -- no other command than the pipe has a run of it
 abbrev pub PipedBy : Meaning → Option Piped → Type 0
 PipedBy (Pipe words) piped = Unit {0}
-PipedBy (Serve words) piped = piped ≡ None
-PipedBy Dump piped = piped ≡ None
-PipedBy Refs piped = piped ≡ None
-PipedBy (RefsAt place config) piped = piped ≡ None
-PipedBy (Idl name) piped = piped ≡ None
-PipedBy Unbuilt piped = piped ≡ None
-PipedBy Unread piped = piped ≡ None
+PipedBy _ piped = piped ≡ None
 
 -- what a command comes to between two moments: the status is that of the note, which means what was read and written, and an input is taken
 -- no further than its command takes it
@@ -98,29 +99,32 @@ module _ {A I O : Type 0} where
   abbrev pub serve_told : Answered A I O → ServeTold A I O
   serve_told answered = record { note = answered.note; runs = answered.runs; acceptors = answered.acceptors }
 
-  -- nothing was served
-  pub record ServesNothing (answered : Answered A I O) (net net' : NetState I O) : Type 0 where
+  -- a call's part
+  abbrev pub call_told : Answered A I O → CallTold I O
+  call_told answered = record { note = answered.note; link = answered.link }
+
+  -- the net was not asked
+  pub record LeavesNet (answered : Answered A I O) (net net' : NetState I O) : Type 0 where
     pub runs : answered.runs.items ≡ []
     pub acceptors : answered.acceptors.items ≡ []
+    pub link : answered.link ≡ None
     pub unasked : net' ≡ net
 
   module _ (state : A → AcceptorState I O) (source : I → SourceState) (sink : O → SinkState) where
-    -- what was served, by what the words mean: nothing but by the server
-    abbrev pub ServedBy : Meaning → Answered A I O → Moment → Moment → NetState I O → NetState I O → Type 0
-    ServedBy (Serve words) answered before after net net' =
-        ServesBy state source sink words (serve_told answered) before.files after.files net net' before.out after.out
-    ServedBy (Pipe words) answered before after net net' = ServesNothing answered net net'
-    ServedBy Dump answered before after net net' = ServesNothing answered net net'
-    ServedBy Refs answered before after net net' = ServesNothing answered net net'
-    ServedBy (RefsAt place config) answered before after net net' = ServesNothing answered net net'
-    ServedBy (Idl name) answered before after net net' = ServesNothing answered net net'
-    ServedBy Unbuilt answered before after net net' = ServesNothing answered net net'
-    ServedBy Unread answered before after net net' = ServesNothing answered net net'
+    -- what was done over the net, by what the words mean: nothing but by the server and by a call
+    abbrev pub UsesNet : Meaning → Answered A I O → Moment → Moment → NetState I O → NetState I O → Type 0
+    UsesNet (Serve words) answered before after net net' =
+        (answered.link ≡ None)
+        × ServesBy state source sink words (serve_told answered) before.files after.files net net' before.out after.out
+    UsesNet (Call words) answered before after net net' =
+        (answered.runs.items ≡ []) × (answered.acceptors.items ≡ [])
+        × CallsSo source sink words (call_told answered) before.files after.files net net' before.out after.out
+    UsesNet _ answered before after net net' = LeavesNet answered net net'
 
-    -- what the program answers, between two moments, and what it served
+    -- what the program answers, between two moments, and what it did over the net
     pub record Answers (command : Meaning) (answered : Answered A I O) (before after : Moment) (net net' : NetState I O) : Type 0 where
       pub reports : Reports command (report_of answered) before after
-      pub served : ServedBy command answered before after net net'
+      pub uses : UsesNet command answered before after net net'
 
 -- words without a reading end with the status 1 of usage, or with the 12 of out of memory where memory is asked for to read them
 abbrev pub UsageStatus : List Text → ℕ → Type 0

@@ -6,5 +6,7 @@ pub mod PipeAnswer
 pub mod DumpAnswer
 pub mod RefsAnswer
 pub mod ServeAnswer
+pub mod CallAnswer
+pub mod LoadAnswer
 pub mod Faults
 pub mod Command

@@ -1,5 +1,5 @@
 //! What the top call answers.
-ghost use Rattle.std.specs.Prelude.{◌≡◌, []};
+ghost use Rattle.std.specs.Prelude.{◌≡◌, [], None};
 ghost use Rattle.orb_command.specs.Command.{report_of};
 
 use crate::note::Note;
@@ -8,7 +8,7 @@ use orb_server::Run;
 use pipe_runs::Piped;
 use std::alloc::Global;
 
-/// What a command other than `serve` ends with: its status, the note that it prints, and what a run of `pipe` came to.
+/// What a command other than `serve` and `call` ends with: its status, the note that it prints, and what a run of `pipe` came to.
 #[derive(Drop)]
 pub struct Reported {
     pub status: u8,
@@ -16,12 +16,13 @@ pub struct Reported {
     pub piped: Option<Piped>,
 }
 
-/// What the program ends with: its status, the note that it prints, what a run of `pipe` came to, and what the runs of `serve` left over
-/// these acceptors, and connections of these sources and sinks.
+/// What the program ends with: its status, the note that it prints, what a run of `pipe` came to, what the runs of `serve` left over these
+/// acceptors and connections of these sources and sinks, and what `call` left of its connection.
 #[derive(Drop)]
 pub struct Answered<A, I, O> {
-    /// The exit status: 0 done, 1 usage, 2 a file that is too long or refused, 3 a read fault, 4 a write fault, 5 a fault of the net, 8 an
-    /// input that is refused, 10 a file that isn't there, 12 out of memory, 13 a limit, 14 not built.
+    /// The exit status: 0 done, 1 usage, 2 a file that is too long or refused, 3 a read fault, 4 a write fault, 5 a fault of the net, 6 an
+    /// exception of the remote object, or it is elsewhere, 7 the peer broke a rule, 8 an input that is refused, 9 the peer ended the
+    /// connection, 10 a file that isn't there, 11 the words ask for no call, 12 out of memory, 13 a limit.
     pub status: u8,
     pub note: Note,
     /// The run of `pipe`, with its history: exactly where the pipe had servants, and memory was not wanting.
@@ -31,14 +32,17 @@ pub struct Answered<A, I, O> {
     pub runs: List<Run<I, O>>,
     /// The acceptors that the net gave to `serve`, as they are at the end.
     pub acceptors: List<A>,
+    /// The source and the sink of the connection that the net gave to `call`, as they are at the end.
+    pub link: Option<(I, O)>,
 }
 
 impl<A, I, O> Answered<A, I, O> {
-    /// What a command other than `serve` ends with.
+    /// What a command other than `serve` and `call` ends with.
     pub fn plain(alloc: Global, reported: Reported) -> Answered<A, I, O>
         ensures reported { report_of result ≡ reported }
         ensures runs { result.runs.items ≡ [] }
         ensures acceptors { result.acceptors.items ≡ [] }
+        ensures link { result.link ≡ None }
     {
         Answered {
             status: reported.status,
@@ -46,6 +50,7 @@ impl<A, I, O> Answered<A, I, O> {
             piped: reported.piped,
             runs: List::new(alloc),
             acceptors: List::new(alloc),
+            link: None,
         }
     }
 }

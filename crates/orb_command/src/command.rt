@@ -1,5 +1,5 @@
 //! The top call.
-ghost use Rattle.std.specs.Prelude.{◌≡◌, map, string_bytes, None};
+ghost use Rattle.std.specs.Prelude.{◌≡◌, [], map, string_bytes, None};
 ghost use Rattle.command_words.specs.Words.{command_of};
 ghost use Rattle.command_words.specs.declared.meaning.Meaning.TheVariants.{Unread};
 ghost use Rattle.orb_command.specs.Moment.{moment};
@@ -7,8 +7,10 @@ ghost use Rattle.orb_command.specs.Command.{Answers};
 ghost use Rattle.orb_command.specs.Command as Spec;
 
 use crate::answered::{Answered, Reported};
+use crate::call::{CallTold, run_call};
 use crate::dump::dump_note;
 use crate::idl::idl_note;
+use crate::load::run_load;
 use crate::note::Note;
 use crate::pipe::{Told, run_pipe};
 use crate::refs::{note_at, refs_note};
@@ -17,7 +19,7 @@ use command_words::{Meaning, read_words};
 use giop_dump::dump_run;
 use idl_lines::idl_run;
 use object_lines::at_run;
-use orb_base::{Files, NoMemory, Sink, Source};
+use orb_base::{Files, List, NoMemory, Sink, Source};
 use orb_nets::Net;
 use reference_lines::refs_run;
 use std::alloc::Global;
@@ -35,11 +37,14 @@ fn status_of(note: &Note) -> u8
         Note::ReadFault => 3,
         Note::WriteFault => 4,
         Note::NetFault => 5,
+        Note::System(_) | Note::User(_) | Note::Forward(_) => 6,
+        Note::Peer(_, _) | Note::PeerBody => 7,
         Note::Input(_, _) | Note::Reference(_) => 8,
+        Note::Closed => 9,
         Note::Absent(_) => 10,
+        Note::Local(_) => 11,
         Note::Memory => 12,
         Note::Limit => 13,
-        Note::NotBuilt => 14,
     }
 }
 
@@ -76,6 +81,7 @@ fn answered_serve<A, I, O>(told: ServeTold<A, I, O>) -> Answered<A, I, O>
     ensures told { Spec.serve_told result ≡ told }
     ensures status { result.status ≡ Spec.status_of told.note }
     ensures piped { result.piped ≡ None }
+    ensures link { result.link ≡ None }
 {
     let status = status_of(&told.note);
     Answered {
@@ -84,6 +90,26 @@ fn answered_serve<A, I, O>(told: ServeTold<A, I, O>) -> Answered<A, I, O>
         piped: None,
         runs: told.runs,
         acceptors: told.acceptors,
+        link: None,
+    }
+}
+
+/// What a call came to, with its status.
+fn answered_call<A, I, O>(alloc: Global, told: CallTold<I, O>) -> Answered<A, I, O>
+    ensures told { Spec.call_told result ≡ told }
+    ensures status { result.status ≡ Spec.status_of told.note }
+    ensures piped { result.piped ≡ None }
+    ensures runs { result.runs.items ≡ [] }
+    ensures acceptors { result.acceptors.items ≡ [] }
+{
+    let status = status_of(&told.note);
+    Answered {
+        status,
+        note: told.note,
+        piped: None,
+        runs: List::new(alloc),
+        acceptors: List::new(alloc),
+        link: told.link,
     }
 }
 
@@ -118,7 +144,10 @@ fn carry_out<N: Net, F: Files, I: Source, O: Sink, R: Wait + Threads + Sync>(
             alloc,
             reported(idl_note(idl_run(alloc, files, &name, out))),
         ),
-        Meaning::Unbuilt => Answered::plain(alloc, reported(Note::NotBuilt)),
+        Meaning::Call(words) => answered_call(alloc, run_call(alloc, net, files, &words, out)),
+        Meaning::Load(words) => {
+            Answered::plain(alloc, reported(run_load(alloc, files, &words, out)))
+        }
         Meaning::Unread => Answered::plain(alloc, reported(Note::Usage)),
     }
 }
@@ -131,9 +160,13 @@ fn carry_out<N: Net, F: Files, I: Source, O: Sink, R: Wait + Threads + Sync>(
 /// at that address, in one run, or with `--runs N` in up to N, one after another; after each it writes one line of summary, and before
 /// that with `--trace` the run's trace. `dump` writes a line for each message of the input, and `refs` writes the parts of
 /// the reference that it is. `refs --at HOST:PORT` writes the reference of each object of the built-in setup at that address, and with
-/// `--config FILE` of each object of the configuration of this name. `idl --file FILE` lists what the IDL of the file declares. The
-/// other commands aren't built yet. It returns where each read and write returns, and `serve` where its runs end. The answers to
-/// `pipe` and `serve` have their runs, with the history.
+/// `--config FILE` of each object of the configuration of this name. `idl --file FILE` lists what the IDL of the file declares.
+/// `call --ref TEXT --op NAME` calls the operation of the object that the reference is of, with the arguments of `--args JSON`, and
+/// writes its results as one line of JSON; `--priority N` is the caller's priority, `--idl FILE` a file of the interface, and
+/// `--interface ID` the interface where the reference doesn't say it. `load SEED COUNT` makes COUNT requests to the first object, runs
+/// them as `pipe` does, whole or with `--fragment N` in pieces, and writes one line of counts. It returns where each read and write
+/// returns, and `serve` where its runs end. The answers to `pipe` and `serve` have their runs, with the history, and that to `call` its
+/// connection.
 pub fn orb_main<N: Net, F: Files, I: Source, O: Sink, R: Wait + Threads + Sync>(
     rt: &R,
     alloc: Global,
@@ -143,11 +176,12 @@ pub fn orb_main<N: Net, F: Files, I: Source, O: Sink, R: Wait + Threads + Sync>(
     input: &mut I,
     out: &mut O,
 ) -> Answered<N::Acc, N::In, N::Out>
-    // The status is that of the note, and each note has its cause, by what the words mean: 14 exactly where they are of a command that
-    // isn't built; 3 only where the count of faults of the input or of the files rose, 4 only where that of the output did, and 5 only
-    // where that of the net did; 8 and 13 of `dump`, and 8 of `refs`, exactly where the bytes that it took say so, and of `pipe` what
-    // its history and its bytes say; 2 and 10 exactly where the files say so. Each run of `serve` is one legal history, whose lines are
-    // written.
+    // The status is that of the note, and each note has its cause, by what the words mean: 3 only where the count of faults of the
+    // input, of the files or of a call's source rose, 4 only where that of the output or of a call's sink did, and 5 only where that of
+    // the net did; 6, 7, 9 and 13 of `call` exactly where the bytes that it took, and their end, say so, and 11 exactly where the words
+    // do, before the net was asked; 8 and 13 of `dump`, and 8 of `refs`, exactly where the bytes that it took say so, and of `pipe` what
+    // its history and its bytes say; 13 of `load` exactly where its run met a limit; 2 and 10 exactly where the files say so. Each run
+    // of `serve` is one legal history, whose lines are written.
     ensures answers { Answers N.Acc.state N.In.state N.Out.state (command_of (map string_bytes words.now)) result
         (moment (F.state files.old) (I.state input.old) (O.state out.old))
         (moment (F.state files.new) (I.state input.new) (O.state out.new)) (N.state net.old) (N.state net.new) }

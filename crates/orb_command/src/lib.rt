@@ -2,9 +2,11 @@
 #![tactic(auto)]
 
 mod answered;
+mod call;
 mod command;
 mod dump;
 mod idl;
+mod load;
 mod note;
 mod pipe;
 mod refs;

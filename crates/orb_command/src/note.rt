@@ -1,9 +1,12 @@
 //! What a run came to.
 
 use adapter_policies::ConfigFault;
+use client_calls::SystemException;
+use client_runs::LocalFault;
 use giop_messages::Fault;
 use idl_grammar::IdlFault;
 use object_refs::RefFault;
+use orb_base::Text;
 use script_checks::CheckFault;
 use script_grammar::ScriptFault;
 
@@ -47,10 +50,22 @@ pub enum Note {
     Absent(Role),
     /// The text of a reference is refused.
     Reference(RefFault),
-    /// Memory was wanting.
+    /// The words ask for no call, for this reason. The net was not asked.
+    Local(LocalFault),
+    /// The remote object answered this system exception.
+    System(SystemException),
+    /// The remote object answered an exception of an IDL file, which has this id.
+    User(Text),
+    /// The remote object is elsewhere, by a reply of this status: 3 to 5.
+    Forward(u32),
+    /// The peer broke a rule before its reply: the offset in its bytes, and the cause.
+    Peer(u64, Fault),
+    /// The body of the reply has no reading.
+    PeerBody,
+    /// The peer ended the connection before its reply.
+    Closed,
+    /// Out of memory.
     Memory,
     /// A limit of the run was met.
     Limit,
-    /// The words are of a command that isn't built yet.
-    NotBuilt,
 }

@@ -1,6 +1,4 @@
-use Rattle.std.proofs.Common.{◌≡◌, ◌∙◌, refl, sym, ap, inl, inr, map}
-use Rattle.std.specs.Prelude.{string_bytes}
-use Rattle.command_words.proofs.Built.{built_so}
+use Rattle.std.proofs.Common.{◌≡◌, ◌∙◌, refl, sym, ap, inl, inr}
 use Rattle.orb_command.specs.Command.{report_of}
 use Rattle.orb_command.specs.Moment.{moment}
 use Rattle.orb_command.proofs.ServeNotes.{wanting}
@@ -21,8 +19,8 @@ pub returns-in-Err-clause-answers : goal.returns-in-Err-clause-answers
 returns-in-Err-clause-answers g c =
     wanting g.N.Acc.Acceptor.state g.N.In.Source.state g.N.Out.Sink.state _ c.reported.result c.plain.result
     (moment (g.F.Files.state c.args.files.now) (g.I.Source.state c.args.input.now) (g.O.Sink.state c.args.out.now)) (g.N.Net.state c.args.net.now)
-    (built_so (map string_bytes c.args.words.now) c.in-Err.ensures.memory) c.reported.ensures.note c.reported.ensures.status c.reported.ensures.piped
-    c.plain.ensures.reported c.plain.ensures.runs c.plain.ensures.acceptors
+    c.reported.ensures.note c.reported.ensures.status c.reported.ensures.piped
+    c.plain.ensures.reported c.plain.ensures.runs c.plain.ensures.acceptors c.plain.ensures.link
 
 pub returns-in-Err-clause-only : goal.returns-in-Err-clause-only
 returns-in-Err-clause-only g c = λ e.
