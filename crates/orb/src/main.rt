@@ -56,6 +56,7 @@ fn without_words<A, I, O>(alloc: Global, fault: &io::Error) -> Answered<A, I, O>
         piped: None,
         runs: List::new(alloc),
         acceptors: List::new(alloc),
+        link: None,
     }
 }
 

@@ -1,5 +1,6 @@
 //! Printing of notes.
 
+use client_runs::LocalFault;
 use orb_command::{Note, Role};
 use std::fmt;
 use text_streams::shown;
@@ -16,6 +17,17 @@ fn role_name(role: Role) -> &'static str {
         Role::Config => "config",
         Role::Idl => "idl",
         Role::Scripts => "scripts",
+    }
+}
+
+/// The name of why words ask for no call.
+fn local_name(fault: LocalFault) -> &'static str {
+    match fault {
+        LocalFault::BadReference => "BadReference",
+        LocalFault::NoInterface => "NoInterface",
+        LocalFault::NoOperation => "NoOperation",
+        LocalFault::BadArguments => "BadArguments",
+        LocalFault::NoBand => "NoBand",
     }
 }
 
@@ -38,9 +50,26 @@ impl fmt::Display for NoteText<'_> {
             Note::Input(offset, fault) => write!(f, "input: offset {offset}: {fault}"),
             Note::Absent(role) => write!(f, "absent: {}", role_name(*role)),
             Note::Reference(fault) => write!(f, "reference: {fault}"),
+            Note::Local(fault) => write!(f, "local: {}", local_name(*fault)),
+            Note::System(exception) => {
+                let id = shown(exception.id.as_slice());
+                let minor = exception.minor;
+                write!(
+                    f,
+                    "remote: {id} minor {minor} completed {}",
+                    exception.completed
+                )
+            }
+            Note::User(id) => {
+                let id = shown(id.as_slice());
+                write!(f, "remote: {id}")
+            }
+            Note::Forward(status) => write!(f, "remote: status {status}"),
+            Note::Peer(offset, fault) => write!(f, "peer: offset {offset}: {fault}"),
+            Note::PeerBody => f.write_str("peer: body"),
+            Note::Closed => f.write_str("closed"),
             Note::Memory => f.write_str("memory"),
             Note::Limit => f.write_str("limit"),
-            Note::NotBuilt => f.write_str("not built"),
         }
     }
 }

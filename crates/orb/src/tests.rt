@@ -6,6 +6,8 @@ use crate::std_files::StdFiles;
 use crate::std_net::StdNet;
 use crate::turned_away::CLOSE;
 use crate::{orb_main, without_words};
+use client_calls::SystemException;
+use client_runs::LocalFault;
 use config_tables::{ConfigCause, ConfigFault};
 use giop_messages::Fault;
 use idl_grammar::{IdlCause, IdlFault};
@@ -33,7 +35,11 @@ enum Plain {
     NetFault,
     Memory,
     Limit,
-    NotBuilt,
+    Forward(u32),
+    Peer(u64, Fault),
+    PeerBody,
+    Closed,
+    Local(LocalFault),
     TooLong(Role),
     Absent(Role),
     Input(u64, Fault),
@@ -88,7 +94,24 @@ const LINES: &[(Plain, &str)] = &[
     ),
     (Plain::Memory, "memory"),
     (Plain::Limit, "limit"),
-    (Plain::NotBuilt, "not built"),
+    (Plain::Forward(3), "remote: status 3"),
+    (
+        Plain::Peer(12, Fault::WrongWay),
+        "peer: offset 12: WrongWay",
+    ),
+    (Plain::PeerBody, "peer: body"),
+    (Plain::Closed, "closed"),
+    (
+        Plain::Local(LocalFault::BadReference),
+        "local: BadReference",
+    ),
+    (Plain::Local(LocalFault::NoInterface), "local: NoInterface"),
+    (Plain::Local(LocalFault::NoOperation), "local: NoOperation"),
+    (
+        Plain::Local(LocalFault::BadArguments),
+        "local: BadArguments",
+    ),
+    (Plain::Local(LocalFault::NoBand), "local: NoBand"),
 ];
 
 fn note_of(plain: Plain) -> Note {
@@ -100,7 +123,11 @@ fn note_of(plain: Plain) -> Note {
         Plain::NetFault => Note::NetFault,
         Plain::Memory => Note::Memory,
         Plain::Limit => Note::Limit,
-        Plain::NotBuilt => Note::NotBuilt,
+        Plain::Forward(status) => Note::Forward(status),
+        Plain::Peer(offset, fault) => Note::Peer(offset, fault),
+        Plain::PeerBody => Note::PeerBody,
+        Plain::Closed => Note::Closed,
+        Plain::Local(fault) => Note::Local(fault),
         Plain::TooLong(role) => Note::TooLong(role),
         Plain::Absent(role) => Note::Absent(role),
         Plain::Input(offset, fault) => Note::Input(offset, fault),
@@ -128,6 +155,33 @@ fn all_are_printed(alloc: Global) -> bool {
 #[test]
 fn each_note_has_its_line(rt: HostRuntime) {
     assert!(rt; all_are_printed(rt.alloc()));
+}
+
+/// A system exception with its numbers, and an exception of an IDL file by its id alone, in which a blank is shown as `%20`.
+fn exceptions_are_printed(alloc: Global) -> bool {
+    let (Ok(system), Ok(user)) = (
+        Text::new(alloc, b"IDL:omg.org/CORBA/TRANSIENT:1.0"),
+        Text::new(alloc, b"IDL:Plant/Out Of Range:1.0"),
+    ) else {
+        return false;
+    };
+    let system = Note::System(SystemException {
+        id: system,
+        minor: 4_294_967_295,
+        completed: 1,
+    });
+    let user = Note::User(user);
+    is_line(
+        alloc,
+        &system,
+        "remote: IDL:omg.org/CORBA/TRANSIENT:1.0 minor 4294967295 completed 1",
+        "",
+    ) && is_line(alloc, &user, "remote: IDL:Plant/Out%20Of%20Range:1.0", "")
+}
+
+#[test]
+fn an_exception_of_the_peer_has_its_line(rt: HostRuntime) {
+    assert!(rt; exceptions_are_printed(rt.alloc()));
 }
 
 /// The path and the cause of a refused configuration, and its line.
@@ -369,6 +423,82 @@ fn a_request_is_served_over_loopback(rt: HostRuntime) {
     );
     assert!(rt; served && replied);
     assert!(rt; fs::remove_file(&rt, "one.toml").is_ok());
+}
+
+/// The status of `orb` with these words, and whether it writes these bytes.
+fn main_of<
+    R: net::Net<Listener = TcpListener, Stream = TcpStream> + rt::Files + Wait + Threads + Sync,
+>(rt: &R, alloc: Global, words: &[String], line: &[u8]) -> (u8, bool) {
+    let door = RunDoor::new();
+    let mut net = StdNet::new(rt, alloc, &door);
+    let mut files = StdFiles::new(rt, alloc);
+    let mut input = SteadySource::new(List::new(alloc), List::new(alloc));
+    let mut out = MemSink::new(alloc, List::new(alloc), List::new(alloc));
+    let answered = orb_main(rt, alloc, words, &mut net, &mut files, &mut input, &mut out);
+    (answered.status, out.held() == line)
+}
+
+/// Puts the words of a call of `current` of the object `ping` at this port of loopback, of which nothing but its interface is known.
+fn put_call(alloc: Global, words: &mut Vec<String>, port: u16) -> bool {
+    for word in [
+        "call",
+        "--op",
+        "current",
+        "--interface",
+        "IDL:Orb/Ping:1.0",
+        "--ref",
+    ] {
+        if !put_word(alloc, words, word) {
+            return false;
+        }
+    }
+    match format!(in alloc; "corbaloc::1.2@127.0.0.1:{port}/ping") {
+        Ok(word) => words.push(word).is_ok(),
+        Err(_) => false,
+    }
+}
+
+/// Whether such a call ends with this status and writes this line. It is made again while nobody listens there, but where that is wanted.
+fn call<
+    R: net::Net<Listener = TcpListener, Stream = TcpStream>
+        + rt::Files
+        + rt::Clock
+        + Wait
+        + Threads
+        + Sync,
+>(rt: &R, alloc: Global, port: u16, status: u8, line: &[u8]) -> bool {
+    let mut words = Vec::new(alloc);
+    if !put_call(alloc, &mut words, port) {
+        return false;
+    }
+    for _ in 0..1_000 {
+        let (got, is_line) = main_of(rt, alloc, words.as_slice(), line);
+        if got == status || got != 5 {
+            return got == status && is_line;
+        }
+        thread::sleep(rt, Duration::from_millis(10));
+    }
+    false
+}
+
+#[test]
+fn a_call_is_served_over_loopback(rt: HostRuntime) {
+    let alloc = rt.alloc();
+    let port = free_port(&rt).unwrap_or(0);
+    assert!(rt; fs::write(&rt, "called.toml", ONE).is_ok());
+    let (served, called) = thread::join(
+        &rt,
+        || serve(&rt, alloc, "called.toml", port, LINE),
+        || call(&rt, alloc, port, 0, b"[100]\n"),
+    );
+    assert!(rt; served && called);
+    assert!(rt; fs::remove_file(&rt, "called.toml").is_ok());
+}
+
+#[test]
+fn a_call_where_nobody_listens_is_a_fault_of_the_net(rt: HostRuntime) {
+    let port = free_port(&rt).unwrap_or(0);
+    assert!(rt; call(&rt, rt.alloc(), port, 5, b""));
 }
 
 /// One slot of two connections.
