@@ -1,9 +1,11 @@
 //! Words and what they mean.
 
 use crate::text_streams_tests::devices::puts_words;
+use client_runs::{ArgumentText, CallWords};
 use command_words::*;
+use load_runs::FragmentLen;
 use object_lines::Address;
-use orb_base::Text;
+use orb_base::{Priority, Text};
 use pipe_runs::Shown;
 use server_runs::RunPlan;
 use std::alloc::Global;
@@ -21,9 +23,69 @@ enum Said {
     RefsAt(&'static str, u16, Option<&'static str>),
     /// The file.
     Idl(&'static str),
-    Unbuilt,
+    Call(CallSaid),
+    Load(LoadSaid),
     Unread,
 }
+
+/// The options of `call`.
+#[derive(Clone, Copy)]
+struct CallSaid {
+    remote: &'static str,
+    name: &'static str,
+    arguments: Option<&'static str>,
+    priority: Option<i16>,
+    idl: Option<&'static str>,
+    interface: Option<&'static str>,
+}
+
+/// The items of `load`.
+#[derive(Clone, Copy)]
+struct LoadSaid {
+    seed: u32,
+    count: u32,
+    config: Option<&'static str>,
+    batch: u8,
+    fragment: Option<usize>,
+}
+
+/// The call of an operation without further options.
+const CALL: CallSaid = CallSaid {
+    remote: "r",
+    name: "o",
+    arguments: None,
+    priority: None,
+    idl: None,
+    interface: None,
+};
+
+/// The call with all its options.
+const WHOLE_CALL: CallSaid = CallSaid {
+    remote: "r",
+    name: "o",
+    arguments: Some("[1, 2]"),
+    priority: Some(7),
+    idl: Some("f"),
+    interface: Some("i"),
+};
+
+/// A load of one request, without options.
+const LOAD: LoadSaid = LoadSaid {
+    seed: 0,
+    count: 1,
+    config: None,
+    batch: 1,
+    fragment: None,
+};
+
+/// A load with all its options.
+const WHOLE_LOAD: LoadSaid = LoadSaid {
+    seed: 5,
+    count: 9,
+    config: Some("c"),
+    batch: 3,
+    fragment: Some(32),
+};
 
 fn is_text(text: &Text, want: &str) -> bool {
     text.as_slice() == want.as_bytes()
@@ -49,6 +111,48 @@ fn is_plan(plan: &RunPlan, runs: u8, trace: bool) -> bool {
     plan.runs.count() == runs && plan.trace == trace
 }
 
+fn is_argument(text: Option<&ArgumentText>, want: Option<&str>) -> bool {
+    match (text, want) {
+        (Some(text), Some(want)) => text.as_str() == want,
+        (None, None) => true,
+        _ => false,
+    }
+}
+
+fn is_level(priority: Option<Priority>, want: Option<i16>) -> bool {
+    match (priority, want) {
+        (Some(priority), Some(want)) => priority.get() == want,
+        (None, None) => true,
+        _ => false,
+    }
+}
+
+fn is_call(words: &CallWords, want: CallSaid) -> bool {
+    is_text(&words.reference, want.remote)
+        && is_text(&words.operation, want.name)
+        && is_argument(words.arguments.as_ref(), want.arguments)
+        && is_level(words.priority, want.priority)
+        && is_name(words.idl.as_ref(), want.idl)
+        && is_name(words.interface.as_ref(), want.interface)
+}
+
+fn is_len(fragment: Option<FragmentLen>, want: Option<usize>) -> bool {
+    match (fragment, want) {
+        (Some(fragment), Some(want)) => fragment.bytes() == want,
+        (None, None) => true,
+        _ => false,
+    }
+}
+
+fn is_load(words: &LoadWords, want: LoadSaid) -> bool {
+    let plan = words.plan;
+    plan.seed == want.seed
+        && plan.count.requests() == want.count
+        && plan.batch.calls() == want.batch
+        && is_len(plan.fragment, want.fragment)
+        && is_name(words.config.as_ref(), want.config)
+}
+
 fn is_said(meaning: &Meaning, want: Said) -> bool {
     match (meaning, want) {
         (Meaning::Pipe(words), Said::Pipe(config, batch, shown)) => {
@@ -63,9 +167,10 @@ fn is_said(meaning: &Meaning, want: Said) -> bool {
             is_place(at, host, port) && is_name(name.as_ref(), config)
         }
         (Meaning::Idl(name), Said::Idl(want)) => is_text(name, want),
+        (Meaning::Call(words), Said::Call(want)) => is_call(words, want),
+        (Meaning::Load(words), Said::Load(want)) => is_load(words, want),
         (Meaning::Dump, Said::Dump)
         | (Meaning::Refs, Said::Refs)
-        | (Meaning::Unbuilt, Said::Unbuilt)
         | (Meaning::Unread, Said::Unread) => true,
         _ => false,
     }
@@ -571,6 +676,238 @@ fn the_words_of_idl(rt: HostRuntime) {
     assert!(rt; all_mean(rt.alloc(), IDLS));
 }
 
+const CALLS: &[Row] = &[
+    (&["call"], Said::Unread),
+    (&["call", "--ref", "r", "--op", "o"], Said::Call(CALL)),
+    (&["call", "--op=o", "--ref=r"], Said::Call(CALL)),
+    // Each that is due left out.
+    (&["call", "--ref", "r"], Said::Unread),
+    (&["call", "--op", "o"], Said::Unread),
+    // All, in both forms and in another order.
+    (
+        &[
+            "call",
+            "--ref",
+            "r",
+            "--op",
+            "o",
+            "--args",
+            "[1, 2]",
+            "--priority",
+            "7",
+            "--idl",
+            "f",
+            "--interface",
+            "i",
+        ],
+        Said::Call(WHOLE_CALL),
+    ),
+    (
+        &[
+            "call",
+            "--interface=i",
+            "--idl=f",
+            "--priority=7",
+            "--args=[1, 2]",
+            "--op=o",
+            "--ref=r",
+        ],
+        Said::Call(WHOLE_CALL),
+    ),
+    // Each twice.
+    (&["call", "--ref=r", "--op=o", "--ref=r"], Said::Unread),
+    (&["call", "--ref=r", "--op=o", "--op", "o"], Said::Unread),
+    (
+        &["call", "--ref=r", "--op=o", "--args=[]", "--args=[]"],
+        Said::Unread,
+    ),
+    (
+        &["call", "--ref=r", "--op=o", "--priority=1", "--priority=1"],
+        Said::Unread,
+    ),
+    (
+        &["call", "--ref=r", "--op=o", "--idl=f", "--idl=f"],
+        Said::Unread,
+    ),
+    (
+        &[
+            "call",
+            "--ref=r",
+            "--op=o",
+            "--interface=i",
+            "--interface=i",
+        ],
+        Said::Unread,
+    ),
+    // Priorities: both ends and one past, digits, a sign, zeros before.
+    (
+        &["call", "--ref=r", "--op=o", "--priority=0"],
+        Said::Call(CallSaid {
+            priority: Some(0),
+            ..CALL
+        }),
+    ),
+    (
+        &["call", "--ref=r", "--op=o", "--priority=32767"],
+        Said::Call(CallSaid {
+            priority: Some(32767),
+            ..CALL
+        }),
+    ),
+    (
+        &["call", "--ref=r", "--op=o", "--priority=0000000007"],
+        Said::Call(CallSaid {
+            priority: Some(7),
+            ..CALL
+        }),
+    ),
+    (
+        &["call", "--ref=r", "--op=o", "--priority=32768"],
+        Said::Unread,
+    ),
+    (
+        &["call", "--ref=r", "--op=o", "--priority=00000000007"],
+        Said::Unread,
+    ),
+    (
+        &["call", "--ref=r", "--op=o", "--priority=+7"],
+        Said::Unread,
+    ),
+    (
+        &["call", "--ref=r", "--op=o", "--priority=-7"],
+        Said::Unread,
+    ),
+    (
+        &["call", "--ref=r", "--op=o", "--priority", "-7"],
+        Said::Unread,
+    ),
+    (&["call", "--ref=r", "--op=o", "--priority="], Said::Unread),
+    (
+        &["call", "--ref=r", "--op=o", "--priority=4294967296"],
+        Said::Unread,
+    ),
+    // An empty value, and one with a dash.
+    (
+        &["call", "--ref=", "--op=o"],
+        Said::Call(CallSaid { remote: "", ..CALL }),
+    ),
+    (
+        &["call", "--ref=r", "--op=-o"],
+        Said::Call(CallSaid { name: "-o", ..CALL }),
+    ),
+    (&["call", "--ref=r", "--op", "-o"], Said::Unread),
+    // Words that are no options of it.
+    (&["call", "r", "--ref=r", "--op=o"], Said::Unread),
+    (&["call", "--ref=r", "--op=o", "--config=c"], Said::Unread),
+    (&["call", "--ref=r", "--op=o", "--callers=2"], Said::Unread),
+    (&["call", "--help"], Said::Unread),
+    (&["call", "--ref=r", "--op=o", "-h"], Said::Unread),
+    (&["call", "--ref=r", "--op=o", "--"], Said::Unread),
+    (&["call", "--ref=r", "--op=o", "--args=[]\0"], Said::Unread),
+];
+
+#[test]
+fn the_words_of_call(rt: HostRuntime) {
+    assert!(rt; all_mean(rt.alloc(), CALLS));
+}
+
+const LOADS: &[Row] = &[
+    (&["load"], Said::Unread),
+    (&["load", "0"], Said::Unread),
+    (&["load", "0", "1"], Said::Load(LOAD)),
+    (&["load", "0", "1", "2"], Said::Unread),
+    // All, in both forms; the two numbers may come among the options.
+    (
+        &[
+            "load",
+            "5",
+            "9",
+            "--config",
+            "c",
+            "--batch",
+            "3",
+            "--fragment",
+            "32",
+        ],
+        Said::Load(WHOLE_LOAD),
+    ),
+    (
+        &["load", "--fragment=32", "5", "--batch=3", "9", "--config=c"],
+        Said::Load(WHOLE_LOAD),
+    ),
+    // Each option twice.
+    (
+        &["load", "0", "1", "--config=c", "--config=c"],
+        Said::Unread,
+    ),
+    (&["load", "0", "1", "--batch=2", "--batch=2"], Said::Unread),
+    (
+        &["load", "0", "1", "--fragment=24", "--fragment=24"],
+        Said::Unread,
+    ),
+    // Seeds.
+    (
+        &["load", "4294967295", "1"],
+        Said::Load(LoadSaid {
+            seed: 4_294_967_295,
+            ..LOAD
+        }),
+    ),
+    (&["load", "4294967296", "1"], Said::Unread),
+    (&["load", "0000000000", "1"], Said::Load(LOAD)),
+    (&["load", "00000000000", "1"], Said::Unread),
+    (&["load", "+0", "1"], Said::Unread),
+    (&["load", "-1", "1"], Said::Unread),
+    (&["load", "", "1"], Said::Unread),
+    (&["load", "0x1", "1"], Said::Unread),
+    // Counts.
+    (
+        &["load", "0", "65536"],
+        Said::Load(LoadSaid {
+            count: 65_536,
+            ..LOAD
+        }),
+    ),
+    (&["load", "0", "65537"], Said::Unread),
+    (&["load", "0", "0"], Said::Unread),
+    // Batches.
+    (
+        &["load", "0", "1", "--batch", "64"],
+        Said::Load(LoadSaid { batch: 64, ..LOAD }),
+    ),
+    (&["load", "0", "1", "--batch", "65"], Said::Unread),
+    (&["load", "0", "1", "--batch", "0"], Said::Unread),
+    // Lengths of pieces.
+    (
+        &["load", "0", "1", "--fragment=24"],
+        Said::Load(LoadSaid {
+            fragment: Some(24),
+            ..LOAD
+        }),
+    ),
+    (
+        &["load", "0", "1", "--fragment=262144"],
+        Said::Load(LoadSaid {
+            fragment: Some(262_144),
+            ..LOAD
+        }),
+    ),
+    (&["load", "0", "1", "--fragment=16"], Said::Unread),
+    (&["load", "0", "1", "--fragment=28"], Said::Unread),
+    (&["load", "0", "1", "--fragment=262152"], Said::Unread),
+    // Words that are no items of it.
+    (&["load", "0", "1", "--history"], Said::Unread),
+    (&["load", "0", "1", "--trace"], Said::Unread),
+    (&["load", "--", "0", "1"], Said::Unread),
+    (&["load", "0", "1", "--help"], Said::Unread),
+    (&["load", "0", "1\0"], Said::Unread),
+];
+
+#[test]
+fn the_words_of_load(rt: HostRuntime) {
+    assert!(rt; all_mean(rt.alloc(), LOADS));
+}
+
 const FIRSTS: &[Row] = &[
     (&[], Said::Unread),
     (&[""], Said::Unread),
@@ -587,12 +924,8 @@ const FIRSTS: &[Row] = &[
     (&["--help"], Said::Unread),
     (&["-h"], Said::Unread),
     (&["--version"], Said::Unread),
-    // Two commands that are not built yet.
-    (&["call"], Said::Unbuilt),
-    (&["call", "--ref", "x", "--op", "y"], Said::Unbuilt),
-    (&["load"], Said::Unbuilt),
-    (&["load", "1", "2", "--"], Said::Unbuilt),
-    (&["load", "1\0"], Said::Unread),
+    (&["calls", "--ref=r", "--op=o"], Said::Unread),
+    (&["Load", "0", "1"], Said::Unread),
 ];
 
 #[test]

@@ -1,9 +1,11 @@
 //! Tests of `orb_command`.
 mod at_tests;
+mod call_tests;
 mod config_tests;
 mod hostile_tests;
 mod lane_tests;
 mod lies_tests;
+mod load_tests;
 mod rows;
 mod script_tests;
 mod serve_tests;

@@ -28,6 +28,10 @@ pub enum Left {
     Server(usize),
     /// Runs of the server over one acceptor: for each what its first client was sent, and nothing where it had none.
     Sent(&'static [&'static [u8]]),
+    /// The connection of a call, over which this was sent.
+    Called(&'static [u8]),
+    /// No connection of a call.
+    NoCall,
 }
 
 /// One run: its words, what its devices hold and where they fail, and what comes of it. Reads and writes of a device are numbered from 0.
@@ -46,6 +50,8 @@ pub struct Row<'a> {
     pub clients: usize,
     /// What each of them sends.
     pub sent: &'a [u8],
+    /// What the one peer sends that the net connects to.
+    pub answered: &'a [u8],
     /// The calls of the net that fail.
     pub failed_calls: &'a [u64],
     pub input: &'a [u8],
@@ -73,6 +79,7 @@ pub const EMPTY: Row<'static> = Row {
     failed_files: &[],
     clients: 1,
     sent: &[],
+    answered: &[],
     failed_calls: &[],
     input: &[],
     times: 0,
@@ -105,12 +112,14 @@ fn slot(alloc: Global, clients: usize, sent: &[u8]) -> Result<MemSlot, NoMemory>
     })
 }
 
-/// A net of one slot, at which a row's clients come.
+/// A net of one slot, at which a row's clients come, and of one peer.
 fn net(alloc: Global, row: &Row<'_>) -> Result<MemNet, NoMemory> {
     let mut slots = LinkedList::new(alloc);
     slots.push_back(slot(alloc, row.clients, row.sent)?)?;
+    let mut peers = LinkedList::new(alloc);
+    peers.push_back(client(alloc, row.answered)?)?;
     let failing = list(alloc, row.failed_calls)?;
-    Ok(MemNet::new(alloc, slots, LinkedList::new(alloc), failing))
+    Ok(MemNet::new(alloc, slots, peers, failing))
 }
 
 fn input(alloc: Global, row: &Row<'_>) -> Result<MemSource, NoMemory> {
@@ -136,13 +145,19 @@ fn devices_of(alloc: Global, row: &Row<'_>) -> Result<Devices, NoMemory> {
     })
 }
 
-/// The note as it is written in a program, and of a configuration's fault its cause and its path.
+/// The note as it is written in a program; of a configuration's fault its cause and its path, and of a system exception its parts.
 fn noted(alloc: Global, note: &Note) -> Option<String> {
     match note {
         Note::Config(fault) => {
             let cause = fault.cause;
             let path = str::from_utf8(fault.path.as_slice()).ok()?;
             format!(in alloc; "Config({cause:?} at {path})").ok()
+        }
+        Note::System(exception) => {
+            let id = str::from_utf8(exception.id.as_slice()).ok()?;
+            let minor = exception.minor;
+            let completed = exception.completed;
+            format!(in alloc; "System({id} minor {minor} completed {completed})").ok()
         }
         _ => format!(in alloc; "{note:?}").ok(),
     }
@@ -177,6 +192,14 @@ fn is_sent(told: &Told, want: &[&[u8]]) -> bool {
     told.acceptors.len() == 1 && are_first_sent(told.runs.as_slice(), want)
 }
 
+/// Whether this was sent over the connection of a call.
+fn is_called(told: &Told, want: &[u8]) -> bool {
+    match &told.link {
+        Some((_, sink)) => same(sink.held(), want),
+        None => false,
+    }
+}
+
 fn is_left(told: &Told, want: Left) -> bool {
     match want {
         Left::Any => true,
@@ -188,6 +211,8 @@ fn is_left(told: &Told, want: Left) -> bool {
         Left::NoServer => told.runs.is_empty(),
         Left::Server(runs) => told.runs.len() == runs,
         Left::Sent(want) => is_sent(told, want),
+        Left::Called(want) => is_called(told, want),
+        Left::NoCall => told.link.is_none(),
     }
 }
 

@@ -273,7 +273,7 @@ const FAULTS: &[Row<'static>] = &[
     },
 ];
 
-/// A word that isn't known is misuse, and a command that isn't built does nothing.
+/// A word that isn't known is misuse.
 const MISREAD: &[Row<'static>] = &[
     Row {
         story: "no words",
@@ -324,11 +324,11 @@ const MISREAD: &[Row<'static>] = &[
         ..EMPTY
     },
     Row {
-        story: "a command that isn't built",
+        story: "a call without a reference",
         words: &["call", "--op", "current"],
         input: PING_REQUEST,
-        status: 14,
-        note: "NotBuilt",
+        status: 1,
+        note: "Usage",
         ..EMPTY
     },
 ];
