@@ -14,8 +14,8 @@ use Rattle.client_runs.specs.declared.call_words.CallWords.{CallWords}
 use Rattle.client_runs.specs.declared.called.Called.{Called}
 use Rattle.orb_command.specs.declared.call.CallTold.{CallTold}
 use Rattle.orb_command.specs.declared.note.Note.{Note}
-use Rattle.orb_command.specs.declared.note.Note.TheVariants.{Nothing, Idl, TooLong, ReadFault, WriteFault, NetFault, Absent, Local, System, User, Forward}
-use Rattle.orb_command.specs.declared.note.Note.TheVariants.{Peer, PeerBody, Closed, Memory, Limit}
+use Rattle.orb_command.specs.declared.note.Note.TheVariants.{Nothing, Idl, TooLong, ReadFault, WriteFault, NetFault, Absent, Local}
+use Rattle.orb_command.specs.declared.note.Note.TheVariants.{System, User, Forward, Peer, PeerBody, Closed, Memory, Limit}
 use Rattle.orb_command.specs.declared.note.Role.TheVariants as role
 
 -- the note of a file of IDL that gives no interfaces
