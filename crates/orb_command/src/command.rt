@@ -178,9 +178,9 @@ pub fn orb_main<N: Net, F: Files, I: Source, O: Sink, R: Wait + Threads + Sync>(
 ) -> Answered<N::Acc, N::In, N::Out>
     // The status is that of the note, and each note has its cause, by what the words mean: 3 only where the count of faults of the
     // input, of the files or of a call's source rose, 4 only where that of the output or of a call's sink did, and 5 only where that of
-    // the net did; 6, 7, 9 and 13 of `call` exactly where the bytes that it took, and their end, say so, and 11 exactly where the words
-    // do, before the net was asked; 8 and 13 of `dump`, and 8 of `refs`, exactly where the bytes that it took say so, and of `pipe` what
-    // its history and its bytes say; 13 of `load` exactly where its run met a limit; 2 and 10 exactly where the files say so. Each run
+    // the net did; 6, 7, 9 and 13 of `call` only as the bytes that it took, and their end, say, and 11 only where the words ask for no
+    // call, before the net was asked; 8 and 13 of `dump`, and 8 of `refs`, exactly where the bytes that it took say so, and of `pipe` what
+    // its history and its bytes say; 13 of `load` only where its run met a limit; 2 and 10 exactly where the files say so. Each run
     // of `serve` is one legal history, whose lines are written.
     ensures answers { Answers N.Acc.state N.In.state N.Out.state (command_of (map string_bytes words.now)) result
         (moment (F.state files.old) (I.state input.old) (O.state out.old))

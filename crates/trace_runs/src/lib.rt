@@ -1,4 +1,4 @@
-//! Runs of traces, read one after another from a text: each is the text that is printed of it, or its first line at fault is told.
+//! Runs of traces, read one after another from a text: each is the text that is printed of it, or its first line at fault is known.
 #![tactic(auto)]
 
 mod bounds;

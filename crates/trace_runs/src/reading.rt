@@ -96,7 +96,7 @@ fn read_begun(alloc: Global, run: Run, text: &[u8], rest: &[u8]) -> Result<RunRe
 }
 
 /// Reads the text of one run at the beginning of a text, whatever comes after it. The run that is given back is whole; else the first
-/// line at fault is told, or where lines are lacking. Work grows with the text of the run; memory with its lines.
+/// line at fault is reported, or where lines are lacking. Work grows with the text of the run; memory with its lines.
 #[tactic(auto, using(crate::proofs::RunsRead::opens_begun, crate::proofs::RunsRead::opens_parts, crate::proofs::RunsRead::opens_none))]
 pub fn read_run(alloc: Global, text: &[u8]) -> Result<RunRead, NoMemory>
     ensures { IfOk result (ReadsRun text.now) }
