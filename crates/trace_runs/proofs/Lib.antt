@@ -8,3 +8,4 @@ pub mod FirstFaults
 pub mod Summed
 pub mod RunsRead
 pub mod Lifting
+pub mod Afresh

@@ -50,15 +50,19 @@ comes_next t u q r us e =
       | inr k ↦ absurd (subst (Other 1) k.3 (no_lane u.lines (length u.lines) tail_u) refl)
     ]
 
--- what may come after a run that was given out, of which no summary comes next, may be an input's beginning
-pub without_run : (t : Trace) (w after : List ℕ) → IsTrace t → (t.summed ≡ false → HasNoSummary t.lines (w ++ 10 ∷ after)) → HasNoFeed w
-    → MayBegin (run_text t ++ (w ++ 10 ∷ after)) → MayBegin (w ++ 10 ∷ after)
-without_run t w after is alone n begins = by_runs begins.0 begins.1 begins.2
+-- what comes after a run that was given out, of which no summary comes next, is runs by itself where it is with the run
+pub traces_without_run : (t : Trace) (w after more : List ℕ) (us : List Trace) → IsTrace t → (t.summed ≡ false → HasNoSummary t.lines (w ++ 10 ∷ after)) → HasNoFeed w
+    → AreTraces ((run_text t ++ (w ++ 10 ∷ after)) ++ more) us → (vs : List Trace) × AreTraces ((w ++ 10 ∷ after) ++ more) vs
+traces_without_run t w after more us is alone n are =
+    let text : flat_map piece_text (run_pieces t) ++ (w ++ 10 ∷ (after ++ more)) ≡ flat_map piece_text (pieces us) =
+    ap (λ (z : List ℕ). z ++ (w ++ 10 ∷ (after ++ more))) (sym (run_printed t is)) ∙ ap (λ (z : List ℕ). run_text t ++ z) (sym (append_assoc w (10 ∷ after) more))
+    ∙ sym (append_assoc (run_text t) (w ++ 10 ∷ after) more) ∙ are.text ∙ all_printed us are.each in
+    let k = next_line (run_pieces t) (pieces us) w (after ++ more) (run_fits t is) (all_fit us are.each) n text in
+    by_first us are.each k.piece k.later k.line k.rest k.parts
   where
-    told : (more : List ℕ) (u : Trace) (us : List Trace) (q : Piece) (later : List Piece) → All IsTrace us → piece_line q ≡ w → after ++ more ≡ flat_map piece_text later
-        → ComesNext t q later us → MayBegin (w ++ 10 ∷ after)
-    told more u us q later each line rest (inl same) = (
-      more,
+    told : (us : List Trace) (q : Piece) (later : List Piece) → All IsTrace us → piece_line q ≡ w → after ++ more ≡ flat_map piece_text later
+        → ComesNext t q later us → (vs : List Trace) × AreTraces ((w ++ 10 ∷ after) ++ more) vs
+    told us q later each line rest (inl same) = (
       us,
       record {
         text = append_assoc w (10 ∷ after) more ∙ (λ i. sym line i ++ 10 ∷ rest i) ∙ sym (append_assoc (piece_line q) (10 ∷ []) (flat_map piece_text later))
@@ -66,21 +70,19 @@ without_run t w after is alone n begins = by_runs begins.0 begins.1 begins.2
         each = each;
       },
     )
-    told more u us q later each line rest (inr summary) =
+    told us q later each line rest (inr summary) =
         let said_is : said (summary_of (history_of t.lines)) ≡ w = ap piece_line (sym summary.1) ∙ line in
         absurd ((alone summary.0).none after (sym (append_assoc w (10 ∷ []) after) ∙ ap (λ (z : List ℕ). (z ++ 10 ∷ []) ++ after) (sym said_is)
         ∙ ap (λ (z : List ℕ). z ++ after) (sym (summary_printed (summary_of (history_of t.lines))))))
 
-    by_runs : (more : List ℕ) (us : List Trace) → AreTraces ((run_text t ++ (w ++ 10 ∷ after)) ++ more) us → MayBegin (w ++ 10 ∷ after)
-    by_runs more us are =
-        let text : flat_map piece_text (run_pieces t) ++ (w ++ 10 ∷ (after ++ more)) ≡ flat_map piece_text (pieces us) =
-        ap (λ (z : List ℕ). z ++ (w ++ 10 ∷ (after ++ more))) (sym (run_printed t is)) ∙ ap (λ (z : List ℕ). run_text t ++ z) (sym (append_assoc w (10 ∷ after) more))
-        ∙ sym (append_assoc (run_text t) (w ++ 10 ∷ after) more) ∙ are.text ∙ all_printed us are.each in
-        let k = next_line (run_pieces t) (pieces us) w (after ++ more) (run_fits t is) (all_fit us are.each) n text in
-        by_first more us are.each k.piece k.later k.line k.rest k.parts
-      where
-        by_first : (more : List ℕ) (us : List Trace) → All IsTrace us → (q : Piece) (later : List Piece) → piece_line q ≡ w → after ++ more ≡ flat_map piece_text later
-            → pieces us ≡ run_pieces t ++ q ∷ later → MayBegin (w ++ 10 ∷ after)
-        by_first more [] each q later line rest parts = absurd (no_run t (q ∷ later) parts)
-        by_first more (u ∷ us) each q later line rest parts =
-            told more u us q later (All-tail IsTrace u us each) line rest (comes_next t u q later us (sym parts))
+    by_first : (us : List Trace) → All IsTrace us → (q : Piece) (later : List Piece) → piece_line q ≡ w → after ++ more ≡ flat_map piece_text later
+        → pieces us ≡ run_pieces t ++ q ∷ later → (vs : List Trace) × AreTraces ((w ++ 10 ∷ after) ++ more) vs
+    by_first [] each q later line rest parts = absurd (no_run t (q ∷ later) parts)
+    by_first (u ∷ us) each q later line rest parts =
+        told us q later (All-tail IsTrace u us each) line rest (comes_next t u q later us (sym parts))
+
+-- and may be an input's beginning
+pub without_run : (t : Trace) (w after : List ℕ) → IsTrace t → (t.summed ≡ false → HasNoSummary t.lines (w ++ 10 ∷ after)) → HasNoFeed w
+    → MayBegin (run_text t ++ (w ++ 10 ∷ after)) → MayBegin (w ++ 10 ∷ after)
+without_run t w after is alone n begins =
+    let k = traces_without_run t w after begins.0 begins.1 is alone n begins.2 in (begins.0, k.0, k.1)
