@@ -1,0 +1,5 @@
+pub mod Taking
+pub mod Judging
+pub mod Runs
+pub mod Faults
+pub mod Numbered

@@ -1,0 +1,5 @@
+pub mod Verdicts
+pub mod Counting
+pub mod Lines
+pub mod Inputs
+pub mod Audit
