@@ -32,6 +32,10 @@ refs_items = may_have Valued (codes "at") ∷ may_have Valued (codes "config") �
 abbrev pub dump_items : List Item
 dump_items = []
 
+-- `audit`
+abbrev pub audit_items : List Item
+audit_items = []
+
 -- `idl --file FILE`
 abbrev pub idl_items : List Item
 idl_items = must_have Valued (codes "file") ∷ []

@@ -76,6 +76,9 @@ static REFS: [Item<'static>; 2] = [
 // `dump`
 static DUMP: [Item<'static>; 0] = [];
 
+// `audit`
+static AUDIT: [Item<'static>; 0] = [];
+
 // `idl --file FILE`
 static IDL: [Item<'static>; 1] = [Item {
     name: "file",
@@ -192,6 +195,18 @@ pub fn read_dump<'a, S: AsStr>(
         ≡ option_map given (reading Spec.dump_items (map S.text words.entry.now))) }
 {
     read_options(alloc, DUMP.as_slice(), words)
+}
+
+/// What the words after `audit` give: nothing, and there are none.
+/// None where the words have no reading.
+pub fn read_audit<'a, S: AsStr>(
+    alloc: Global,
+    words: &'a [S],
+) -> Result<Option<Options<'a>>, NoMemory>
+    ensures { IfOk result (λ found. option_map given_by found
+        ≡ option_map given (reading Spec.audit_items (map S.text words.entry.now))) }
+{
+    read_options(alloc, AUDIT.as_slice(), words)
 }
 
 /// What the words after `idl` give, which are `--file FILE` in any order.

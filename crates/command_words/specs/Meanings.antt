@@ -8,7 +8,7 @@ use Rattle.pipe_runs.specs.declared.shown.Shown.TheVariants as shown
 use Rattle.command_options.specs.Items.{Text}
 use Rattle.command_words.specs.Numbers.{number_of, batch_by, runs_by, priority_by, count_of, fragment_by}
 use Rattle.command_words.specs.declared.meaning.Meaning.{Meaning}
-use Rattle.command_words.specs.declared.meaning.Meaning.TheVariants.{Pipe, Serve, Dump, Refs, RefsAt, Idl, Call, Load, Unread}
+use Rattle.command_words.specs.declared.meaning.Meaning.TheVariants.{Pipe, Serve, Dump, Audit, Refs, RefsAt, Idl, Call, Load, Unread}
 
 -- what words give the items of a command: for each name its text, where the item is used
 abbrev pub Gives : Type 0
@@ -73,6 +73,12 @@ refs_by gives = refs_of (gives (codes "at")) (gives (codes "config"))
 -- the dump, which has no options
 abbrev pub dump_by : Gives → Meaning
 dump_by gives = Dump
+
+-- ---- `audit`
+
+-- the audit, which has no options
+abbrev pub audit_by : Gives → Meaning
+audit_by gives = Audit
 
 -- ---- `idl --file FILE`
 

@@ -5,10 +5,10 @@ use Rattle.std.specs.List.{list_any}
 use Rattle.std.specs.Str.{bytes_eq}
 use Rattle.orb_base.specs.NulFree.{nul_at}
 use Rattle.command_options.specs.Items.{Item, Text}
-use Rattle.command_options.specs.Commands.{pipe_items, serve_items, refs_items, dump_items, idl_items, call_items, load_items}
+use Rattle.command_options.specs.Commands.{pipe_items, serve_items, refs_items, dump_items, audit_items, idl_items, call_items, load_items}
 use Rattle.command_options.specs.Uses.{reading}
 use Rattle.command_options.specs.Given.{given}
-use Rattle.command_words.specs.Meanings.{Gives, pipe_by, serve_by, refs_by, dump_by, idl_by, call_by, load_by}
+use Rattle.command_words.specs.Meanings.{Gives, pipe_by, serve_by, refs_by, dump_by, audit_by, idl_by, call_by, load_by}
 use Rattle.command_words.specs.declared.meaning.Meaning.{Meaning}
 use Rattle.command_words.specs.declared.meaning.Meaning.TheVariants.{Unread}
 
@@ -24,6 +24,7 @@ command_named name =
     else if bytes_eq name (codes "serve") then Some (record { items = serve_items; meaning = serve_by })
     else if bytes_eq name (codes "refs") then Some (record { items = refs_items; meaning = refs_by })
     else if bytes_eq name (codes "dump") then Some (record { items = dump_items; meaning = dump_by })
+    else if bytes_eq name (codes "audit") then Some (record { items = audit_items; meaning = audit_by })
     else if bytes_eq name (codes "idl") then Some (record { items = idl_items; meaning = idl_by })
     else if bytes_eq name (codes "call") then Some (record { items = call_items; meaning = call_by })
     else if bytes_eq name (codes "load") then Some (record { items = load_items; meaning = load_by })

@@ -47,6 +47,8 @@ pub enum Meaning {
     Serve(ServeWords),
     /// The command `dump`.
     Dump,
+    /// The command `audit`.
+    Audit,
     /// The command `refs`.
     Refs,
     /// The command `refs` at an address, with the name of a configuration where there is one.

@@ -12,7 +12,8 @@ use crate::meaning::{LoadWords, Meaning, PipeWords, ServeWords};
 use crate::numbers::{batch_by, count_of, fragment_by, number_of, priority_by, runs_by};
 use client_runs::{ArgumentText, CallWords};
 use command_options::{
-    Options, read_call, read_dump, read_idl, read_load, read_pipe, read_refs, read_serve,
+    Options, read_audit, read_call, read_dump, read_idl, read_load, read_pipe, read_refs,
+    read_serve,
 };
 use load_runs::LoadPlan;
 use object_lines::read_address;
@@ -72,6 +73,8 @@ fn read_named(alloc: Global, name: &str, words: &[String]) -> Result<Meaning, No
         refs(alloc, words)
     } else if name == "dump" {
         dump(alloc, words)
+    } else if name == "audit" {
+        audit(alloc, words)
     } else if name == "idl" {
         idl(alloc, words)
     } else if name == "call" {
@@ -196,6 +199,17 @@ fn dump(alloc: Global, words: &[String]) -> Result<Meaning, NoMemory>
 {
     match read_dump(alloc, words)? {
         Some(_) => Ok(Meaning::Dump),
+        None => Ok(Meaning::Unread),
+    }
+}
+
+/// What `audit` means with these words after it.
+fn audit(alloc: Global, words: &[String]) -> Result<Meaning, NoMemory>
+    ensures { IfOk result (λ meaning. meaning
+        ≡ Spec.meant By.audit_by (option_map given (reading Takes.audit_items (map string_bytes words.now)))) }
+{
+    match read_audit(alloc, words)? {
+        Some(_) => Ok(Meaning::Audit),
         None => Ok(Meaning::Unread),
     }
 }
