@@ -4,7 +4,7 @@ ghost use Rattle.trace_audit.specs.Inputs.{TakesInput};
 use orb_base::{Got, List, NoMemory, Octets, Source};
 use std::alloc::Global;
 
-/// Bytes of an input that an audit takes.
+/// Bytes of an input that an audit takes at most.
 pub const MAX_AUDITED: usize = 67_108_864;
 
 /// Bytes of one read at most.

@@ -13,9 +13,10 @@ pub struct Verdict {
     pub first_wrong: Option<u32>,
     /// Whether the run is legal, and each call was its caller's to make.
     pub fit: bool,
-    /// How many requests were given to a thread of a lower lane, of the entries before the first wrong one.
+    /// How many requests were given to a thread of a lower lane: of all entries of a legal run, and of those before the first wrong one
+    /// of another.
     pub lent: u32,
-    /// The most entries from one that keeps a request to the one that takes it, of those before the first wrong one; 0 where none is taken.
+    /// The most entries from one that keeps a request to the one that takes it, of the same entries; 0 where none is taken.
     pub longest: u32,
 }
 
