@@ -70,6 +70,8 @@ impl fmt::Display for NoteText<'_> {
             Note::Closed => f.write_str("closed"),
             Note::Memory => f.write_str("memory"),
             Note::Limit => f.write_str("limit"),
+            Note::Trace(offset) => write!(f, "trace: offset {offset}"),
+            Note::Audit(run, entry) => write!(f, "audit: run {run} entry {entry}"),
         }
     }
 }

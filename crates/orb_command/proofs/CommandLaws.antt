@@ -1,21 +1,29 @@
 -- The answers of the top call, by what its words mean.
-use Rattle.std.proofs.Common.{◌≡◌, ℕ, List, refl, ap, ◌∙◌, subst, sym, inl, inr}
-use Rattle.std.specs.Prelude.{None, Result, Ok, Err}
+use Rattle.std.proofs.Common.{◌≡◌, ℕ, arith, List, refl, ap, ◌∙◌, subst, sym, inl, inr}
+use Rattle.std.specs.Prelude.{false, [], None, Result, Ok, Err}
 use Rattle.orb_base.specs.Outside.{SinkState}
+use Rattle.orb_base.specs.Room.{Room}
 use Rattle.orb_base.specs.declared.no_memory.NoMemory.{NoMemory}
 use Rattle.giop_dump.specs.declared.dump_end.DumpEnd.{DumpEnd}
 use Rattle.giop_dump.specs.declared.dump_end.DumpEnd.TheVariants as dump
 use Rattle.giop_dump.specs.Dump.{Dumps, FaultsOf}
+use Rattle.trace_audit.specs.Audit.{AuditsRun, Audits, Comes, Reports as Writes}
+use Rattle.trace_audit.specs.declared.audit_end.AuditEnd.{AuditEnd}
+use Rattle.trace_audit.specs.declared.audit_end.AuditEnd.TheVariants as audit
+use Rattle.trace_audit.specs.declared.audit_end.AuditFault.{AuditFault}
+use Rattle.trace_audit.specs.declared.audit_end.AuditFault.TheVariants as fault
+use Rattle.trace_audit.specs.declared.verdict.Verdict.{Verdict}
 use Rattle.reference_lines.specs.declared.refs_end.RefsEnd.{RefsEnd}
 use Rattle.reference_lines.specs.declared.refs_end.RefsEnd.TheVariants as refs
 use Rattle.reference_lines.specs.Refs.{Refs, RefsBytes}
 use Rattle.giop_dump.proofs.Runs.{dump_wants_first}
 use Rattle.reference_lines.proofs.RefsLaws.{wanting as refs_wants}
-use Rattle.text_streams.proofs.CallerLemmas.{gave_none}
+use Rattle.text_streams.proofs.CallerLemmas.{gave_none, gave_start}
 use Rattle.orb_command.specs.declared.answered.Reported.{Reported}
-use Rattle.command_words.specs.declared.meaning.Meaning.TheVariants.{Dump, Refs as RefsMeaning, Unread}
+use Rattle.command_words.specs.declared.meaning.Meaning.TheVariants.{Dump, Audit, Refs as RefsMeaning, Unread}
 use Rattle.orb_command.specs.declared.note.Note.TheVariants.{Usage, Memory}
 use Rattle.orb_command.specs.Moment.{Moment}
+use Rattle.orb_command.specs.AuditAnswer.{audit_note}
 use Rattle.orb_command.specs.DumpAnswer.{dump_note}
 use Rattle.orb_command.specs.RefsAnswer.{refs_note}
 use Rattle.orb_command.specs.Command.{status_of, Reports}
@@ -39,6 +47,44 @@ dump_answers ran answered before after same h note status none = record {
   piped = none;
   faults = (same, subst (λ n. StreamFaults n before after) (sym note) (dump_faults ran before after h.faults));
   few = record { bytes = h.bytes; few = h.few; gave = h.gave };
+}
+
+-- ---- an audit
+
+-- which counts rose, by what was said of the input
+abbrev CountsSo : Result AuditEnd NoMemory → Moment → Moment → Type 0
+CountsSo ran before after = StreamFaults (audit_note ran) before after
+
+verdicts_faults : (vs : List Verdict) (ran : Result AuditEnd NoMemory) (before after : Moment) → after.input.faults ≡ before.input.faults
+    → Writes ran vs before.out after.out → CountsSo ran before after
+verdicts_faults vs (Ok audit.Legal) before after same h = (same, h.2)
+verdicts_faults vs (Ok (audit.Wrong w)) before after same h = (same, h.2)
+verdicts_faults vs (Ok (audit.NotTrace at)) before after same h = absurd h
+verdicts_faults vs (Ok audit.ReadFault) before after same h = absurd h
+verdicts_faults vs (Ok audit.Spent) before after same h = absurd h
+verdicts_faults vs (Ok audit.WriteFault) before after same h = (same, h.1)
+verdicts_faults vs (Err m) before after same h = tt
+
+audit_faults : (said : Result (Room Verdict) AuditFault) (ran : Result AuditEnd NoMemory) (before after : Moment) → Audits said before.input after.input
+    → Comes said ran before.out after.out → CountsSo ran before after
+audit_faults (Ok vs) ran before after h comes = verdicts_faults vs.items ran before after h.reads comes
+audit_faults (Err (fault.NotTrace at)) ran before after h comes =
+    subst (λ r. CountsSo r before after) (sym comes.0) (ap (λ (o : SinkState). o.faults) comes.1)
+audit_faults (Err fault.ReadFault) ran before after h comes =
+    subst (λ r. CountsSo r before after) (sym comes.0) (h.reads, ap (λ (o : SinkState). o.faults) comes.1)
+audit_faults (Err fault.Spent) ran before after h comes =
+    subst (λ r. CountsSo r before after) (sym comes.0) (h.reads, ap (λ (o : SinkState). o.faults) comes.1)
+audit_faults (Err fault.NoMemory) (Err m) before after h comes = tt
+audit_faults (Err fault.NoMemory) (Ok e) before after h comes = absurd comes.0
+
+pub audit_answers : (ran : Result AuditEnd NoMemory) (answered : Reported) (before after : Moment) → after.files ≡ before.files → AuditsRun ran before.input after.input before.out after.out
+    → answered.note ≡ audit_note ran → answered.status ≡ status_of (audit_note ran) → answered.piped ≡ None → Reports Audit answered before after
+audit_answers ran answered before after same h note status none = record {
+  status = status ∙ ap status_of (sym note);
+  means = record { answer = ran; told = note; audits = h };
+  piped = none;
+  faults = (same, subst (λ n. StreamFaults n before after) (sym note) (audit_faults h.said ran before after h.audits h.comes));
+  few = record { bytes = h.audits.bytes; few = h.audits.few; gave = h.audits.gave };
 }
 
 -- ---- a reference
@@ -83,6 +129,16 @@ no_refs = Err (record {})
 pub dump_wanting : (answered : Reported) (before : Moment) → answered.note ≡ Memory → answered.status ≡ 12 → answered.piped ≡ None → Reports Dump answered before before
 dump_wanting answered before note status none =
     dump_answers no_dump answered before before refl (dump_wants_first no_dump before.input before.out refl) note status none
+
+pub audit_wanting : (answered : Reported) (before : Moment) → answered.note ≡ Memory → answered.status ≡ 12 → answered.piped ≡ None → Reports Audit answered before before
+audit_wanting answered before note status none =
+    audit_answers (Err (record {})) answered before before refl
+    (record {
+      said = Err fault.NoMemory;
+      audits = record { bytes = []; ended = false; gave = gave_start before.input; few = omega arith; met = refl; reads = λ e. refl; says = tt };
+      comes = (tt, refl);
+    })
+    note status none
 
 pub refs_wanting : (answered : Reported) (before : Moment) → answered.note ≡ Memory → answered.status ≡ 12 → answered.piped ≡ None → Reports RefsMeaning answered before before
 refs_wanting answered before note status none =

@@ -7,3 +7,4 @@ pub mod PipeNotes
 pub mod Plain
 pub mod ServeNotes
 pub mod UsageLaws
+pub mod Complete

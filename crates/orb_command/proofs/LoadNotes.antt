@@ -23,7 +23,7 @@ use Rattle.command_words.specs.declared.meaning.LoadWords.{LoadWords}
 use Rattle.command_words.specs.declared.meaning.Meaning.TheVariants.{Load}
 use Rattle.orb_command.specs.declared.answered.Reported.{Reported}
 use Rattle.orb_command.specs.declared.note.Note.{Note}
-use Rattle.orb_command.specs.declared.note.Note.TheVariants.{Nothing, Usage, Config, Idl, Script, Check, TooLong, ReadFault, WriteFault, NetFault, Input, Absent, Reference, Local, System, User, Forward, Peer, PeerBody, Closed, Memory, Limit}
+use Rattle.orb_command.specs.declared.note.Note.TheVariants.{Nothing, Usage, Config, Idl, Script, Check, TooLong, ReadFault, WriteFault, NetFault, Input, Absent, Reference, Local, System, User, Forward, Peer, PeerBody, Closed, Memory, Limit, Trace, Audit}
 use Rattle.orb_command.specs.Command.{status_of, Reports}
 use Rattle.orb_command.specs.Faults.{FiledFaults, LoadFaults}
 use Rattle.orb_command.specs.LoadAnswer.{note_of_end, RanLoad, LoadsBy, LoadAnswers}
@@ -51,6 +51,8 @@ by_none words reason note files files' out kept none told = (kept, inr (reason, 
 -- a fault of a command over files is one of the load's
 filed : (note : Note) (before after : Moment) → FiledFaults note before after → LoadFaults note before after
 filed Limit before after h = absurd h
+filed (Trace n) before after h = h
+filed (Audit n m) before after h = h
 filed Nothing before after h = h
 filed Usage before after h = h
 filed (Config f) before after h = h

@@ -35,7 +35,7 @@ use Rattle.text_streams.proofs.CallerLemmas.{gave_none}
 use Rattle.text_streams.specs.Streams.{GaveFew}
 use Rattle.orb_command.specs.declared.answered.Reported.{Reported}
 use Rattle.command_words.specs.declared.meaning.Meaning.{Meaning}
-use Rattle.command_words.specs.declared.meaning.Meaning.TheVariants.{Pipe, Serve, Dump, Refs, RefsAt, Idl, Call, Load, Unread}
+use Rattle.command_words.specs.declared.meaning.Meaning.TheVariants.{Pipe, Serve, Dump, Audit, Refs, RefsAt, Idl, Call, Load, Unread}
 use Rattle.orb_command.specs.declared.note.Note.{Note}
 use Rattle.orb_command.specs.declared.note.Note.TheVariants.{Memory}
 use Rattle.orb_command.specs.Command.{status_of, Reports}
@@ -43,7 +43,7 @@ use Rattle.orb_command.specs.Faults.{RunFaults, ConfiguredFaults, PipeFaults, Se
 use Rattle.orb_command.specs.Moment.{Moment, moment}
 use Rattle.orb_command.specs.PipeAnswer.{note_of, note_of_run, piped_of, Ran, Declined, PipeAnswers}
 use Rattle.orb_command.specs.SetupNotes.{serving_note, setup_note}
-use Rattle.orb_command.proofs.CommandLaws.{dump_wanting, refs_wanting, unread_wanting}
+use Rattle.orb_command.proofs.CommandLaws.{dump_wanting, audit_wanting, refs_wanting, unread_wanting}
 use Rattle.orb_command.proofs.IdlLaws.{idl_wanting}
 use Rattle.orb_command.proofs.LoadNotes.{load_wanting}
 use Rattle.orb_command.proofs.AtLaws.{broker_wanting, at_wanting}
@@ -210,6 +210,7 @@ wanting_answers (Serve words) answered before note status none = record {
   few = gave_none 0 before.input;
 }
 wanting_answers Dump answered before note status none = dump_wanting answered before note status none
+wanting_answers Audit answered before note status none = audit_wanting answered before note status none
 wanting_answers Refs answered before note status none = refs_wanting answered before note status none
 wanting_answers Unread answered before note status none = unread_wanting answered before note status none
 wanting_answers (Load words) answered before note status none = load_wanting words answered before note status none

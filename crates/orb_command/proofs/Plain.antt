@@ -4,7 +4,7 @@ use Rattle.orb_base.specs.Links.{AcceptorState}
 use Rattle.orb_base.specs.Outside.{SourceState, SinkState}
 use Rattle.orb_nets.specs.Nets.{NetState}
 use Rattle.command_words.specs.declared.meaning.Meaning.{Meaning}
-use Rattle.command_words.specs.declared.meaning.Meaning.TheVariants.{Pipe, Serve, Dump, Refs, RefsAt, Idl, Call, Load, Unread}
+use Rattle.command_words.specs.declared.meaning.Meaning.TheVariants.{Pipe, Serve, Dump, Audit, Refs, RefsAt, Idl, Call, Load, Unread}
 use Rattle.orb_command.specs.declared.answered.Answered.{Answered}
 use Rattle.orb_command.specs.declared.answered.Reported.{Reported}
 use Rattle.orb_command.specs.Command.{Reports, Answers, LeavesNet, UsesNet, report_of}
@@ -15,6 +15,7 @@ abbrev pub IsPlain : Meaning → Type 0
 IsPlain (Serve words) = ⊥
 IsPlain (Pipe words) = Unit {0}
 IsPlain Dump = Unit {0}
+IsPlain Audit = Unit {0}
 IsPlain Refs = Unit {0}
 IsPlain (RefsAt place config) = Unit {0}
 IsPlain (Idl name) = Unit {0}
@@ -28,6 +29,7 @@ module _ {A I O : Type 0} (state : A → AcceptorState I O) (source : I → Sour
   leaves_net (Serve words) answered before after net plain h = absurd plain
   leaves_net (Pipe words) answered before after net plain h = h
   leaves_net Dump answered before after net plain h = h
+  leaves_net Audit answered before after net plain h = h
   leaves_net Refs answered before after net plain h = h
   leaves_net (RefsAt place config) answered before after net plain h = h
   leaves_net (Idl name) answered before after net plain h = h

@@ -30,7 +30,7 @@ use Rattle.server_runs.specs.declared.run_at.Served.{Served}
 use Rattle.text_streams.proofs.CallerLemmas.{gave_none}
 use Rattle.text_streams.specs.Streams.{GaveFew}
 use Rattle.command_words.specs.declared.meaning.Meaning.{Meaning}
-use Rattle.command_words.specs.declared.meaning.Meaning.TheVariants.{Pipe, Serve, Dump, Refs, RefsAt, Idl, Call, Load, Unread}
+use Rattle.command_words.specs.declared.meaning.Meaning.TheVariants.{Pipe, Serve, Dump, Audit, Refs, RefsAt, Idl, Call, Load, Unread}
 use Rattle.command_words.specs.declared.meaning.ServeWords.{ServeWords}
 use Rattle.orb_command.specs.Command.{status_of, Answers, call_told, report_of, serve_told}
 use Rattle.orb_command.specs.Faults.{FiledFaults, ServeFaults}
@@ -41,7 +41,7 @@ use Rattle.orb_command.specs.declared.serve.ServeTold.{ServeTold}
 use Rattle.orb_command.specs.declared.answered.Answered.{Answered}
 use Rattle.orb_command.specs.declared.answered.Reported.{Reported}
 use Rattle.orb_command.specs.declared.note.Note.{Note}
-use Rattle.orb_command.specs.declared.note.Note.TheVariants.{Nothing, Usage, Config, Idl as IdlNote, Script, Check, TooLong, ReadFault, WriteFault, NetFault as NetNote, Input, Absent, Reference, Local, System, User, Forward, Peer, PeerBody, Closed, Memory, Limit}
+use Rattle.orb_command.specs.declared.note.Note.TheVariants.{Nothing, Usage, Config, Idl as IdlNote, Script, Check, TooLong, ReadFault, WriteFault, NetFault as NetNote, Input, Absent, Reference, Local, System, User, Forward, Peer, PeerBody, Closed, Memory, Limit, Trace, Audit as AuditNote}
 use Rattle.orb_command.proofs.AtLaws.{broker_faults}
 use Rattle.orb_command.proofs.PipeNotes.{wanting_answers}
 use Rattle.orb_command.proofs.CallNotes.{call_answers, call_wanting}
@@ -88,6 +88,8 @@ filed (Absent r) before after h = h
 filed (Reference f) before after h = h
 filed Memory before after h = h
 filed Limit before after h = h
+filed (Trace n) before after h = h
+filed (AuditNote n m) before after h = h
 filed (Local f) before after h = h
 filed (System x) before after h = h
 filed (User id) before after h = h
@@ -215,6 +217,8 @@ module _ {A I O : Type 0} (state : A → AcceptorState I O) (source : I → Sour
       plain_answers state source sink (Load words) reported answered before before net tt (wanting_answers (Load words) reported before note status none) same run empty link
   wanting Dump reported answered before net note status none same run empty link =
       plain_answers state source sink Dump reported answered before before net tt (wanting_answers Dump reported before note status none) same run empty link
+  wanting Audit reported answered before net note status none same run empty link =
+      plain_answers state source sink Audit reported answered before before net tt (wanting_answers Audit reported before note status none) same run empty link
   wanting Refs reported answered before net note status none same run empty link =
       plain_answers state source sink Refs reported answered before before net tt (wanting_answers Refs reported before note status none) same run empty link
   wanting Unread reported answered before net note status none same run empty link =

@@ -4,15 +4,18 @@ use Rattle.std.specs.Prelude.{Result, Ok, Err}
 use Rattle.orb_base.specs.declared.no_memory.NoMemory.{NoMemory}
 use Rattle.giop_dump.specs.declared.dump_end.DumpEnd.{DumpEnd}
 use Rattle.giop_dump.specs.declared.dump_end.DumpEnd.TheVariants as dump
+use Rattle.trace_audit.specs.declared.audit_end.AuditEnd.{AuditEnd}
+use Rattle.trace_audit.specs.declared.audit_end.AuditEnd.TheVariants as audit
 use Rattle.reference_lines.specs.declared.refs_end.RefsEnd.{RefsEnd}
 use Rattle.reference_lines.specs.declared.refs_end.RefsEnd.TheVariants as refs
 use Rattle.command_words.specs.declared.meaning.Meaning.{Meaning}
-use Rattle.command_words.specs.declared.meaning.Meaning.TheVariants.{Pipe, Serve, Dump, Refs as RefsMeaning, RefsAt, Idl, Call, Load, Unread}
+use Rattle.command_words.specs.declared.meaning.Meaning.TheVariants.{Pipe, Serve, Dump, Audit, Refs as RefsMeaning, RefsAt, Idl, Call, Load, Unread}
 use Rattle.orb_command.specs.declared.answered.Reported.{Reported}
 use Rattle.orb_command.specs.declared.note.Note.{Note}
 use Rattle.orb_command.specs.declared.note.Note.TheVariants.{Nothing, Usage, Config, Idl as IdlNote, Script, Check, TooLong, ReadFault}
-use Rattle.orb_command.specs.declared.note.Note.TheVariants.{WriteFault, NetFault, Input, Absent, Reference, Local, System, User, Forward, Peer, PeerBody, Closed, Memory, Limit}
+use Rattle.orb_command.specs.declared.note.Note.TheVariants.{WriteFault, NetFault, Input, Absent, Reference, Local, System, User, Forward, Peer, PeerBody, Closed, Memory, Limit, Trace, Audit as AuditNote}
 use Rattle.orb_command.specs.Command.{status_of, Reports}
+use Rattle.orb_command.specs.AuditAnswer.{audit_note}
 use Rattle.orb_command.specs.DumpAnswer.{dump_note}
 use Rattle.orb_command.specs.Faults.{FaultsAt, PipeFaults}
 use Rattle.orb_command.specs.Moment.{Moment}
@@ -39,6 +42,8 @@ usage_note (Reference f) e = absurd (is_no_one 8 refl e)
 usage_note (Absent role) e = absurd (is_no_one 10 refl e)
 usage_note Memory e = absurd (is_no_one 12 refl e)
 usage_note Limit e = absurd (is_no_one 13 refl e)
+usage_note (Trace n) e = absurd (is_no_one 8 refl e)
+usage_note (AuditNote n m) e = absurd (is_no_one 15 refl e)
 usage_note (Local f) e = absurd (is_no_one 11 refl e)
 usage_note (System x) e = absurd (is_no_one 6 refl e)
 usage_note (User id) e = absurd (is_no_one 6 refl e)
@@ -47,7 +52,7 @@ usage_note (Peer n f) e = absurd (is_no_one 7 refl e)
 usage_note PeerBody e = absurd (is_no_one 7 refl e)
 usage_note Closed e = absurd (is_no_one 9 refl e)
 
--- a dump and a reference have other notes
+-- a dump, an audit and a reference have other notes
 dump_other : (ran : Result DumpEnd NoMemory) → status_of (dump_note ran) ≡ 1 → ⊥
 dump_other (Ok dump.Done) e = absurd (is_no_one 0 refl e)
 dump_other (Ok (dump.Refused r)) e = absurd (is_no_one 8 refl e)
@@ -55,6 +60,15 @@ dump_other (Ok dump.Spent) e = absurd (is_no_one 13 refl e)
 dump_other (Ok dump.ReadFault) e = absurd (is_no_one 3 refl e)
 dump_other (Ok dump.WriteFault) e = absurd (is_no_one 4 refl e)
 dump_other (Err m) e = absurd (is_no_one 12 refl e)
+
+audit_other : (ran : Result AuditEnd NoMemory) → status_of (audit_note ran) ≡ 1 → ⊥
+audit_other (Ok audit.Legal) e = absurd (is_no_one 0 refl e)
+audit_other (Ok (audit.Wrong w)) e = absurd (is_no_one 15 refl e)
+audit_other (Ok (audit.NotTrace at)) e = absurd (is_no_one 8 refl e)
+audit_other (Ok audit.ReadFault) e = absurd (is_no_one 3 refl e)
+audit_other (Ok audit.Spent) e = absurd (is_no_one 13 refl e)
+audit_other (Ok audit.WriteFault) e = absurd (is_no_one 4 refl e)
+audit_other (Err m) e = absurd (is_no_one 12 refl e)
 
 refs_other : (ran : Result RefsEnd NoMemory) → status_of (refs_note ran) ≡ 1 → ⊥
 refs_other (Ok refs.Done) e = absurd (is_no_one 0 refl e)
@@ -81,6 +95,7 @@ usage_only (RefsAt place config) reported before after h e =
 usage_only (Idl name) reported before after h e =
     absurd ((subst (λ n. FaultsAt (Idl name) n before after) (usage_note reported.note (sym h.status ∙ e)) h.faults).1)
 usage_only Dump reported before after h e = absurd (dump_other h.means.answer (ap status_of (sym h.means.told) ∙ sym h.status ∙ e))
+usage_only Audit reported before after h e = absurd (audit_other h.means.answer (ap status_of (sym h.means.told) ∙ sym h.status ∙ e))
 usage_only RefsMeaning reported before after h e = absurd (refs_other h.means.answer (ap status_of (sym h.means.told) ∙ sym h.status ∙ e))
 usage_only (Call words) reported before after h e =
     absurd ((subst (λ n. FaultsAt (Call words) n before after) (usage_note reported.note (sym h.status ∙ e)) h.faults).1)

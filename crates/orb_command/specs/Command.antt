@@ -6,7 +6,7 @@ use Rattle.orb_nets.specs.Nets.{NetState}
 use Rattle.command_options.specs.Items.{Text}
 use Rattle.command_words.specs.Words.{asks_memory, command_of}
 use Rattle.command_words.specs.declared.meaning.Meaning.{Meaning}
-use Rattle.command_words.specs.declared.meaning.Meaning.TheVariants.{Pipe, Serve, Dump, Refs, RefsAt, Idl, Call, Load, Unread}
+use Rattle.command_words.specs.declared.meaning.Meaning.TheVariants.{Pipe, Serve, Dump, Audit, Refs, RefsAt, Idl, Call, Load, Unread}
 use Rattle.orb_command.specs.declared.answered.Answered.{Answered}
 use Rattle.orb_command.specs.declared.answered.Reported.{Reported}
 use Rattle.orb_command.specs.declared.note.Note.{Note}
@@ -14,16 +14,18 @@ use Rattle.orb_command.specs.declared.call.CallTold.{CallTold}
 use Rattle.orb_command.specs.declared.serve.ServeTold.{ServeTold}
 use Rattle.orb_command.specs.declared.note.Note.TheVariants.{Nothing, Usage, Config, Idl as IdlNote, Script, Check, TooLong, ReadFault}
 use Rattle.orb_command.specs.declared.note.Note.TheVariants.{WriteFault, NetFault, Input, Absent, Reference, Local, System, User, Forward}
-use Rattle.orb_command.specs.declared.note.Note.TheVariants.{Peer, PeerBody, Closed, Memory, Limit}
+use Rattle.orb_command.specs.declared.note.Note.TheVariants.{Peer, PeerBody, Closed, Memory, Limit, Trace, Audit as AuditNote}
 use Rattle.conn_engine.specs.declared.read_end.TheConstants.{MAX_TAKEN}
 use Rattle.pipe_runs.specs.declared.piped.Piped.{Piped}
 use Rattle.giop_dump.specs.declared.dump_end.TheConstants.{MAX_DUMPED}
+use Rattle.trace_audit.specs.declared.input.TheConstants.{MAX_AUDITED}
 use Rattle.reference_lines.specs.declared.refs_end.TheConstants.{MAX_REFERENCE}
 use Rattle.text_streams.specs.Streams.{GaveFew}
 use Rattle.orb_command.specs.Moment.{Moment}
 use Rattle.orb_command.specs.Faults.{FaultsAt}
 use Rattle.orb_command.specs.PipeAnswer.{PipeAnswers}
 use Rattle.orb_command.specs.DumpAnswer.{DumpAnswers}
+use Rattle.orb_command.specs.AuditAnswer.{AuditAnswers}
 use Rattle.orb_command.specs.RefsAnswer.{RefsAnswers}
 use Rattle.orb_command.specs.AtAnswer.{AtAnswers}
 use Rattle.orb_command.specs.IdlAnswer.{IdlAnswers}
@@ -55,11 +57,14 @@ status_of (Absent _) = 10
 status_of (Local _) = 11
 status_of Memory = 12
 status_of Limit = 13
+status_of (Trace _) = 8
+status_of (AuditNote _ _) = 15
 
 -- how many bytes are taken at most: of an input of `refs` one more than it may have, so that a longer one is seen
 abbrev pub most_taken : Meaning → ℕ
 most_taken (Pipe words) = MAX_TAKEN
 most_taken Dump = MAX_DUMPED
+most_taken Audit = MAX_AUDITED
 most_taken Refs = MAX_REFERENCE + 2
 most_taken _ = 0
 
@@ -69,6 +74,7 @@ abbrev pub NoteMeans : Meaning → Note → Option Piped → Moment → Moment �
 NoteMeans (Pipe words) note piped before after = PipeAnswers words note piped before after
 NoteMeans (Serve words) note piped before after = after.input ≡ before.input
 NoteMeans Dump note piped before after = DumpAnswers note before after
+NoteMeans Audit note piped before after = AuditAnswers note before after
 NoteMeans Refs note piped before after = RefsAnswers note before after
 NoteMeans (RefsAt place config) note piped before after = AtAnswers place config note before after
 NoteMeans (Idl name) note piped before after = IdlAnswers name note before after

@@ -5,14 +5,15 @@ use Rattle.pipe_runs.specs.Pipe.{MayFail}
 use Rattle.text_streams.specs.Faults.{NoneFailed, ReadFailed, WriteFailed}
 use Rattle.orb_command.specs.Moment.{Moment}
 use Rattle.command_words.specs.declared.meaning.Meaning.{Meaning}
-use Rattle.command_words.specs.declared.meaning.Meaning.TheVariants.{Pipe, Serve, Dump, Refs, RefsAt, Idl, Call, Load, Unread}
+use Rattle.command_words.specs.declared.meaning.Meaning.TheVariants.{Pipe, Serve, Dump, Audit, Refs, RefsAt, Idl, Call, Load, Unread}
 use Rattle.orb_command.specs.declared.note.Note.{Note}
 use Rattle.orb_command.specs.declared.note.Note.TheVariants.{Nothing, Usage, Config, Idl as IdlNote, Script, Check, TooLong, ReadFault}
 use Rattle.orb_command.specs.declared.note.Note.TheVariants.{WriteFault, NetFault, Input, Absent, Reference, Local, System, User, Forward}
-use Rattle.orb_command.specs.declared.note.Note.TheVariants.{Peer, PeerBody, Closed, Memory, Limit}
+use Rattle.orb_command.specs.declared.note.Note.TheVariants.{Peer, PeerBody, Closed, Memory, Limit, Trace, Audit as AuditNote}
 
 -- of a command over the input, but for the pipe: none but at a fault, the input's alone at a read fault, and the output's alone at a
--- write fault. A reference that is too long is given also where the next read fails. Such a command refuses no file
+-- write fault. A reference that is too long, and a whole line at fault, are given also where the next read fails. Such a command
+-- refuses no file
 abbrev pub StreamFaults : Note → Moment → Moment → Type 0
 StreamFaults Nothing before after = NoneFailed before.input after.input before.out after.out
 StreamFaults Usage before after = NoneFailed before.input after.input before.out after.out
@@ -22,6 +23,8 @@ StreamFaults (Input _ _) before after = after.out.faults ≡ before.out.faults
 StreamFaults (Reference _) before after = NoneFailed before.input after.input before.out after.out
 StreamFaults Memory before after = Unit {0}
 StreamFaults Limit before after = NoneFailed before.input after.input before.out after.out
+StreamFaults (Trace _) before after = after.out.faults ≡ before.out.faults
+StreamFaults (AuditNote _ _) before after = NoneFailed before.input after.input before.out after.out
 StreamFaults _ before after = ⊥
 
 -- no read of a file and no write failed
@@ -119,6 +122,7 @@ abbrev pub FaultsAt : Meaning → Note → Moment → Moment → Type 0
 FaultsAt (Pipe words) note before after = PipeFaults words.config note before after
 FaultsAt (Serve words) note before after = (after.input ≡ before.input) × ServeFaults note before after
 FaultsAt Dump note before after = (after.files ≡ before.files) × StreamFaults note before after
+FaultsAt Audit note before after = (after.files ≡ before.files) × StreamFaults note before after
 FaultsAt Refs note before after = (after.files ≡ before.files) × StreamFaults note before after
 FaultsAt (RefsAt place config) note before after = (after.input ≡ before.input) × FiledFaults note before after
 FaultsAt (Idl name) note before after = (after.input ≡ before.input) × FiledFaults note before after

@@ -4,9 +4,11 @@ pub mod AtAnswer
 pub mod IdlAnswer
 pub mod PipeAnswer
 pub mod DumpAnswer
+pub mod AuditAnswer
 pub mod RefsAnswer
 pub mod ServeAnswer
 pub mod CallAnswer
 pub mod LoadAnswer
 pub mod Faults
 pub mod Command
+pub mod Completeness

@@ -1,12 +1,14 @@
 //! The top call.
-ghost use Rattle.std.specs.Prelude.{◌≡◌, [], map, string_bytes, None};
+ghost use Rattle.std.specs.Prelude.{◌≡◌, true, [], map, string_bytes, None};
 ghost use Rattle.command_words.specs.Words.{command_of};
 ghost use Rattle.command_words.specs.declared.meaning.Meaning.TheVariants.{Unread};
 ghost use Rattle.orb_command.specs.Moment.{moment};
 ghost use Rattle.orb_command.specs.Command.{Answers};
+ghost use Rattle.orb_command.specs.Completeness.{GoesWell, is_good};
 ghost use Rattle.orb_command.specs.Command as Spec;
 
 use crate::answered::{Answered, Reported};
+use crate::audit::audit_note;
 use crate::call::{CallTold, run_call};
 use crate::dump::dump_note;
 use crate::idl::idl_note;
@@ -25,6 +27,7 @@ use reference_lines::refs_run;
 use std::alloc::Global;
 use std::sync::Wait;
 use std::thread::Threads;
+use trace_audit::audit_run;
 
 /// The status of a note.
 fn status_of(note: &Note) -> u8
@@ -39,12 +42,13 @@ fn status_of(note: &Note) -> u8
         Note::NetFault => 5,
         Note::System(_) | Note::User(_) | Note::Forward(_) => 6,
         Note::Peer(_, _) | Note::PeerBody => 7,
-        Note::Input(_, _) | Note::Reference(_) => 8,
+        Note::Input(_, _) | Note::Reference(_) | Note::Trace(_) => 8,
         Note::Closed => 9,
         Note::Absent(_) => 10,
         Note::Local(_) => 11,
         Note::Memory => 12,
         Note::Limit => 13,
+        Note::Audit(_, _) => 15,
     }
 }
 
@@ -135,6 +139,9 @@ fn carry_out<N: Net, F: Files, I: Source, O: Sink, R: Wait + Threads + Sync>(
         ),
         Meaning::Serve(words) => answered_serve(run_server(rt, alloc, net, files, &words, out)),
         Meaning::Dump => Answered::plain(alloc, reported(dump_note(dump_run(alloc, input, out)))),
+        Meaning::Audit => {
+            Answered::plain(alloc, reported(audit_note(audit_run(alloc, input, out))))
+        }
         Meaning::Refs => Answered::plain(alloc, reported(refs_note(refs_run(alloc, input, out)))),
         Meaning::RefsAt(at, config) => Answered::plain(
             alloc,
@@ -152,21 +159,21 @@ fn carry_out<N: Net, F: Files, I: Source, O: Sink, R: Wait + Threads + Sync>(
     }
 }
 
-/// Does all that the program does: reads the words, runs the command over the net, the files, the input and the output, and answers
-/// the status with its note. Options come in any order, as `--name value` or `--name=value`. `pipe` carries out the requests of its
-/// input while it reads them, by the built-in setup, and with `--config FILE` by the configuration of this name and the interfaces and
-/// scripts that it names, in groups of one, or with `--batch N` of up to N calls, and writes what is answered, or with `--history` the
-/// text of the run's history, or with `--trace` its trace. `serve --config FILE --listen HOST:PORT` serves the configuration of this name
-/// at that address, in one run, or with `--runs N` in up to N, one after another; after each it writes one line of summary, and before
-/// that with `--trace` the run's trace. `dump` writes a line for each message of the input, and `refs` writes the parts of
-/// the reference that it is. `refs --at HOST:PORT` writes the reference of each object of the built-in setup at that address, and with
-/// `--config FILE` of each object of the configuration of this name. `idl --file FILE` lists what the IDL of the file declares.
-/// `call --ref TEXT --op NAME` calls the operation of the object that the reference is of, with the arguments of `--args JSON`, and
-/// writes its results as one line of JSON; `--priority N` is the caller's priority, `--idl FILE` a file of the interface, and
-/// `--interface ID` the interface where the reference doesn't say it. `load SEED COUNT` makes COUNT requests to the first object, runs
-/// them as `pipe` does, whole or with `--fragment N` in pieces, and writes one line of counts. It returns where each read and write
-/// returns, and `serve` where its runs end. The answers to `pipe` and `serve` have their runs, with the history, and that to `call` its
-/// connection.
+/// Does all that the program does: reads the words, runs the command over the net, the files, the input and the output, and answers the
+/// status with its note. Options come in any order, as `--name value` or `--name=value`. `pipe` carries out the requests of its input while
+/// it reads them, by the built-in setup, and with `--config FILE` by the configuration of this name and the interfaces and scripts that it
+/// names, in groups of one, or with `--batch N` of up to N calls, and writes what is answered, or with `--history` the text of the run's
+/// history, or with `--trace` its trace. `serve --config FILE --listen HOST:PORT` serves the configuration of this name at that address, in
+/// one run, or with `--runs N` in up to N, one after another; after each it writes one line of summary, and before that with `--trace` the
+/// run's trace. `audit` judges each run of the traces that the input is, and writes a line for each. `dump` writes a line for each message
+/// of the input, and `refs` writes the parts of the reference that it is. `refs --at HOST:PORT` writes the reference of each object of the
+/// built-in setup at that address, and with `--config FILE` of each object of the configuration of this name. `idl --file FILE` lists what
+/// the IDL of the file declares. `call --ref TEXT --op NAME` calls the operation of the object that the reference is of, with the arguments
+/// of `--args JSON`, and writes its results as one line of JSON; `--priority N` is the caller's priority, `--idl FILE` a file of the
+/// interface, and `--interface ID` the interface where the reference doesn't say it. `load SEED COUNT` makes COUNT requests to the first
+/// object, runs them as `pipe` does, whole or with `--fragment N` in pieces, and writes one line of counts. It returns where each read and
+/// write returns, and `serve` where its runs end. The answers to `pipe` and `serve` have their runs, with the history, and that to `call`
+/// its connection.
 pub fn orb_main<N: Net, F: Files, I: Source, O: Sink, R: Wait + Threads + Sync>(
     rt: &R,
     alloc: Global,
@@ -179,12 +186,17 @@ pub fn orb_main<N: Net, F: Files, I: Source, O: Sink, R: Wait + Threads + Sync>(
     // The status is that of the note, and each note has its cause, by what the words mean: 3 only where the count of faults of the
     // input, of the files or of a call's source rose, 4 only where that of the output or of a call's sink did, and 5 only where that of
     // the net did; 6, 7, 9 and 13 of `call` only as the bytes that it took, and their end, say, and 11 only where the words ask for no
-    // call, before the net was asked; 8 and 13 of `dump`, and 8 of `refs`, exactly where the bytes that it took say so, and of `pipe` what
-    // its history and its bytes say; 13 of `load` only where its run met a limit; 2 and 10 exactly where the files say so. Each run
-    // of `serve` is one legal history, whose lines are written.
+    // call, before the net was asked; 8 and 13 of `dump`, 8 of `refs`, and 8, 13 and 15 of `audit`, exactly where the bytes that it took
+    // say so, and of `pipe` what its history and its bytes say; 13 of `load` only where its run met a limit; 2 and 10 exactly where the
+    // files say so. Each run of `serve` is one legal history, whose lines are written.
     ensures answers { Answers N.Acc.state N.In.state N.Out.state (command_of (map string_bytes words.now)) result
         (moment (F.state files.old) (I.state input.old) (O.state out.old))
         (moment (F.state files.new) (I.state input.new) (O.state out.new)) (N.state net.old) (N.state net.new) }
+    // Where no file is refused, and no read, write, listen or connect failed, the status is one of those with which the command may end.
+    ensures complete { GoesWell N.In.state N.Out.state (command_of (map string_bytes words.now)) result.link
+        (moment (F.state files.old) (I.state input.old) (O.state out.old))
+        (moment (F.state files.new) (I.state input.new) (O.state out.new)) (N.state net.old) (N.state net.new)
+        → is_good (command_of (map string_bytes words.now)) result.status ≡ true }
     // Status 1 comes only where the words have no reading.
     ensures only { result.status ≡ 1 → command_of (map string_bytes words.now) ≡ Unread }
     // It comes wherever they have none, but for memory: 12 may come in its place where memory is asked for to read the words.

@@ -2,6 +2,7 @@
 #![tactic(auto)]
 
 mod answered;
+mod audit;
 mod call;
 mod command;
 mod dump;

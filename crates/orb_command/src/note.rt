@@ -68,4 +68,8 @@ pub enum Note {
     Memory,
     /// A limit of the run was met.
     Limit,
+    /// The input is no traces: the offset of its first line at fault.
+    Trace(u64),
+    /// A run of a trace isn't legal: its number in the input, and that of its first entry that isn't.
+    Audit(u32, u32),
 }

@@ -1,8 +1,8 @@
 use Rattle.std.proofs.Common.{◌≡◌, refl, sym, ap, ◌∙◌}
-use Rattle.command_words.specs.declared.meaning.Meaning.TheVariants.{Pipe, Serve, Dump, Refs, RefsAt, Idl, Call, Load, Unread}
+use Rattle.command_words.specs.declared.meaning.Meaning.TheVariants.{Pipe, Serve, Dump, Audit, Refs, RefsAt, Idl, Call, Load, Unread}
 use Rattle.orb_command.specs.Moment.{moment}
 use Rattle.orb_command.specs.Command.{status_of}
-use Rattle.orb_command.proofs.CommandLaws.{dump_answers, refs_answers, unread_answers}
+use Rattle.orb_command.proofs.CommandLaws.{dump_answers, audit_answers, refs_answers, unread_answers}
 use Rattle.orb_command.proofs.CallNotes.{call_answers}
 use Rattle.orb_command.proofs.LoadNotes.{load_answers}
 use Rattle.orb_command.proofs.AtLaws.{at_answers}
@@ -43,6 +43,17 @@ returns-in-Dump-clause-answers g c =
     (plain_answers g.N.Acc.Acceptor.state g.N.In.Source.state g.N.Out.Sink.state Dump c.reported.result c.plain-in-Dump.result before after (g.N.Net.state c.args.net.now) tt
     (dump_answers c.dump_run.result c.reported.result before after refl c.dump_run.ensures note status c.reported.ensures.piped)
     c.plain-in-Dump.ensures.reported c.plain-in-Dump.ensures.runs c.plain-in-Dump.ensures.acceptors c.plain-in-Dump.ensures.link)
+
+pub returns-in-Audit-clause-answers : goal.returns-in-Audit-clause-answers
+returns-in-Audit-clause-answers g c =
+    let note = c.reported-in-Audit.ensures.note ∙ c.audit_note.ensures in
+    let status = c.reported-in-Audit.ensures.status ∙ ap status_of c.audit_note.ensures in
+    let before = moment (g.F.Files.state c.args.files.now) (g.I.Source.state c.args.input.now) (g.O.Sink.state c.args.out.now) in
+    let after = moment (g.F.Files.state c.args.files.now) (g.I.Source.state c.audit_run.new.source) (g.O.Sink.state c.audit_run.new.sink) in
+    rw c.in-Audit.is
+    (plain_answers g.N.Acc.Acceptor.state g.N.In.Source.state g.N.Out.Sink.state Audit c.reported-in-Audit.result c.plain-in-Audit.result before after (g.N.Net.state c.args.net.now) tt
+    (audit_answers c.audit_run.result c.reported-in-Audit.result before after refl c.audit_run.ensures note status c.reported-in-Audit.ensures.piped)
+    c.plain-in-Audit.ensures.reported c.plain-in-Audit.ensures.runs c.plain-in-Audit.ensures.acceptors c.plain-in-Audit.ensures.link)
 
 pub returns-in-Refs-clause-answers : goal.returns-in-Refs-clause-answers
 returns-in-Refs-clause-answers g c =
@@ -116,6 +127,9 @@ returns-in-Serve-clause-usage g c = λ e. let no : Serve c.in-Serve.words ≡ Un
 
 pub returns-in-Dump-clause-usage : goal.returns-in-Dump-clause-usage
 returns-in-Dump-clause-usage g c = λ e. let no : Dump ≡ Unread = sym c.in-Dump.is ∙ e in absurd (cc)
+
+pub returns-in-Audit-clause-usage : goal.returns-in-Audit-clause-usage
+returns-in-Audit-clause-usage g c = λ e. let no : Audit ≡ Unread = sym c.in-Audit.is ∙ e in absurd (cc)
 
 pub returns-in-Refs-clause-usage : goal.returns-in-Refs-clause-usage
 returns-in-Refs-clause-usage g c = λ e. let no : Refs ≡ Unread = sym c.in-Refs.is ∙ e in absurd (cc)
