@@ -18,6 +18,7 @@ enum Said {
     /// The configuration, the host and port, how many runs, and whether they are traced.
     Serve(&'static str, &'static str, u16, u8, bool),
     Dump,
+    Audit,
     Refs,
     /// The host and port, and the configuration.
     RefsAt(&'static str, u16, Option<&'static str>),
@@ -170,6 +171,7 @@ fn is_said(meaning: &Meaning, want: Said) -> bool {
         (Meaning::Call(words), Said::Call(want)) => is_call(words, want),
         (Meaning::Load(words), Said::Load(want)) => is_load(words, want),
         (Meaning::Dump, Said::Dump)
+        | (Meaning::Audit, Said::Audit)
         | (Meaning::Refs, Said::Refs)
         | (Meaning::Unread, Said::Unread) => true,
         _ => false,
@@ -509,7 +511,43 @@ const SERVES: &[Row] = &[
         Said::Unread,
     ),
     (
+        &["serve", "--config=c", "--listen=h:1", "--runs"],
+        Said::Unread,
+    ),
+    (
+        &["serve", "--config=c", "--listen=h:1", "--runs", ""],
+        Said::Unread,
+    ),
+    (
+        &["serve", "--config=c", "--listen=h:1", "--runs", "-3"],
+        Said::Unread,
+    ),
+    (
+        &["serve", "--config=c", "--listen=h:1", "--runs=-3"],
+        Said::Unread,
+    ),
+    (
+        &["serve", "--config=c", "--listen=h:1", "--runs=+3"],
+        Said::Unread,
+    ),
+    (
+        &["serve", "--listen=h:1", "--runs=2", "--trace"],
+        Said::Unread,
+    ),
+    (
+        &["serve", "--config=c", "--runs=2", "--trace"],
+        Said::Unread,
+    ),
+    (
+        &["serve", "--config=c", "--listen=h:1", "--trace", "--trace"],
+        Said::Unread,
+    ),
+    (
         &["serve", "--config=c", "--listen=h:1", "--trace="],
+        Said::Unread,
+    ),
+    (
+        &["serve", "--config=c", "--listen=h:1", "--trace", "true"],
         Said::Unread,
     ),
     (
@@ -649,6 +687,28 @@ fn the_words_of_dump(rt: HostRuntime) {
     assert!(rt; all_mean(rt.alloc(), DUMPS));
 }
 
+const AUDITS: &[Row] = &[
+    (&["audit"], Said::Audit),
+    (&["audit", "x"], Said::Unread),
+    (&["audit", ""], Said::Unread),
+    (&["audit", "\0"], Said::Unread),
+    (&["audit", "--config", "c"], Said::Unread),
+    (&["audit", "--history"], Said::Unread),
+    (&["audit", "--trace"], Said::Unread),
+    (&["audit", "--file=f"], Said::Unread),
+    (&["audit", "--help"], Said::Unread),
+    (&["audit", "-h"], Said::Unread),
+    (&["audit", "--version"], Said::Unread),
+    (&["audit", "-"], Said::Unread),
+    (&["audit", "--"], Said::Unread),
+    (&["audit", "audit"], Said::Unread),
+];
+
+#[test]
+fn the_words_of_audit(rt: HostRuntime) {
+    assert!(rt; all_mean(rt.alloc(), AUDITS));
+}
+
 const IDLS: &[Row] = &[
     (&["idl"], Said::Unread),
     (&["idl", "--file", "f"], Said::Idl("f")),
@@ -714,6 +774,149 @@ const CALLS: &[Row] = &[
         ],
         Said::Call(WHOLE_CALL),
     ),
+    // Each other option alone beside these two, in both forms.
+    (
+        &["call", "--ref=r", "--op=o", "--args", "[]"],
+        Said::Call(CallSaid {
+            arguments: Some("[]"),
+            ..CALL
+        }),
+    ),
+    (
+        &["call", "--ref=r", "--op=o", "--args=[]"],
+        Said::Call(CallSaid {
+            arguments: Some("[]"),
+            ..CALL
+        }),
+    ),
+    (
+        &["call", "--ref=r", "--op=o", "--priority", "7"],
+        Said::Call(CallSaid {
+            priority: Some(7),
+            ..CALL
+        }),
+    ),
+    (
+        &["call", "--ref=r", "--op=o", "--priority=7"],
+        Said::Call(CallSaid {
+            priority: Some(7),
+            ..CALL
+        }),
+    ),
+    (
+        &["call", "--ref=r", "--op=o", "--idl", "f"],
+        Said::Call(CallSaid {
+            idl: Some("f"),
+            ..CALL
+        }),
+    ),
+    (
+        &["call", "--ref=r", "--op=o", "--idl=f"],
+        Said::Call(CallSaid {
+            idl: Some("f"),
+            ..CALL
+        }),
+    ),
+    (
+        &["call", "--ref=r", "--op=o", "--interface", "i"],
+        Said::Call(CallSaid {
+            interface: Some("i"),
+            ..CALL
+        }),
+    ),
+    (
+        &["call", "--ref=r", "--op=o", "--interface=i"],
+        Said::Call(CallSaid {
+            interface: Some("i"),
+            ..CALL
+        }),
+    ),
+    // Each left out of all.
+    (
+        &[
+            "call",
+            "--op=o",
+            "--args=[1, 2]",
+            "--priority=7",
+            "--idl=f",
+            "--interface=i",
+        ],
+        Said::Unread,
+    ),
+    (
+        &[
+            "call",
+            "--ref=r",
+            "--args=[1, 2]",
+            "--priority=7",
+            "--idl=f",
+            "--interface=i",
+        ],
+        Said::Unread,
+    ),
+    (
+        &[
+            "call",
+            "--ref=r",
+            "--op=o",
+            "--priority=7",
+            "--idl=f",
+            "--interface=i",
+        ],
+        Said::Call(CallSaid {
+            arguments: None,
+            ..WHOLE_CALL
+        }),
+    ),
+    (
+        &[
+            "call",
+            "--ref=r",
+            "--op=o",
+            "--args=[1, 2]",
+            "--idl=f",
+            "--interface=i",
+        ],
+        Said::Call(CallSaid {
+            priority: None,
+            ..WHOLE_CALL
+        }),
+    ),
+    (
+        &[
+            "call",
+            "--ref=r",
+            "--op=o",
+            "--args=[1, 2]",
+            "--priority=7",
+            "--interface=i",
+        ],
+        Said::Call(CallSaid {
+            idl: None,
+            ..WHOLE_CALL
+        }),
+    ),
+    (
+        &[
+            "call",
+            "--ref=r",
+            "--op=o",
+            "--args=[1, 2]",
+            "--priority=7",
+            "--idl=f",
+        ],
+        Said::Call(CallSaid {
+            interface: None,
+            ..WHOLE_CALL
+        }),
+    ),
+    // Each last, without a value.
+    (&["call", "--op=o", "--ref"], Said::Unread),
+    (&["call", "--ref=r", "--op"], Said::Unread),
+    (&["call", "--ref=r", "--op=o", "--args"], Said::Unread),
+    (&["call", "--ref=r", "--op=o", "--priority"], Said::Unread),
+    (&["call", "--ref=r", "--op=o", "--idl"], Said::Unread),
+    (&["call", "--ref=r", "--op=o", "--interface"], Said::Unread),
     // Each twice.
     (&["call", "--ref=r", "--op=o", "--ref=r"], Said::Unread),
     (&["call", "--ref=r", "--op=o", "--op", "o"], Said::Unread),
@@ -796,13 +999,97 @@ const CALLS: &[Row] = &[
         Said::Call(CallSaid { name: "-o", ..CALL }),
     ),
     (&["call", "--ref=r", "--op", "-o"], Said::Unread),
+    (
+        &["call", "--ref=r", "--op="],
+        Said::Call(CallSaid { name: "", ..CALL }),
+    ),
+    (
+        &["call", "--ref=r", "--op=o", "--args="],
+        Said::Call(CallSaid {
+            arguments: Some(""),
+            ..CALL
+        }),
+    ),
+    (
+        &["call", "--ref=r", "--op=o", "--idl="],
+        Said::Call(CallSaid {
+            idl: Some(""),
+            ..CALL
+        }),
+    ),
+    (
+        &["call", "--ref=r", "--op=o", "--interface="],
+        Said::Call(CallSaid {
+            interface: Some(""),
+            ..CALL
+        }),
+    ),
+    (
+        &["call", "--ref=r", "--op=o", "--args", ""],
+        Said::Call(CallSaid {
+            arguments: Some(""),
+            ..CALL
+        }),
+    ),
+    (
+        &["call", "--ref=r", "--op=o", "--priority", ""],
+        Said::Unread,
+    ),
+    (&["call", "--ref=r", "--op=o", "--args", "-1"], Said::Unread),
+    (
+        &["call", "--ref=r", "--op=o", "--args=-1"],
+        Said::Call(CallSaid {
+            arguments: Some("-1"),
+            ..CALL
+        }),
+    ),
+    (&["call", "--ref=r", "--op=o", "--idl", "-f"], Said::Unread),
+    (
+        &["call", "--ref=r", "--op=o", "--idl=-f"],
+        Said::Call(CallSaid {
+            idl: Some("-f"),
+            ..CALL
+        }),
+    ),
+    (
+        &["call", "--ref=r", "--op=o", "--interface", "-i"],
+        Said::Unread,
+    ),
+    (
+        &["call", "--ref=r", "--op=o", "--interface=-i"],
+        Said::Call(CallSaid {
+            interface: Some("-i"),
+            ..CALL
+        }),
+    ),
+    (&["call", "--op=o", "--ref", "-r"], Said::Unread),
+    (
+        &["call", "--op=o", "--ref=-r"],
+        Said::Call(CallSaid {
+            remote: "-r",
+            ..CALL
+        }),
+    ),
     // Words that are no options of it.
     (&["call", "r", "--ref=r", "--op=o"], Said::Unread),
     (&["call", "--ref=r", "--op=o", "--config=c"], Said::Unread),
     (&["call", "--ref=r", "--op=o", "--callers=2"], Said::Unread),
+    (&["call", "--ref=r", "--op=o", "x"], Said::Unread),
+    (&["call", "--ref=r", "--op=o", "--history"], Said::Unread),
+    (&["call", "--ref=r", "--op=o", "--trace"], Said::Unread),
+    (&["call", "--ref=r", "--op=o", "--listen=h:1"], Said::Unread),
+    (&["call", "--ref=r", "--op=o", "--file=f"], Said::Unread),
+    (
+        &["call", "--ref=r", "--op=o", "--fragment=24"],
+        Said::Unread,
+    ),
     (&["call", "--help"], Said::Unread),
+    (&["call", "--version"], Said::Unread),
+    (&["call", "--ref=r", "--op=o", "--version"], Said::Unread),
+    (&["call", "--ref=r", "--op=o", "-"], Said::Unread),
     (&["call", "--ref=r", "--op=o", "-h"], Said::Unread),
     (&["call", "--ref=r", "--op=o", "--"], Said::Unread),
+    (&["call", "--", "--ref=r", "--op=o"], Said::Unread),
     (&["call", "--ref=r", "--op=o", "--args=[]\0"], Said::Unread),
 ];
 
@@ -835,6 +1122,73 @@ const LOADS: &[Row] = &[
         &["load", "--fragment=32", "5", "--batch=3", "9", "--config=c"],
         Said::Load(WHOLE_LOAD),
     ),
+    // Each option alone, in both forms.
+    (
+        &["load", "0", "1", "--config", "c"],
+        Said::Load(LoadSaid {
+            config: Some("c"),
+            ..LOAD
+        }),
+    ),
+    (
+        &["load", "0", "1", "--config=c"],
+        Said::Load(LoadSaid {
+            config: Some("c"),
+            ..LOAD
+        }),
+    ),
+    (
+        &["load", "0", "1", "--batch", "3"],
+        Said::Load(LoadSaid { batch: 3, ..LOAD }),
+    ),
+    (
+        &["load", "0", "1", "--batch=3"],
+        Said::Load(LoadSaid { batch: 3, ..LOAD }),
+    ),
+    (
+        &["load", "0", "1", "--fragment", "32"],
+        Said::Load(LoadSaid {
+            fragment: Some(32),
+            ..LOAD
+        }),
+    ),
+    (
+        &["load", "0", "1", "--fragment=32"],
+        Said::Load(LoadSaid {
+            fragment: Some(32),
+            ..LOAD
+        }),
+    ),
+    // Each left out of all.
+    (
+        &["load", "5", "9", "--batch=3", "--fragment=32"],
+        Said::Load(LoadSaid {
+            config: None,
+            ..WHOLE_LOAD
+        }),
+    ),
+    (
+        &["load", "5", "9", "--config=c", "--fragment=32"],
+        Said::Load(LoadSaid {
+            batch: 1,
+            ..WHOLE_LOAD
+        }),
+    ),
+    (
+        &["load", "5", "9", "--config=c", "--batch=3"],
+        Said::Load(LoadSaid {
+            fragment: None,
+            ..WHOLE_LOAD
+        }),
+    ),
+    (
+        &["load", "9", "--config=c", "--batch=3", "--fragment=32"],
+        Said::Unread,
+    ),
+    // Each last, without a value.
+    (&["load", "0", "1", "--config"], Said::Unread),
+    (&["load", "0", "1", "--batch"], Said::Unread),
+    (&["load", "0", "1", "--fragment"], Said::Unread),
     // Each option twice.
     (
         &["load", "0", "1", "--config=c", "--config=c"],
@@ -845,6 +1199,37 @@ const LOADS: &[Row] = &[
         &["load", "0", "1", "--fragment=24", "--fragment=24"],
         Said::Unread,
     ),
+    // Empty values, and ones with a dash.
+    (
+        &["load", "0", "1", "--config="],
+        Said::Load(LoadSaid {
+            config: Some(""),
+            ..LOAD
+        }),
+    ),
+    (
+        &["load", "0", "1", "--config", ""],
+        Said::Load(LoadSaid {
+            config: Some(""),
+            ..LOAD
+        }),
+    ),
+    (&["load", "0", "1", "--batch="], Said::Unread),
+    (&["load", "0", "1", "--batch", ""], Said::Unread),
+    (&["load", "0", "1", "--fragment="], Said::Unread),
+    (&["load", "0", "1", "--fragment", ""], Said::Unread),
+    (&["load", "0", "1", "--config", "-c"], Said::Unread),
+    (
+        &["load", "0", "1", "--config=-c"],
+        Said::Load(LoadSaid {
+            config: Some("-c"),
+            ..LOAD
+        }),
+    ),
+    (&["load", "0", "1", "--batch", "-3"], Said::Unread),
+    (&["load", "0", "1", "--batch=-3"], Said::Unread),
+    (&["load", "0", "1", "--fragment", "-32"], Said::Unread),
+    (&["load", "0", "1", "--fragment=-32"], Said::Unread),
     // Seeds.
     (
         &["load", "4294967295", "1"],
@@ -870,6 +1255,21 @@ const LOADS: &[Row] = &[
     ),
     (&["load", "0", "65537"], Said::Unread),
     (&["load", "0", "0"], Said::Unread),
+    (
+        &["load", "0", "009"],
+        Said::Load(LoadSaid { count: 9, ..LOAD }),
+    ),
+    (
+        &["load", "0", "0000000009"],
+        Said::Load(LoadSaid { count: 9, ..LOAD }),
+    ),
+    (&["load", "0", "00000000009"], Said::Unread),
+    (&["load", "0", "4294967297"], Said::Unread),
+    (&["load", "0", "9999999999"], Said::Unread),
+    (&["load", "0", "+9"], Said::Unread),
+    (&["load", "0", "-9"], Said::Unread),
+    (&["load", "0", ""], Said::Unread),
+    (&["load", "0", "x"], Said::Unread),
     // Batches.
     (
         &["load", "0", "1", "--batch", "64"],
@@ -877,6 +1277,19 @@ const LOADS: &[Row] = &[
     ),
     (&["load", "0", "1", "--batch", "65"], Said::Unread),
     (&["load", "0", "1", "--batch", "0"], Said::Unread),
+    (
+        &["load", "0", "1", "--batch=003"],
+        Said::Load(LoadSaid { batch: 3, ..LOAD }),
+    ),
+    (
+        &["load", "0", "1", "--batch=0000000003"],
+        Said::Load(LoadSaid { batch: 3, ..LOAD }),
+    ),
+    (&["load", "0", "1", "--batch=00000000003"], Said::Unread),
+    (&["load", "0", "1", "--batch=65537"], Said::Unread),
+    (&["load", "0", "1", "--batch=4294967297"], Said::Unread),
+    (&["load", "0", "1", "--batch=+3"], Said::Unread),
+    (&["load", "0", "1", "--batch=x"], Said::Unread),
     // Lengths of pieces.
     (
         &["load", "0", "1", "--fragment=24"],
@@ -895,11 +1308,38 @@ const LOADS: &[Row] = &[
     (&["load", "0", "1", "--fragment=16"], Said::Unread),
     (&["load", "0", "1", "--fragment=28"], Said::Unread),
     (&["load", "0", "1", "--fragment=262152"], Said::Unread),
+    (
+        &["load", "0", "1", "--fragment=032"],
+        Said::Load(LoadSaid {
+            fragment: Some(32),
+            ..LOAD
+        }),
+    ),
+    (
+        &["load", "0", "1", "--fragment=0000000032"],
+        Said::Load(LoadSaid {
+            fragment: Some(32),
+            ..LOAD
+        }),
+    ),
+    (&["load", "0", "1", "--fragment=00000000032"], Said::Unread),
+    (&["load", "0", "1", "--fragment=0"], Said::Unread),
+    (&["load", "0", "1", "--fragment=4294967328"], Said::Unread),
+    (&["load", "0", "1", "--fragment=+32"], Said::Unread),
+    (&["load", "0", "1", "--fragment=x"], Said::Unread),
     // Words that are no items of it.
     (&["load", "0", "1", "--history"], Said::Unread),
     (&["load", "0", "1", "--trace"], Said::Unread),
+    (&["load", "0", "1", "--listen=h:1"], Said::Unread),
+    (&["load", "0", "1", "--runs=2"], Said::Unread),
     (&["load", "--", "0", "1"], Said::Unread),
     (&["load", "0", "1", "--help"], Said::Unread),
+    (&["load", "--help"], Said::Unread),
+    (&["load", "--version"], Said::Unread),
+    (&["load", "0", "1", "--version"], Said::Unread),
+    (&["load", "0", "1", "-h"], Said::Unread),
+    (&["load", "0", "1", "-"], Said::Unread),
+    (&["load", "0", "1", "--"], Said::Unread),
     (&["load", "0", "1\0"], Said::Unread),
 ];
 
