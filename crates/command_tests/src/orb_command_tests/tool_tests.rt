@@ -1,6 +1,6 @@
-//! `orb dump`, `orb refs` and `orb idl --file` over memory: each status with its note, and what is written then.
+//! `orb dump`, `orb refs`, `orb idl --file` and `orb audit` over memory: each status with its note, and what is written then.
 
-use super::rows::{EMPTY, Row, first_wrong};
+use super::rows::{EMPTY, Left, Row, first_wrong};
 
 /// The request of id 1 for `current` of `ping`.
 const PING: &[u8] =
@@ -219,6 +219,89 @@ const LISTED: &[Row<'static>] = &[
     },
 ];
 
+/// The trace of one ping through a pipe, and the same without its last line.
+const PING_TRACE: &[u8] =
+    b"pool 0 0 0 0 0 65536 67108864 1 128\nlane 100 1 0\n0 offer 0.0 0 1 2 100 0 48 run 0\n0 take 0 0\n0 finish 0 0 2\n0 collect 0.0 answered 0\n0 end 0.0 quiet\n0 collect 0.0 done\nentries 6\n";
+
+const CUT_TRACE: &[u8] =
+    b"pool 0 0 0 0 0 65536 67108864 1 128\nlane 100 1 0\n0 offer 0.0 0 1 2 100 0 48 run 0\n0 take 0 0\n0 finish 0 0 2\n0 collect 0.0 answered 0\n0 end 0.0 quiet\n0 collect 0.0 done\n";
+
+/// The trace of three urgent requests over two lanes: the second is lent the thread of the lower lane, and the third waits.
+const URGENT: &[u8] =
+    b"pool 1 1 1 3 120 65536 67108864 4 32\nlane 10 1 0\nlane 20 1 0\n0 offer 0.0 0 1 2 20 1 60 run 1\n0 offer 0.0 1 2 2 20 1 60 lent 0\n0 offer 0.0 2 3 2 20 1 60 kept\n0 take 0 1\n0 finish 0 1 0\n0 take 0 2\n0 finish 0 2 0\n0 take 1 0\n0 finish 1 0 0\n0 collect 0.0 answered 1\n0 collect 0.0 answered 2\n0 collect 0.0 answered 0\n0 end 0.0 quiet\n0 collect 0.0 done\nentries 14\n";
+
+/// The same, but the second is answered that it waits, though it has to be lent that thread.
+const URGENT_KEPT: &[u8] =
+    b"pool 1 1 1 3 120 65536 67108864 4 32\nlane 10 1 0\nlane 20 1 0\n0 offer 0.0 0 1 2 20 1 60 run 1\n0 offer 0.0 1 2 2 20 1 60 kept\n0 offer 0.0 2 3 2 20 1 60 kept\n0 take 0 1\n0 finish 0 1 0\n0 take 0 2\n0 finish 0 2 0\n0 take 1 0\n0 finish 1 0 0\n0 collect 0.0 answered 1\n0 collect 0.0 answered 2\n0 collect 0.0 answered 0\n0 end 0.0 quiet\n0 collect 0.0 done\nentries 14\n";
+
+/// An audit, read and written in pieces.
+const AUDIT: Row<'static> = Row {
+    words: &["audit"],
+    reads: &[40, 24],
+    writes: &[9, 5],
+    left: Left::NoPipe,
+    ..EMPTY
+};
+
+const AUDITED: &[Row<'static>] = &[
+    Row {
+        story: "no trace at all",
+        ..AUDIT
+    },
+    Row {
+        story: "a ping",
+        input: PING_TRACE,
+        output: b"run 0 legal yes fit no entries 6 lent 0 longest 0\n",
+        ..AUDIT
+    },
+    Row {
+        story: "a thread that is lent",
+        input: URGENT,
+        output: b"run 0 legal yes fit no entries 14 lent 1 longest 3\n",
+        ..AUDIT
+    },
+    Row {
+        story: "a request that waits and has to be lent a thread",
+        input: URGENT_KEPT,
+        status: 15,
+        note: "Audit(0, 1)",
+        output: b"run 0 legal no fit no entries 14 lent 0 longest 0\n",
+        ..AUDIT
+    },
+    Row {
+        story: "a trace without its last line",
+        input: CUT_TRACE,
+        status: 8,
+        note: "Trace(168)",
+        ..AUDIT
+    },
+    Row {
+        story: "a trace whose second read fails",
+        input: PING_TRACE,
+        failed_reads: &[1],
+        status: 3,
+        note: "ReadFault",
+        ..AUDIT
+    },
+    Row {
+        story: "a read that fails after a line at fault, which the first two reads give",
+        input: b"calls 1 run 1 lent 0 kept 0 full 0 removed 0 connections 1\n",
+        failed_reads: &[2],
+        status: 8,
+        note: "Trace(0)",
+        ..AUDIT
+    },
+    Row {
+        story: "a wrong entry, but the second write fails",
+        input: URGENT_KEPT,
+        failed_writes: &[1],
+        status: 4,
+        note: "WriteFault",
+        output: b"run 0 leg",
+        ..AUDIT
+    },
+];
+
 /// The URL has 16 bytes before its key.
 const LONGER: &[Row<'static>] = &[Row {
     story: "a reference that is longer than one may be",
@@ -234,4 +317,5 @@ fn each_tool_writes_its_lines_and_has_its_status(rt: HostRuntime) {
     assert_eq!(rt; first_wrong(&rt, rt.alloc(), TOLD), "");
     assert_eq!(rt; first_wrong(&rt, rt.alloc(), LISTED), "");
     assert_eq!(rt; first_wrong(&rt, rt.alloc(), LONGER), "");
+    assert_eq!(rt; first_wrong(&rt, rt.alloc(), AUDITED), "");
 }
