@@ -47,6 +47,8 @@ enum Plain {
     Script(ScriptFault),
     Check(CheckFault),
     Idl(IdlFault),
+    Trace(u64),
+    Audit(u32, u32),
 }
 
 const LINES: &[(Plain, &str)] = &[
@@ -92,6 +94,13 @@ const LINES: &[(Plain, &str)] = &[
         }),
         "refused: idl: 1:8: Clash",
     ),
+    (Plain::Trace(168), "trace: offset 168"),
+    (Plain::Trace(4_294_967_296), "trace: offset 4294967296"),
+    (Plain::Audit(0, 1), "audit: run 0 entry 1"),
+    (
+        Plain::Audit(2, 4_294_967_295),
+        "audit: run 2 entry 4294967295",
+    ),
     (Plain::Memory, "memory"),
     (Plain::Limit, "limit"),
     (Plain::Forward(3), "remote: status 3"),
@@ -135,6 +144,8 @@ fn note_of(plain: Plain) -> Note {
         Plain::Script(fault) => Note::Script(fault),
         Plain::Check(fault) => Note::Check(fault),
         Plain::Idl(fault) => Note::Idl(fault),
+        Plain::Trace(offset) => Note::Trace(offset),
+        Plain::Audit(run, entry) => Note::Audit(run, entry),
     }
 }
 
