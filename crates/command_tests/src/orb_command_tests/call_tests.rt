@@ -1,6 +1,10 @@
 //! Calls over a net in memory: what is sent, written and answered, in the order of work.
 
-use super::rows::{EMPTY, Left, Row, first_wrong};
+use super::rows::{EMPTY, Left, Row, first_wrong, holds};
+use crate::text_streams_tests::devices::spelled;
+use std::alloc::Global;
+use std::sync::Wait;
+use std::thread::Threads;
 
 /// The request of id 1 for `current` of `ping`, and its reply, a short: CORBA 3.0.3, sections 15.4.2 and 15.4.3.
 const CURRENT: &[u8] =
@@ -173,6 +177,23 @@ const ROWS: &[Row<'static>] = &[
         ..UNASKED
     },
     Row {
+        story: "a file of IDL of as many bytes as there may be, before the reference is looked at",
+        words: &["call", "--ref=none", "--op=none", "--idl=i"],
+        files: &[("i", b"")],
+        blanks: 1_048_576,
+        note: "Local(BadReference)",
+        ..UNASKED
+    },
+    Row {
+        story: "a file of IDL of one byte more",
+        words: &["call", "--ref=none", "--op=none", "--idl=i"],
+        files: &[("i", b"")],
+        blanks: 1_048_577,
+        status: 2,
+        note: "TooLong(Idl)",
+        ..UNASKED
+    },
+    Row {
         story: "a file of IDL whose read fails",
         words: &["call", "--ref=none", "--op=none", "--idl=i"],
         files: &[("i", b"")],
@@ -214,4 +235,142 @@ fn calls_answer_with_their_causes(rt: HostRuntime) {
 #[test]
 fn a_oneway_call_awaits_nothing(rt: HostRuntime) {
     assert_eq!(rt; first_wrong(&rt, rt.alloc(), ONEWAYS), "");
+}
+
+/// A oneway call of `go` with so many letters `a` in one of its words, and in what is sent where a call is asked for.
+#[derive(Clone, Copy)]
+struct Long {
+    /// What is before and after the letters in the word.
+    word: (&'static [u8], &'static [u8]),
+    letters: usize,
+    /// The other one of the reference and the arguments.
+    other: &'static str,
+    /// What is before and after the letters in what is sent.
+    sent: Option<(&'static [u8], &'static [u8])>,
+    row: Row<'static>,
+}
+
+const WROTE: Row<'static> = Row {
+    files: &[("i", b"interface T { oneway void go(in string s); };")],
+    output: b"[]\n",
+    ..EMPTY
+};
+
+const REFUSED: Row<'static> = Row {
+    status: 11,
+    output: &[],
+    ..WROTE
+};
+
+/// The argument begins at byte 48 of its request, with its length of four bytes, and ends with a NUL. The URL has 16 bytes before its key.
+const LONGEST: &[Long] = &[
+    Long {
+        word: (b"--args=[\"", b"\"]"),
+        letters: 262_091,
+        other: "--ref=corbaloc::1.2@h/k",
+        sent: Some((
+            b"GIOP\x01\x02\0\0\0\x03\xff\xf4\0\0\0\x01\0\0\0\0\0\0\0\0\0\0\0\x01k\0\0\0\0\0\0\x03go\0\0\0\0\0\0\0\0\0\0\0\x03\xff\xcc",
+            b"\0",
+        )),
+        row: Row {
+            story: "a request of 262,144 bytes",
+            ..WROTE
+        },
+    },
+    Long {
+        word: (b"--args=[\"", b"\"]"),
+        letters: 262_092,
+        other: "--ref=corbaloc::1.2@h/k",
+        sent: None,
+        row: Row {
+            story: "a request of one byte more",
+            note: "Local(BadArguments)",
+            ..REFUSED
+        },
+    },
+    Long {
+        word: (b"--ref=corbaloc::1.2@h/", b""),
+        letters: 65_520,
+        other: "--args=[\"b\"]",
+        sent: Some((
+            b"GIOP\x01\x02\0\0\0\x01\0\x12\0\0\0\x01\0\0\0\0\0\0\0\0\0\0\xff\xf0",
+            b"\0\0\0\x03go\0\0\0\0\0\0\0\0\0\x02b\0",
+        )),
+        row: Row {
+            story: "a reference of 65,536 bytes",
+            ..WROTE
+        },
+    },
+    Long {
+        word: (b"--ref=corbaloc::1.2@h/", b""),
+        letters: 65_521,
+        other: "--args=[\"b\"]",
+        sent: None,
+        row: Row {
+            story: "a reference of one byte more",
+            note: "Local(BadReference)",
+            ..REFUSED
+        },
+    },
+];
+
+/// Whether a row holds with this word, where this is left.
+fn holds_with<R: Wait + Threads + Sync>(
+    rt: &R,
+    alloc: Global,
+    long: &Long,
+    word: &[u8],
+    left: Left<'_>,
+) -> bool {
+    let Ok(word) = str::from_utf8(word) else {
+        return false;
+    };
+    let words = [
+        "call",
+        "--idl=i",
+        "--interface=IDL:T:1.0",
+        "--op=go",
+        long.other,
+        word,
+    ];
+    let row = Row {
+        words: &words,
+        left,
+        ..long.row
+    };
+    holds(rt, alloc, &row)
+}
+
+/// The same where what is sent is made, if a call is asked for.
+fn holds_over<R: Wait + Threads + Sync>(rt: &R, alloc: Global, long: &Long, word: &[u8]) -> bool {
+    let Some((front, back)) = long.sent else {
+        return holds_with(rt, alloc, long, word, Left::NoCall);
+    };
+    match spelled(alloc, front, b'a', long.letters, back) {
+        Ok(sent) => holds_with(rt, alloc, long, word, Left::Called(sent.as_slice())),
+        Err(_) => false,
+    }
+}
+
+fn is_so<R: Wait + Threads + Sync>(rt: &R, alloc: Global, long: &Long) -> bool {
+    let (front, back) = long.word;
+    match spelled(alloc, front, b'a', long.letters, back) {
+        Ok(word) => holds_over(rt, alloc, long, word.as_slice()),
+        Err(_) => false,
+    }
+}
+
+/// The story of the first of these that isn't so, or nothing.
+fn first_other<R: Wait + Threads + Sync>(rt: &R, alloc: Global, all: &[Long]) -> &'static str {
+    for long in all {
+        if !is_so(rt, alloc, long) {
+            return long.row.story;
+        }
+    }
+    ""
+}
+
+#[test]
+fn the_longest_calls_are_sent_and_longer_ones_refused(rt: HostRuntime) {
+    assert_eq!(rt; first_other(&rt, rt.alloc(), LONGEST), "");
 }

@@ -15,7 +15,7 @@ type Told = Answered<MemAcceptor, MemSource, MemSink>;
 
 /// What a run leaves besides its status, its note and its output.
 #[derive(Clone, Copy)]
-pub enum Left {
+pub enum Left<'a> {
     /// It doesn't matter.
     Any,
     /// No run of the pipe.
@@ -27,9 +27,9 @@ pub enum Left {
     /// So many runs of the server.
     Server(usize),
     /// Runs of the server over one acceptor: for each what its first client was sent, and nothing where it had none.
-    Sent(&'static [&'static [u8]]),
+    Sent(&'a [&'a [u8]]),
     /// The connection of a call, over which this was sent.
-    Called(&'static [u8]),
+    Called(&'a [u8]),
     /// No connection of a call.
     NoCall,
 }
@@ -67,7 +67,7 @@ pub struct Row<'a> {
     /// The note, as `noted` writes it.
     pub note: &'a str,
     pub output: &'a [u8],
-    pub left: Left,
+    pub left: Left<'a>,
 }
 
 /// The pipe of an empty input, whose devices don't fail.
@@ -200,7 +200,7 @@ fn is_called(told: &Told, want: &[u8]) -> bool {
     }
 }
 
-fn is_left(told: &Told, want: Left) -> bool {
+fn is_left(told: &Told, want: Left<'_>) -> bool {
     match want {
         Left::Any => true,
         Left::NoPipe => told.piped.is_none(),
