@@ -469,7 +469,27 @@ fn put_call(alloc: Global, words: &mut Vec<String>, port: u16) -> bool {
     }
 }
 
-/// Whether such a call ends with this status and writes this line. It is made again while nobody listens there, but where that is wanted.
+/// Whether a call of these words ends with this status and writes this line. It is made again while nobody listens there, but where that
+/// is wanted.
+fn ends_with<
+    R: net::Net<Listener = TcpListener, Stream = TcpStream>
+        + rt::Files
+        + rt::Clock
+        + Wait
+        + Threads
+        + Sync,
+>(rt: &R, alloc: Global, words: &[String], status: u8, line: &[u8]) -> bool {
+    for _ in 0..1_000 {
+        let (got, is_line) = main_of(rt, alloc, words, line);
+        if got == status || got != 5 {
+            return got == status && is_line;
+        }
+        thread::sleep(rt, Duration::from_millis(10));
+    }
+    false
+}
+
+/// The same of the call of `put_call`.
 fn call<
     R: net::Net<Listener = TcpListener, Stream = TcpStream>
         + rt::Files
@@ -479,17 +499,7 @@ fn call<
         + Sync,
 >(rt: &R, alloc: Global, port: u16, status: u8, line: &[u8]) -> bool {
     let mut words = Vec::new(alloc);
-    if !put_call(alloc, &mut words, port) {
-        return false;
-    }
-    for _ in 0..1_000 {
-        let (got, is_line) = main_of(rt, alloc, words.as_slice(), line);
-        if got == status || got != 5 {
-            return got == status && is_line;
-        }
-        thread::sleep(rt, Duration::from_millis(10));
-    }
-    false
+    put_call(alloc, &mut words, port) && ends_with(rt, alloc, words.as_slice(), status, line)
 }
 
 #[test]
@@ -510,6 +520,61 @@ fn a_call_is_served_over_loopback(rt: HostRuntime) {
 fn a_call_where_nobody_listens_is_a_fault_of_the_net(rt: HostRuntime) {
     let port = free_port(&rt).unwrap_or(0);
     assert!(rt; call(&rt, rt.alloc(), port, 5, b""));
+}
+
+/// Three lanes, and an object with the bands 0 to 99 and 100 to 200.
+const BANDED: &str =
+    "server = { slots = 1, per_slot = 1 }\npool = { lanes = [{ priority = 50, static = 1, dynamic = 0 }, { priority = 100, static = 1, dynamic = 0 }, { priority = 150, static = 1, dynamic = 0 }] }\nadapter = [{ name = \"main\", model = \"CLIENT_PROPAGATED\", priority = 100, bands = [{ low = 0, high = 99 }, { low = 100, high = 200 }] }]\nobject = [{ key = \"ping\", adapter = \"main\", interface = \"IDL:Orb/Ping:1.0\" }]\n";
+
+/// The bind of a band is a call that is posted and does not run.
+const BANDED_LINE: &[u8] = b"calls 2 run 1 lent 0 kept 0 full 0 removed 0 connections 1\n";
+
+/// The reference of that object at 127.0.0.1, before and after its port.
+const BANDED_IOR: (&str, &str) = (
+    "IOR:000000000000001149444c3a4f72622f50696e673a312e300000000000000001000000000000005c000102000000000a3132372e302e302e3100",
+    "0000000470696e670000000100000002000000340000000000000002000000280000000a0000000000000000006400000000002d00000010000000000000000200000063006400c8",
+);
+
+/// Puts the words of a call of `current` at the priority 150, by that reference with this port.
+fn put_banded_call(alloc: Global, words: &mut Vec<String>, port: u16) -> bool {
+    for word in ["call", "--op", "current", "--priority", "150", "--ref"] {
+        if !put_word(alloc, words, word) {
+            return false;
+        }
+    }
+    let (front, back) = BANDED_IOR;
+    match format!(in alloc; "{front}{port:04x}{back}") {
+        Ok(word) => words.push(word).is_ok(),
+        Err(_) => false,
+    }
+}
+
+/// Whether such a call writes the line of the priority 150.
+fn call_in_a_band<
+    R: net::Net<Listener = TcpListener, Stream = TcpStream>
+        + rt::Files
+        + rt::Clock
+        + Wait
+        + Threads
+        + Sync,
+>(rt: &R, alloc: Global, port: u16) -> bool {
+    let mut words = Vec::new(alloc);
+    put_banded_call(alloc, &mut words, port)
+        && ends_with(rt, alloc, words.as_slice(), 0, b"[150]\n")
+}
+
+#[test]
+fn a_call_binds_its_band_over_loopback(rt: HostRuntime) {
+    let alloc = rt.alloc();
+    let port = free_port(&rt).unwrap_or(0);
+    assert!(rt; fs::write(&rt, "banded.toml", BANDED).is_ok());
+    let (served, called) = thread::join(
+        &rt,
+        || serve(&rt, alloc, "banded.toml", port, BANDED_LINE),
+        || call_in_a_band(&rt, alloc, port),
+    );
+    assert!(rt; served && called);
+    assert!(rt; fs::remove_file(&rt, "banded.toml").is_ok());
 }
 
 /// One slot of two connections.
