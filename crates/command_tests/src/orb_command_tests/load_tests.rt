@@ -48,6 +48,45 @@ const ROWS: &[Row<'static>] = &[
         ..ONE
     },
     Row {
+        story: "the greatest seed",
+        words: &["load", "4294967295", "1"],
+        ..ONE
+    },
+    Row {
+        story: "pieces that are as long as a message may be",
+        words: &["load", "0", "1", "--fragment", "262144"],
+        ..ONE
+    },
+    Row {
+        story: "a configuration that is no TOML",
+        words: &["load", "1", "1", "--config", "c"],
+        files: &[("c", b"\xff")],
+        status: 2,
+        note: "Config(NotToml at )",
+        output: &[],
+        ..ONE
+    },
+    Row {
+        story: "a configuration that is too long",
+        words: &["load", "1", "1", "--config", "c"],
+        files: &[("c", b"")],
+        blanks: 1_048_577,
+        status: 2,
+        note: "TooLong(Config)",
+        output: &[],
+        ..ONE
+    },
+    Row {
+        story: "a configuration that can't be read",
+        words: &["load", "1", "1", "--config", "c"],
+        files: &[("c", THREE)],
+        failed_files: &[0],
+        status: 3,
+        note: "ReadFault",
+        output: &[],
+        ..ONE
+    },
+    Row {
         story: "no such configuration",
         words: &["load", "1", "1", "--config", "none"],
         status: 10,
