@@ -418,6 +418,15 @@ const ROWS: &[Row] = &[
         end: AuditEnd::NotTrace(0),
         ..PLAIN
     },
+    // A seventeenth lane.
+    Row {
+        parts: &[
+            b"pool 1 0 0 0 0 65536 67108864 1 128\nlane 1 1 0\nlane 2 1 0\nlane 3 1 0\nlane 4 1 0\nlane 5 1 0\nlane 6 1 0\nlane 7 1 0\nlane 8 1 0\nlane 9 1 0\n",
+            b"lane 10 1 0\nlane 11 1 0\nlane 12 1 0\nlane 13 1 0\nlane 14 1 0\nlane 15 1 0\nlane 16 1 0\nlane 17 1 0\n",
+        ],
+        end: AuditEnd::NotTrace(219),
+        ..PLAIN
+    },
     // A failed read ends the audit, unless a whole line before it is at fault.
     Row {
         failed_reads: &[0],
