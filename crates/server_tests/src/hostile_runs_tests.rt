@@ -1,5 +1,5 @@
 //! Runs whose reads, writes and accepts fail, that meet a limit, or that many clients storm: what each connection leaves, what was
-//! called for it, and that the others are whole.
+//! called for it, that the others are whole, and that an audit says of each run that it is legal and fit.
 ghost use Rattle.orb_base.specs.declared.outcome.Outcome.TheVariants.{Returned};
 ghost use Rattle.std.specs.Prelude.{◌≡◌, ◌∷◌, [], IfOk};
 
@@ -18,6 +18,9 @@ use std::alloc::Global;
 use std::collections::LinkedList;
 use std::sync::Wait;
 use std::thread::Threads;
+use text_streams::WriteAll;
+use trace_audit::audit;
+use trace_lines::write_trace;
 use turn_cell::Entry;
 
 /// Answers each request with a body of two bytes, so that a reply has 26.
@@ -408,6 +411,26 @@ fn is_wanted(run: &Run<MemSource, MemSink>, wanted: Wanted<'_>) -> bool {
     }
 }
 
+/// Whether an audit of the trace of a history says that it is legal and fit.
+fn is_fit(alloc: Global, setup: &Setup, history: &[Entry<Lanes>]) -> bool {
+    let mut text = MemSink::new(alloc, List::new(alloc), List::new(alloc));
+    let pool = setup.pool();
+    let (slots, per_slot) = (setup.slots(), setup.per_slot());
+    let wrote = write_trace(alloc, &mut text, pool, slots, per_slot, history);
+    let mut bytes = Octets::new(alloc);
+    if wrote != Ok(WriteAll::Whole) || bytes.append(text.held()).is_err() {
+        return false;
+    }
+    let mut source = MemSource::new(bytes, List::new(alloc), List::new(alloc));
+    match audit(alloc, &mut source) {
+        Ok(verdicts) => match verdicts.as_slice() {
+            [verdict] => verdict.first_wrong.is_none() && verdict.fit,
+            _ => false,
+        },
+        Err(_) => false,
+    }
+}
+
 /// The one call of the server.
 fn serves<R: Wait + Threads + Sync>(
     rt: &R,
@@ -421,7 +444,7 @@ fn serves<R: Wait + Threads + Sync>(
         return false;
     }
     match serve_run(rt, alloc, setup, &short, slots, &Open) {
-        Ok(run) => is_wanted(&run, wanted),
+        Ok(run) => is_wanted(&run, wanted) && is_fit(alloc, setup, run.history.as_slice()),
         Err(_) => false,
     }
 }
