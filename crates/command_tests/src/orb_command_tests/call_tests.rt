@@ -243,12 +243,27 @@ struct Long {
     /// What is before and after the letters in the word.
     word: (&'static [u8], &'static [u8]),
     letters: usize,
-    /// The other one of the reference and the arguments.
-    other: &'static str,
     /// What is before and after the letters in what is sent.
     sent: Option<(&'static [u8], &'static [u8])>,
     row: Row<'static>,
 }
+
+/// The words of such a call but for the long one: the arguments, or the reference.
+const TO_K: &[&str] = &[
+    "call",
+    "--idl=i",
+    "--interface=IDL:T:1.0",
+    "--op=go",
+    "--ref=corbaloc::1.2@h/k",
+];
+
+const OF_B: &[&str] = &[
+    "call",
+    "--idl=i",
+    "--interface=IDL:T:1.0",
+    "--op=go",
+    "--args=[\"b\"]",
+];
 
 const WROTE: Row<'static> = Row {
     files: &[("i", b"interface T { oneway void go(in string s); };")],
@@ -267,23 +282,23 @@ const LONGEST: &[Long] = &[
     Long {
         word: (b"--args=[\"", b"\"]"),
         letters: 262_091,
-        other: "--ref=corbaloc::1.2@h/k",
         sent: Some((
             b"GIOP\x01\x02\0\0\0\x03\xff\xf4\0\0\0\x01\0\0\0\0\0\0\0\0\0\0\0\x01k\0\0\0\0\0\0\x03go\0\0\0\0\0\0\0\0\0\0\0\x03\xff\xcc",
             b"\0",
         )),
         row: Row {
             story: "a request of 262,144 bytes",
+            words: TO_K,
             ..WROTE
         },
     },
     Long {
         word: (b"--args=[\"", b"\"]"),
         letters: 262_092,
-        other: "--ref=corbaloc::1.2@h/k",
         sent: None,
         row: Row {
             story: "a request of one byte more",
+            words: TO_K,
             note: "Local(BadArguments)",
             ..REFUSED
         },
@@ -291,23 +306,23 @@ const LONGEST: &[Long] = &[
     Long {
         word: (b"--ref=corbaloc::1.2@h/", b""),
         letters: 65_520,
-        other: "--args=[\"b\"]",
         sent: Some((
             b"GIOP\x01\x02\0\0\0\x01\0\x12\0\0\0\x01\0\0\0\0\0\0\0\0\0\0\xff\xf0",
             b"\0\0\0\x03go\0\0\0\0\0\0\0\0\0\x02b\0",
         )),
         row: Row {
             story: "a reference of 65,536 bytes",
+            words: OF_B,
             ..WROTE
         },
     },
     Long {
         word: (b"--ref=corbaloc::1.2@h/", b""),
         letters: 65_521,
-        other: "--args=[\"b\"]",
         sent: None,
         row: Row {
             story: "a reference of one byte more",
+            words: OF_B,
             note: "Local(BadReference)",
             ..REFUSED
         },
@@ -315,26 +330,18 @@ const LONGEST: &[Long] = &[
 ];
 
 /// Whether a row holds with this word, where this is left.
-fn holds_with<R: Wait + Threads + Sync>(
+fn holds_with<'a, R: Wait + Threads + Sync>(
     rt: &R,
     alloc: Global,
     long: &Long,
-    word: &[u8],
-    left: Left<'_>,
+    word: &'a [u8],
+    left: Left<'a>,
 ) -> bool {
     let Ok(word) = str::from_utf8(word) else {
         return false;
     };
-    let words = [
-        "call",
-        "--idl=i",
-        "--interface=IDL:T:1.0",
-        "--op=go",
-        long.other,
-        word,
-    ];
     let row = Row {
-        words: &words,
+        last: Some(word),
         left,
         ..long.row
     };

@@ -1,6 +1,8 @@
 //! Rows of the tests: runs of the program over memory, each with what it is to answer and to write.
 
-use crate::text_streams_tests::devices::{list, puts_words, same, sink, source, spelled, store};
+use crate::text_streams_tests::devices::{
+    list, puts_word, puts_words, same, sink, source, spelled, store,
+};
 use orb_base::{List, MemAcceptor, MemFiles, MemLink, MemSink, MemSource, NoMemory};
 use orb_command::*;
 use orb_nets::{MemNet, MemSlot};
@@ -40,6 +42,8 @@ pub struct Row<'a> {
     /// What the run shows.
     pub story: &'static str,
     pub words: &'a [&'a str],
+    /// One more word after them.
+    pub last: Option<&'a str>,
     /// The names of the files with their bytes.
     pub files: &'a [(&'a str, &'a [u8])],
     /// How many blanks are after the bytes of each file.
@@ -74,6 +78,7 @@ pub struct Row<'a> {
 pub const EMPTY: Row<'static> = Row {
     story: "an empty input",
     words: &["pipe"],
+    last: None,
     files: &[],
     blanks: 0,
     failed_files: &[],
@@ -251,10 +256,20 @@ fn runs<R: Wait + Threads + Sync>(rt: &R, alloc: Global, row: &Row<'_>, words: &
     }
 }
 
+/// Whether the last word of a row, where it has one, could be put after the others.
+fn puts_last(alloc: Global, words: &mut Vec<String>, last: Option<&str>) -> bool {
+    match last {
+        Some(word) => puts_word(alloc, words, word),
+        None => true,
+    }
+}
+
 /// Whether a row's run answers and writes what it is to.
 pub fn holds<R: Wait + Threads + Sync>(rt: &R, alloc: Global, row: &Row<'_>) -> bool {
     let mut words = Vec::new(alloc);
-    puts_words(alloc, &mut words, row.words) && runs(rt, alloc, row, words.as_slice())
+    puts_words(alloc, &mut words, row.words)
+        && puts_last(alloc, &mut words, row.last)
+        && runs(rt, alloc, row, words.as_slice())
 }
 
 /// The story of the first of these rows, in order, that doesn't hold, or nothing.

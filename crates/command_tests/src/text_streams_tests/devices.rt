@@ -97,7 +97,7 @@ pub fn store(
 }
 
 /// Whether a word could be put after others.
-fn puts_word(alloc: Global, all: &mut Vec<String>, word: &str) -> bool {
+pub fn puts_word(alloc: Global, all: &mut Vec<String>, word: &str) -> bool {
     match String::from_str(alloc, word) {
         Ok(word) => all.push(word).is_ok(),
         Err(_) => false,
