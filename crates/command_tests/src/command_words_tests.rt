@@ -831,6 +831,10 @@ const CALLS: &[Row] = &[
             ..CALL
         }),
     ),
+];
+
+/// Calls with options left out, last without a value, and twice.
+const CALL_PARTS: &[Row] = &[
     // Each left out of all.
     (
         &[
@@ -942,6 +946,10 @@ const CALLS: &[Row] = &[
         ],
         Said::Unread,
     ),
+];
+
+/// Calls with numbers, and with values that are empty or begin with a dash.
+const CALL_VALUES: &[Row] = &[
     // Priorities: both ends and one past, digits, a sign, zeros before.
     (
         &["call", "--ref=r", "--op=o", "--priority=0"],
@@ -1070,6 +1078,10 @@ const CALLS: &[Row] = &[
             ..CALL
         }),
     ),
+];
+
+/// Calls with other words.
+const CALL_STRANGERS: &[Row] = &[
     // Words that are no options of it.
     (&["call", "r", "--ref=r", "--op=o"], Said::Unread),
     (&["call", "--ref=r", "--op=o", "--config=c"], Said::Unread),
@@ -1096,6 +1108,21 @@ const CALLS: &[Row] = &[
 #[test]
 fn the_words_of_call(rt: HostRuntime) {
     assert!(rt; all_mean(rt.alloc(), CALLS));
+}
+
+#[test]
+fn each_option_of_call_may_be_left_out_and_has_one_value(rt: HostRuntime) {
+    assert!(rt; all_mean(rt.alloc(), CALL_PARTS));
+}
+
+#[test]
+fn the_values_of_call(rt: HostRuntime) {
+    assert!(rt; all_mean(rt.alloc(), CALL_VALUES));
+}
+
+#[test]
+fn other_words_of_call(rt: HostRuntime) {
+    assert!(rt; all_mean(rt.alloc(), CALL_STRANGERS));
 }
 
 const LOADS: &[Row] = &[
