@@ -34,7 +34,7 @@ entries_get jobs before [] i l g = absurd (none-some l g)
 entries_get jobs before (x ∷ xs) zero l g = ap (λ (y : TraceLine). Some (entry_by jobs before y)) (same_Some x l g) ∙ ap (λ (b : List TraceLine). Some (entry_by jobs b l)) (sym (append-nil before))
 entries_get jobs before (x ∷ xs) (suc i) l g = entries_get jobs (before ++ x ∷ []) xs i l g ∙ ap (λ (b : List TraceLine). Some (entry_by jobs b l)) (append_assoc before (x ∷ []) (take i xs))
 
-length-entries : (jobs : List Job) (before ls : List TraceLine) → length (entries_after jobs before ls) ≡ length ls
+pub length-entries : (jobs : List Job) (before ls : List TraceLine) → length (entries_after jobs before ls) ≡ length ls
 length-entries jobs before [] = refl
 length-entries jobs before (x ∷ xs) = ap suc (length-entries jobs (before ++ x ∷ []) xs)
 

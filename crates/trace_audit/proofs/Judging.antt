@@ -1,5 +1,5 @@
 -- The verdict on one run, by how many entries come before the first wrong one.
-use Rattle.std.proofs.Common.{◌≡◌, ℕ, zero, suc, ◌+◌, ◌<◌, ◌≤◌, ◌==◌, ◌&&◌, ◌≢◌, Bool, true, false, IsTrue, List, [], ◌∷◌, ◌++◌, length, take, Option, Some, None, refl, sym, ap, subst, ◌∙◌, arith}
+use Rattle.std.proofs.Common.{◌≡◌, ℕ, zero, suc, ◌+◌, ◌<◌, ◌≤◌, ◌==◌, ◌&&◌, ◌≢◌, Bool, true, false, IsTrue, List, [], ◌∷◌, length, take, Option, Some, None, refl, sym, ap, subst, ◌∙◌, arith}
 use Rattle.std.specs.Prelude.{◌↔◌, if◌then◌else◌}
 use Rattle.std.proofs.lemmas.Bool.{eqb-true, eq-eqb, both_ways}
 use Rattle.std.proofs.lemmas.List.{take_all}
@@ -7,12 +7,12 @@ use Rattle.lane_machine.specs.Callers.{AreFit}
 use Rattle.lane_machine.specs.Histories.{History, IsLegal}
 use Rattle.lane_machine.specs.Machine.{step}
 use Rattle.lane_machine.specs.State.{State, Opens}
-use Rattle.trace_lines.specs.ReadBack.{history_of, entries_after, jobs_of}
+use Rattle.trace_lines.specs.ReadBack.{history_of, jobs_of}
 use Rattle.trace_lines.specs.declared.trace_line.TraceLine.{TraceLine}
-use Rattle.orb_base.specs.declared.job.Job.{Job}
 use Rattle.trace_reading.specs.Traces.{Trace, IsTrace}
 use Rattle.fit_audit.specs.Counts.{lent, longest}
 use Rattle.lane_audit.specs.Verdicts.{IsFirstWrong}
+use Rattle.lane_audit.proofs.Runs.{length-entries}
 use Rattle.trace_audit.specs.Counting.{wrong_of}
 use Rattle.trace_audit.specs.Verdicts.{opening_of, IsWrongFrom, counted, IsVerdict}
 use Rattle.trace_audit.specs.declared.verdict.Verdict.{Verdict}
@@ -23,13 +23,9 @@ legal_front s h zero l = tt
 legal_front s [] (suc n) l = tt
 legal_front s (e ∷ es) (suc n) l = (l.0, l.1, l.2, legal_front (step s e.call).0 es n l.3)
 
-entry_for_each : (jobs : List Job) (before ls : List TraceLine) → length (entries_after jobs before ls) ≡ length ls
-entry_for_each jobs before [] = refl
-entry_for_each jobs before (x ∷ xs) = ap suc (entry_for_each jobs (before ++ x ∷ []) xs)
-
 -- an entry for each line
 as_many : (lines : List TraceLine) → length (history_of lines) ≡ length lines
-as_many lines = entry_for_each (jobs_of lines) [] lines
+as_many lines = length-entries (jobs_of lines) [] lines
 
 -- no more entries come before the first wrong one than there are
 pub before_within : (s : State) (lines : List TraceLine) (before : ℕ) → IsFirstWrong s (history_of lines) before → before ≤ length lines
