@@ -54,7 +54,7 @@ use Rattle.client_calls.specs.Calls.{Calls, CountsReads, CountsWrites}
 use Rattle.client_calls.specs.Replies.{Outcome as CallOutcome}
 use Rattle.client_calls.specs.declared.call_fault.CallFault.{CallFault}
 use Rattle.client_calls.specs.declared.call_fault.CallFault.TheVariants as fault
-use Rattle.client_runs.specs.Exchanges.{CallsOnce, TellsOf}
+use Rattle.client_runs.specs.Exchanges.{TellsOf}
 use Rattle.client_runs.specs.Interfaces.{Knows}
 use Rattle.client_runs.specs.Runs as calls
 use Rattle.client_runs.specs.declared.call_end.CallEnd.{CallEnd}
@@ -249,11 +249,11 @@ known_good words name call.NoMemory files files' none store knows = refl
 known_good words name call.Done files files' none store knows = refl
 
 -- what a call came to over a source and a sink, and what was told of it
-abbrev CallsSo : CallEnd → CallOutcome → Asked → SourceState → SourceState → SinkState → SinkState → SinkState → SinkState → Type 0
-CallsSo end outcome asked s s' o o' out out' = Calls outcome asked s s' o o' × TellsOf end outcome asked.operation out out'
+abbrev ToldSo : CallEnd → CallOutcome → Asked → SourceState → SourceState → SinkState → SinkState → SinkState → SinkState → Type 0
+ToldSo end outcome asked s s' o o' out out' = Calls outcome asked s s' o o' × TellsOf end outcome asked.operation out out'
 
 told_good : (words : CallWords) (end : CallEnd) (outcome : CallOutcome) (asked : Asked) (s s' : SourceState) (o o' out out' : SinkState)
-    → ¬ Rose s.faults s'.faults → ¬ Rose o.faults o'.faults → ¬ Rose out.faults out'.faults → CallsSo end outcome asked s s' o o' out out'
+    → ¬ Rose s.faults s'.faults → ¬ Rose o.faults o'.faults → ¬ Rose out.faults out'.faults → ToldSo end outcome asked s s' o o' out out'
     → Good (Call words) (called.note_of_end end)
 told_good words call.Done (Ok values) asked s s' o o' out out' unread unwritten unsaid h = refl
 told_good words call.WriteFault (Ok values) asked s s' o o' out out' unread unwritten unsaid h = absurd (unsaid h.1.1)

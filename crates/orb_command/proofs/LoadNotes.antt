@@ -26,7 +26,7 @@ use Rattle.orb_command.specs.declared.note.Note.{Note}
 use Rattle.orb_command.specs.declared.note.Note.TheVariants.{Nothing, Usage, Config, Idl, Script, Check, TooLong, ReadFault, WriteFault, NetFault, Input, Absent, Reference, Local, System, User, Forward, Peer, PeerBody, Closed, Memory, Limit, Trace, Audit}
 use Rattle.orb_command.specs.Command.{status_of, Reports}
 use Rattle.orb_command.specs.Faults.{FiledFaults, LoadFaults}
-use Rattle.orb_command.specs.LoadAnswer.{note_of_end, RanLoad, LoadsBy, LoadAnswers}
+use Rattle.orb_command.specs.LoadAnswer.{note_of_end, RanLoad, LoadsBy}
 use Rattle.orb_command.specs.Moment.{Moment}
 use Rattle.orb_command.specs.SetupNotes.{setup_note}
 use Rattle.orb_command.proofs.AtLaws.{broker_faults, broker_wanting}

@@ -1,5 +1,5 @@
 -- How a command that goes well may end: no file that its words or its configuration name is refused, and no count of faults rose.
-use Rattle.std.specs.Prelude.{ℕ, ◌⊎◌, ◌==◌, Bool, true, List, [], ◌∷◌, Option, Some, None, Err}
+use Rattle.std.specs.Prelude.{ℕ, ◌⊎◌, ◌==◌, Bool, List, [], ◌∷◌, Option, Some, None, Err}
 use Rattle.std.specs.List.{list_any}
 use Rattle.orb_base.specs.Filing.{FilesState}
 use Rattle.orb_base.specs.Outside.{SourceState, SinkState, Rose}
@@ -20,24 +20,28 @@ use Rattle.command_words.specs.declared.meaning.Meaning.{Meaning}
 use Rattle.command_words.specs.declared.meaning.Meaning.TheVariants.{Pipe, Serve, Dump, Audit, Refs, RefsAt, Idl, Call, Load, Unread}
 use Rattle.orb_command.specs.Moment.{Moment}
 
--- this reason blames a file: it is absent, too long, or has a fault. A failed read and memory that ran out blame none
+-- this reason for which a setup has no servants blames a file: it is absent, too long, or has a fault. A failed read and memory that ran out
+-- blame none
 abbrev pub BlamesServing : ServingFault → Type 0
 BlamesServing serving.ReadFault = ⊥
 BlamesServing serving.NoMemory = ⊥
 BlamesServing _ = Unit {0}
 
+-- this reason for which there is no setup with servants blames the configuration, or a file that it names
 abbrev pub BlamesSetup : SetupEnd → Type 0
 BlamesSetup (setup.Unserved why) = BlamesServing why
 BlamesSetup setup.ReadFault = ⊥
 BlamesSetup setup.NoMemory = ⊥
 BlamesSetup _ = Unit {0}
 
+-- this end of a listing blames the file
 abbrev pub BlamesListed : IdlEnd → Type 0
 BlamesListed (listed.Refused f) = Unit {0}
 BlamesListed listed.Absent = Unit {0}
 BlamesListed listed.TooLong = Unit {0}
 BlamesListed _ = ⊥
 
+-- this reason for which a file gives a call no interfaces blames the file
 abbrev pub BlamesKnown : FileFault → Type 0
 BlamesKnown known.ReadFault = ⊥
 BlamesKnown _ = Unit {0}
