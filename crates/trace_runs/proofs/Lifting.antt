@@ -1,7 +1,7 @@
 -- What follows the text of a run is read as if nothing were before it.
-use Rattle.std.proofs.Common.{◌≡◌, ℕ, ◌<◌, ◌≤◌, ◌⊎◌, Bool, true, false, inl, inr, List, [], ◌∷◌, ◌++◌, length, map, Some, None, refl, sym, ap, subst, ◌∙◌, arith, append_assoc}
+use Rattle.std.proofs.Common.{◌≡◌, ℕ, ◌⊎◌, Bool, true, false, inl, inr, List, [], ◌∷◌, ◌++◌, length, map, refl, sym, ap, subst, ◌∙◌, arith, append_assoc}
 use Rattle.std.specs.List.{All, flat_map}
-use Rattle.std.proofs.lemmas.List.Elements.{All-head, All-tail, All-cons}
+use Rattle.std.proofs.lemmas.List.Elements.{All-tail}
 use Rattle.trace_lines.specs.ReadBack.{history_of}
 use Rattle.trace_lines.specs.Summaries.{summary_of}
 use Rattle.trace_lines.specs.declared.trace_line.TraceLine.{TraceLine}
@@ -12,8 +12,8 @@ use Rattle.trace_reading.proofs.OneReading.{pieces, Other, after_head, grouped, 
 use Rattle.trace_reading.proofs.Pieces.{Piece, Told, Said, entry_piece, piece_line, piece_text, run_pieces, said_pieces, run_printed, run_fits}
 use Rattle.trace_reading.proofs.Printed.{head_of}
 use Rattle.trace_runs.specs.Begun.{HasNoFeed}
-use Rattle.trace_runs.specs.Reading.{HasNoSummary, summary_text}
-use Rattle.trace_runs.proofs.Rests.{Next, next_line}
+use Rattle.trace_runs.specs.Reading.{HasNoSummary}
+use Rattle.trace_runs.proofs.Rests.{next_line}
 use Rattle.trace_runs.proofs.Following.{more_lanes, more_lines, no_lane}
 
 -- the summary of these lines
