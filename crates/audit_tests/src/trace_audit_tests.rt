@@ -354,7 +354,7 @@ const ROWS: &[Row] = &[
         output: b"run 0 legal no fit no entries 8 lent 0 longest 0\n",
         ..PLAIN
     },
-    // Runs one after another, with their summaries or without; the first wrong one is told.
+    // Runs one after another, with their summaries or without; the first wrong one is reported.
     Row {
         parts: &[
             PING,
