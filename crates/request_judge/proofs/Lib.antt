@@ -1,2 +1,4 @@
+pub mod Halls
+pub mod Notices
 pub mod OneVerdict
 pub mod Runs

@@ -34,7 +34,7 @@ one_served setup a b x y same h k = sym h ∙ ap (served_at setup) same ∙ k
 some_none : {A : Type 0} (x : A) → Some x ≡ None → ⊥
 some_none x h = absurd (cc)
 
-asks_one : (setup : SetupData) (r : Request) (a b : Result (Served × Contexts) Refusal) → Asks setup r a → Asks setup r b → a ≡ b
+pub asks_one : (setup : SetupData) (r : Request) (a b : Result (Served × Contexts) Refusal) → Asks setup r a → Asks setup r b → a ≡ b
 asks_one setup r (Ok (s, t)) (Ok (s', t')) h k =
     let same = same_Some s s' (one_served setup h.object_key k.object_key (Some s) (Some s') (one_key r h.object_key k.object_key h.target k.target) h.found k.found) in
     let told = one_told r.contexts t t' h.tells k.tells in
@@ -81,7 +81,7 @@ binds_one pool range (Err _) b h k = absurd h
 
 -- ---- a run
 
-is_none : {A : Type 0} (o : Option A) → IsSome o → o ≡ None → ⊥
+pub is_none : {A : Type 0} (o : Option A) → IsSome o → o ≡ None → ⊥
 is_none None h k = absurd (cc)
 is_none (Some x) h k = absurd (cc)
 

@@ -4,6 +4,7 @@ use Rattle.orb_base.specs.JobRecord.{JobRecord}
 use Rattle.orb_base.specs.declared.conn_id.ConnId.{ConnId}
 use Rattle.orb_base.specs.declared.due.Due.{Due}
 use Rattle.orb_base.specs.declared.due.Due.TheVariants as due
+use Rattle.orb_base.specs.declared.notice.Notice.{Notice}
 use Rattle.orb_base.specs.declared.notice.What.{What}
 use Rattle.orb_base.specs.declared.notice.What.TheVariants as what
 use Rattle.orb_base.specs.declared.order.Order.{Order}
@@ -32,6 +33,16 @@ job_of conn serial order size r place = record {
   operation = r.operation;
   body = r.body;
 }
+
+-- an answer without a run where a reply is due, and none where it isn't
+abbrev pub notice_when : Due → ConnId → Order → ℕ → What → Option Notice
+notice_when due.Nothing conn order id what = None
+notice_when due.Early conn order id what = Some (record { conn = conn; order = order; id = id; what = what })
+notice_when due.Late conn order id what = Some (record { conn = conn; order = order; id = id; what = what })
+
+-- the same for a request
+abbrev pub notice_of : ConnId → Order → Request → What → Option Notice
+notice_of conn order r what = notice_when (due_of r.flags) conn order r.id what
 
 -- an answer of the reading side where a reply is due, and none where it isn't
 abbrev pub told_when : Due → ConnId → Order → ℕ → What → Option LaneCall

@@ -1,8 +1,9 @@
 -- The objects of a setup, as requests see them.
-use Rattle.std.specs.Prelude.{ℕ, List, Option, slice_get}
+use Rattle.std.specs.Prelude.{ℕ, Bool, false, List, Option, slice_get, is_some}
 use Rattle.std.specs.Option.{option_map, option_and_then}
 use Rattle.orb_base.specs.declared.priority_model.PriorityModel.{PriorityModel}
 use Rattle.priority_models.specs.declared.transform.TransformRow.{TransformRow}
+use Rattle.giop_messages.specs.Message.{Target, key, profile, addressing}
 use Rattle.adapter_policies.specs.Index.{number_from}
 use Rattle.adapter_policies.specs.SetupData.{AdapterData, SetupData}
 use Rattle.adapter_policies.specs.declared.object_spec.ObjectSpec.{ObjectSpec}
@@ -29,4 +30,10 @@ served_of setup number = option_and_then (served_as setup number) (slice_get set
 
 -- the first object of a key, where there is one and its adapter is there
 abbrev pub served_at : SetupData → List ℕ → Option Served
-served_at setup key = option_and_then (served_of setup) (number_from 0 setup.objects key)
+served_at setup object_key = option_and_then (served_of setup) (number_from 0 setup.objects object_key)
+
+-- the target is the key of an object that an adapter serves
+abbrev pub is_here : SetupData → Target → Bool
+is_here setup (key object_key) = is_some (served_at setup object_key)
+is_here setup (profile _) = false
+is_here setup (addressing _ _ _) = false

@@ -11,23 +11,33 @@ use lane_machine::LaneCall;
 use orb_base::{Arc, ConnId, Due, Job, NoMemory, Notice, Octets, Order, Text, What};
 use std::alloc::Global;
 
-/// An answer of the reading side, where a reply is due.
-fn posted(conn: ConnId, order: Order, request: &Asked<'_>, what: What) -> Option<LaneCall>
-    ensures { result ≡ Spec.posted conn order (request_of request.now) what }
+/// What a client is to be answered without a run, where a reply is due.
+pub fn notice_of(conn: ConnId, order: Order, request: &Asked<'_>, what: What) -> Option<Notice>
+    ensures { result ≡ Spec.notice_of conn order (request_of request.now) what }
 {
     match due_of(request.flags) {
         Due::Nothing => None,
-        _ => Some(LaneCall::Post(Notice {
+        _ => Some(Notice {
             conn,
             order,
             id: request.id,
             what,
-        })),
+        }),
     }
 }
 
-/// The job of a request that runs here. Copies the operation and the body.
-fn job_of(
+/// An answer of the reading side, where a reply is due.
+#[tactic(auto, using(crate::proofs::Notices::posts_the_notice))]
+fn posted(conn: ConnId, order: Order, request: &Asked<'_>, what: What) -> Option<LaneCall>
+    ensures { result ≡ Spec.posted conn order (request_of request.now) what }
+{
+    let notice = notice_of(conn, order, request, what)?;
+    Some(LaneCall::Post(notice))
+}
+
+/// The job of a request that runs here, as the call of this number of its connection; `size` is the length of its message in bytes. Copies
+/// the operation and the body.
+pub fn job_of(
     alloc: Global,
     conn: ConnId,
     serial: u32,

@@ -18,7 +18,7 @@ use service_contexts::{Contexts, contexts_at};
 pub const BIND_OPERATION: &[u8] = b"_bind_priority_band";
 
 /// The object of a request, and what its contexts tell.
-fn asked<'a>(setup: &'a Setup, request: &Asked<'_>) -> Result<(Served<'a>, Contexts), Refusal>
+pub fn asked<'a>(setup: &'a Setup, request: &Asked<'_>) -> Result<(Served<'a>, Contexts), Refusal>
     ensures { Spec.Asks setup.now (request_of request.now) result }
 {
     let PartTarget::Key(key) = &request.target else {

@@ -1,8 +1,10 @@
 //! Objects as requests see them.
 ghost use Rattle.std.specs.Prelude.{◌≡◌};
+ghost use Rattle.giop_messages.specs.PartsView.{parts_target};
 ghost use Rattle.request_judge.specs.Served as Spec;
 
 use adapter_policies::{ObjectSpec, Setup};
+use giop_messages::PartTarget;
 use orb_base::{Priority, PriorityModel};
 use priority_models::Transform;
 use std::marker::Model;
@@ -49,4 +51,14 @@ pub fn served_at<'a>(setup: &'a Setup, key: &[u8]) -> Option<Served<'a>>
     let number = setup.find(key)?;
     let object = setup.object(number)?;
     served_as(setup, number, object)
+}
+
+/// Whether a target is the key of an object that an adapter serves. Takes no memory; the work is that of `served_at`.
+pub fn is_here(setup: &Setup, target: &PartTarget<'_>) -> bool
+    ensures { result ≡ Spec.is_here setup.now (parts_target target.now) }
+{
+    match target {
+        PartTarget::Key(key) => served_at(setup, key).is_some(),
+        PartTarget::Profile { .. } | PartTarget::Addressing { .. } => false,
+    }
 }
