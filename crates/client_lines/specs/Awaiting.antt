@@ -1,5 +1,5 @@
 -- What a message is to a client that awaits a reply: CORBA 3.0.3, section 15.4; which messages are passed over is own profile.
-use Rattle.std.specs.Prelude.{◌≡◌, ℕ, ◌==◌, Bool, Option, Some, None, if◌then◌else◌}
+use Rattle.std.specs.Prelude.{◌≡◌, ℕ, ◌==◌, Bool, Some, None, if◌then◌else◌}
 use Rattle.orb_base.specs.declared.order.Order.{Order}
 use Rattle.banded_links.specs.declared.bind_client.TheConstants.{NO_EXCEPTION}
 use Rattle.giop_messages.specs.Message.{Reply, Message, request, reply, cancel, locate, located, close, error}

@@ -1,16 +1,16 @@
 //! What messages are to a client.
-ghost use Rattle.std.specs.Prelude.{◌≡◌};
+ghost use Rattle.std.specs.Prelude.{◌≡◌, [], IfOk};
 ghost use Rattle.std.proofs.Common.{sym, ◌∙◌};
 ghost use Rattle.giop_messages.specs.Message as Messages;
-ghost use Rattle.giop_messages.specs.Views.{message_of};
+ghost use Rattle.giop_messages.specs.PartsView.{parts_message};
 ghost use Rattle.client_lines.specs.Awaiting as Spec;
 
 use crate::answer::Answer;
 use crate::awaited::{Awaited, BIND_ID, FIRST_ID, NEXT_ID};
 use banded_links::NO_EXCEPTION;
-use giop_messages::{Fault, Message, Reply};
+use giop_messages::{Fault, Parts};
 use heard_messages::{Judge, Means};
-use orb_base::{NoMemory, Order};
+use orb_base::{NoMemory, Octets, Order};
 use std::alloc::Global;
 
 /// A client that makes one call over a connection: it awaits the reply to the bind, where it binds a band first, and then that to the
@@ -45,48 +45,61 @@ fn after(awaited: Awaited, status: u32) -> Awaited
     }
 }
 
-/// The answer that a reply is.
-fn answer_of(order: Order, reply: Reply) -> Answer
-    ensures { result ≡ Spec.answer_of order reply }
+/// What a reply of this id, status and body is where that to `awaited_id` is awaited. Copies the body of that one alone.
+fn seen_reply(
+    alloc: Global,
+    awaited: Awaited,
+    awaited_id: u32,
+    order: Order,
+    id: u32,
+    status: u32,
+    body: &[u8],
+) -> Result<Means<Awaited, Answer>, NoMemory>
+    ensures { IfOk result (λ m. m ≡ Spec.seen awaited awaited_id order (Messages.reply_of id status [] body.now)) }
 {
-    Answer {
-        order,
-        status: reply.status,
-        body: reply.body,
-    }
-}
-
-/// What a reply is where that to this id is awaited.
-fn seen_reply(awaited: Awaited, id: u32, order: Order, reply: Reply) -> Means<Awaited, Answer>
-    ensures { result ≡ Spec.seen awaited id order (Messages.reply reply) }
-{
-    if reply.id != id {
-        return Means::Goes {
+    if id != awaited_id {
+        return Ok(Means::Goes {
             bound: awaited,
             call: None,
-        };
+        });
     }
-    Means::Goes {
-        bound: after(awaited, reply.status),
-        call: Some(answer_of(order, reply)),
-    }
+    let body = Octets::from_vec(Vec::from_slice(alloc, body)?);
+    Ok(Means::Goes {
+        bound: after(awaited, status),
+        call: Some(Answer {
+            order,
+            status,
+            body,
+        }),
+    })
 }
 
 /// What a message is where the reply to this id is awaited.
-fn seen(awaited: Awaited, id: u32, order: Order, message: Message) -> Means<Awaited, Answer>
-    ensures { result ≡ Spec.seen awaited id order (message_of message) }
+fn seen(
+    alloc: Global,
+    awaited: Awaited,
+    id: u32,
+    order: Order,
+    parts: Parts<'_>,
+) -> Result<Means<Awaited, Answer>, NoMemory>
+    ensures { IfOk result (λ m. m ≡ Spec.seen awaited id order (parts_message parts.entry)) }
 {
-    match message {
-        Message::Reply(reply) => seen_reply(awaited, id, order, reply),
-        Message::Located(_) => Means::Goes {
+    match parts {
+        Parts::Reply {
+            id: its,
+            status,
+            contexts: _,
+            body,
+        } => seen_reply(alloc, awaited, id, order, its, status, body),
+        Parts::Located { .. } => Ok(Means::Goes {
             bound: awaited,
             call: None,
-        },
-        Message::Request(_) => Means::Breaks(Fault::WrongWay),
-        Message::Cancel(_) => Means::Breaks(Fault::WrongWay),
-        Message::Locate(_) => Means::Breaks(Fault::WrongWay),
-        Message::Close => Means::Ends,
-        Message::Error => Means::Ends,
+        }),
+        Parts::Request { .. } => Ok(Means::Breaks(Fault::WrongWay)),
+        Parts::Cancel(_) => Ok(Means::Breaks(Fault::WrongWay)),
+        Parts::Locate { .. } => Ok(Means::Breaks(Fault::WrongWay)),
+        Parts::Close => Ok(Means::Ends),
+        Parts::Error => Ok(Means::Ends),
     }
 }
 
@@ -111,16 +124,16 @@ impl Judge for Caller {
 
     fn judge(
         &self,
-        _alloc: Global,
+        alloc: Global,
         bound: &Awaited,
         _serial: u32,
         order: Order,
         _size: u32,
-        message: Message,
+        parts: Parts<'_>,
     ) -> Result<Means<Awaited, Answer>, NoMemory> {
         match *bound {
-            Awaited::Bind => Ok(seen(Awaited::Bind, BIND_ID, order, message)),
-            Awaited::Call => Ok(seen(Awaited::Call, call_id(self.binds), order, message)),
+            Awaited::Bind => seen(alloc, Awaited::Bind, BIND_ID, order, parts),
+            Awaited::Call => seen(alloc, Awaited::Call, call_id(self.binds), order, parts),
             Awaited::Nothing => Ok(Means::Goes {
                 bound: Awaited::Nothing,
                 call: None,

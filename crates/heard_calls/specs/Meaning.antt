@@ -1,12 +1,12 @@
 -- What one message of a connection means to a server: CORBA 3.0.3, section 15.4. What ends the reading is own profile.
-use Rattle.std.specs.Prelude.{◌≡◌, ℕ, Bool, false, length, Option, Some, Result, Ok, Err, is_some, MatchOption}
+use Rattle.std.specs.Prelude.{◌≡◌, ℕ, length, Option, Some, Result, Ok, Err, MatchOption}
 use Rattle.orb_base.specs.Span.{Span}
 use Rattle.orb_base.specs.declared.conn_id.ConnId.{ConnId}
 use Rattle.orb_base.specs.declared.order.Order.{Order}
 use Rattle.orb_base.specs.declared.notice.What.TheVariants as what
 use Rattle.giop_frames.specs.Messages as Frames
 use Rattle.giop_messages.specs.Causes.{cause_of}
-use Rattle.giop_messages.specs.Message.{Target, key, profile, addressing, Request, Locate, Message, request, reply, cancel, locate, located, close, error}
+use Rattle.giop_messages.specs.Message.{Request, Locate, Message, request, reply, cancel, locate, located, close, error}
 use Rattle.giop_messages.specs.MessageReading.{message_at}
 use Rattle.giop_messages.specs.declared.message_fault.MessageFault.{MessageFault}
 use Rattle.giop_messages.specs.declared.refused.Fault.TheVariants.{WrongWay}
@@ -15,18 +15,12 @@ use Rattle.lane_machine.specs.declared.call.LaneCall.TheVariants.{Post, Cancel}
 use Rattle.adapter_policies.specs.SetupData.{SetupData}
 use Rattle.request_judge.specs.Calls.{call_of}
 use Rattle.request_judge.specs.Judging.{Judges}
-use Rattle.request_judge.specs.Served.{served_at}
+use Rattle.request_judge.specs.Served.{is_here}
 use Rattle.request_judge.specs.declared.refusal.Refusal.{Refusal}
 use Rattle.request_judge.specs.declared.verdict.Verdict.{Verdict}
 use Rattle.request_judge.specs.declared.verdict.Verdict.TheVariants.{Runs, Binds}
 use Rattle.heard_calls.specs.declared.means.Means.{Means}
 use Rattle.heard_calls.specs.declared.means.Means.TheVariants.{Goes, Ends, Breaks}
-
--- the target is the key of an object that an adapter serves
-abbrev pub is_here : SetupData → Target → Bool
-is_here setup (key object_key) = is_some (served_at setup object_key)
-is_here setup (profile _) = false
-is_here setup (addressing _ _ _) = false
 
 -- the answer to a question where an object is
 abbrev pub where_is : SetupData → ConnId → Order → Locate → LaneCall

@@ -12,18 +12,8 @@ use giop_frames::Whole;
 use giop_messages::{Fault, PartTarget, Parts, read_parts};
 use lane_machine::LaneCall;
 use orb_base::{Band, ConnId, NoMemory, Notice, Order, What};
-use request_judge::{Asked, Refusal, Verdict, call_of, judge, served_at};
+use request_judge::{Asked, Refusal, Verdict, call_of, is_here, judge};
 use std::alloc::Global;
-
-/// Whether a target is the key of an object that an adapter serves.
-fn is_here(setup: &Setup, target: &PartTarget<'_>) -> bool
-    ensures { result ≡ Spec.is_here setup.now (parts_target target.now) }
-{
-    match target {
-        PartTarget::Key(key) => served_at(setup, key).is_some(),
-        PartTarget::Profile { .. } | PartTarget::Addressing { .. } => false,
-    }
-}
 
 /// The answer to a question of this id where an object is.
 fn located(setup: &Setup, conn: ConnId, order: Order, id: u32, target: &PartTarget<'_>) -> LaneCall

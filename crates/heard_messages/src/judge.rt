@@ -2,12 +2,12 @@
 ghost use Rattle.std.specs.Prelude.{◌≡◌, ℕ, IfOk};
 ghost use Rattle.orb_base.specs.declared.order.Order.{Order};
 ghost use Rattle.giop_messages.specs.Message as Messages;
-ghost use Rattle.giop_messages.specs.Views.{message_of};
+ghost use Rattle.giop_messages.specs.PartsView.{AreSound, parts_message};
 ghost use Rattle.heard_messages.specs.Hearing.{IsOneWay};
 ghost use Rattle.heard_messages.specs.declared.means.Means.{Means};
 
 use crate::means::Means;
-use giop_messages::Message;
+use giop_messages::Parts;
 use orb_base::{NoMemory, Order};
 use std::alloc::Global;
 
@@ -30,8 +30,8 @@ pub trait Judge {
     fn begin(&self) -> Self::Bound
         ensures { result ≡ first self.now };
 
-    /// What a message means, by what was settled before it and by the number of the calls before it; `size` is its length in bytes, with
-    /// its header.
+    /// What the message of these parts means, by what was settled before it and by the number of the calls before it; `size` is its length
+    /// in bytes, with its header.
     fn judge(
         &self,
         alloc: Global,
@@ -39,9 +39,10 @@ pub trait Judge {
         serial: u32,
         order: Order,
         size: u32,
-        message: Message,
+        parts: Parts<'_>,
     ) -> Result<Means<Self::Bound, Self::Call>, NoMemory>
-        ensures { IfOk result (means self.now bound.now serial order size (message_of message)) };
+        requires sound { AreSound parts }
+        ensures { IfOk result (means self.now bound.now serial order size (parts_message parts.entry)) };
 
     /// A message means one thing.
     ghost one_way: { (judge : Self) → IsOneWay (means judge) };

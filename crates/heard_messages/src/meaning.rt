@@ -6,12 +6,13 @@ ghost use Rattle.heard_messages.specs.Hearing as Spec;
 use crate::judge::Judge;
 use crate::means::Means;
 use giop_frames::Whole;
-use giop_messages::read_message;
+use giop_messages::read_parts;
 use orb_base::NoMemory;
 use std::alloc::Global;
 
 /// What a message means by a judge, by what was settled before it and by the number of the calls before it: what the judge says of what is
-/// read, or that it breaks the connection for the first fault in it. The work per byte is constant, but for that of the judge.
+/// read, or that it breaks the connection for the first fault in it. Memory is taken by the judge alone, and the work per byte is constant, but
+/// for that of the judge.
 pub fn meaning_of<J: Judge>(
     alloc: Global,
     judge: &J,
@@ -22,13 +23,14 @@ pub fn meaning_of<J: Judge>(
     requires { IsMessage whole.now }
     ensures { IfOk result (Spec.IsMeant (J.means judge.now) bound.now serial whole.now) }
 {
-    match read_message(alloc, whole) {
-        Ok(message) => {
+    match read_parts(whole) {
+        Ok(parts) => {
             let size = whole.bytes.len() as u32;
-            judge.judge(alloc, bound, serial, whole.order, size, message)
+            judge.judge(alloc, bound, serial, whole.order, size, parts)
         }
         Err(fault) => match fault.cause() {
             Some(cause) => Ok(Means::Breaks(cause)),
+            // Reading in parts takes no memory.
             None => Err(NoMemory),
         },
     }

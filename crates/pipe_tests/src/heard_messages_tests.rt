@@ -9,7 +9,7 @@ ghost use Rattle.heard_messages.specs.declared.means.Means.TheVariants.{Goes, En
 
 use crate::samples::join;
 use giop_frames::{FrameCause, Framer};
-use giop_messages::{Fault, Message};
+use giop_messages::{Fault, Parts};
 use heard_messages::*;
 use orb_base::{NoMemory, Octets, Order};
 use std::alloc::Global;
@@ -59,26 +59,26 @@ impl Judge for Counting {
         serial: u32,
         _order: Order,
         _size: u32,
-        message: Message,
+        parts: Parts<'_>,
     ) -> Result<Means<u32, Counted>, NoMemory> {
-        match message {
-            Message::Request(request) => Ok(Means::Goes {
-                bound: request.id,
+        match parts {
+            Parts::Request { id, .. } => Ok(Means::Goes {
+                bound: id,
                 call: Some(Counted {
                     serial,
-                    id: request.id,
+                    id,
                     earlier: *bound,
                 }),
             }),
-            Message::Cancel(id) => Ok(Means::Goes {
+            Parts::Cancel(id) => Ok(Means::Goes {
                 bound: id,
                 call: None,
             }),
-            Message::Reply(_) => Ok(Means::Breaks(Fault::WrongWay)),
-            Message::Locate(_) => Ok(Means::Breaks(Fault::WrongWay)),
-            Message::Located(_) => Ok(Means::Breaks(Fault::WrongWay)),
-            Message::Close => Ok(Means::Ends),
-            Message::Error => Ok(Means::Ends),
+            Parts::Reply { .. } => Ok(Means::Breaks(Fault::WrongWay)),
+            Parts::Locate { .. } => Ok(Means::Breaks(Fault::WrongWay)),
+            Parts::Located { .. } => Ok(Means::Breaks(Fault::WrongWay)),
+            Parts::Close => Ok(Means::Ends),
+            Parts::Error => Ok(Means::Ends),
         }
     }
 }
