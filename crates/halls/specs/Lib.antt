@@ -1,0 +1,9 @@
+pub mod Meaning
+pub mod OneWay
+pub mod Hands
+pub mod Steps
+pub mod Calls
+pub mod Sides
+pub mod Pieces
+pub mod Served
+pub mod Laws
