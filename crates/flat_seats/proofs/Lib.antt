@@ -1,0 +1,4 @@
+pub mod OneTree
+pub mod Own
+pub mod Along
+pub mod Bounds
