@@ -1,0 +1,6 @@
+pub mod Worn
+pub mod Answered
+pub mod Outcomes
+pub mod Growing
+pub mod Heirs
+pub mod RoleLaws

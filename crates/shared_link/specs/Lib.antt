@@ -1,0 +1,4 @@
+pub mod Link
+pub mod Turns
+pub mod Replies
+pub mod Roles
