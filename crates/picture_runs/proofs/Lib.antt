@@ -1,0 +1,4 @@
+pub mod Digits
+pub mod NulWords
+pub mod Looking
+pub mod Ending

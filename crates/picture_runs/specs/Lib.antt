@@ -1,0 +1,4 @@
+pub mod Asking
+pub mod Inputs
+pub mod Drawing
+pub mod Answering

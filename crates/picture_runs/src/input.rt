@@ -1,0 +1,40 @@
+//! The input of a picture.
+ghost use Rattle.picture_runs.specs.Inputs.{TakesInput};
+
+use orb_base::{Got, List, NoMemory, Octets, Source};
+use std::alloc::Global;
+
+/// Bytes of an input that are taken at most.
+pub const MAX_READ: usize = 67_108_864;
+
+/// Bytes of one read at most.
+const READ_LEN: usize = 4096;
+
+/// An input, as far as it was read.
+#[derive(Drop)]
+pub enum Input {
+    /// Its bytes, up to the end.
+    Whole(Octets),
+    /// Its first `MAX_READ` bytes. The end was not looked for.
+    Full(Octets),
+    /// Its bytes before a failed read.
+    Failed(Octets),
+}
+
+/// Reads to the end of the input, or until `MAX_READ` bytes came. Work per byte is constant.
+#[tactic(auto, using(text_streams::proofs::CallerLemmas::gave_start, text_streams::proofs::CallerLemmas::gave_step, text_streams::proofs::CallerLemmas::gave_same, text_streams::proofs::CallerLemmas::gave_few))]
+pub fn take_input<I: Source>(alloc: Global, source: &mut I) -> Result<Input, NoMemory>
+    ensures { TakesInput result (I.state source.old) (I.state source.new) }
+{
+    let mut bytes = List::new(alloc);
+    while bytes.len() < MAX_READ {
+        let mut piece = [0u8; READ_LEN];
+        let room = piece.len().min(MAX_READ - bytes.len());
+        match source.read(&mut piece[..room]) {
+            Got::Bytes(n) => bytes.append(&piece[..n])?,
+            Got::End => return Ok(Input::Whole(bytes)),
+            Got::Failed => return Ok(Input::Failed(bytes)),
+        }
+    }
+    Ok(Input::Full(bytes))
+}

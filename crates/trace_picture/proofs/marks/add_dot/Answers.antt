@@ -1,0 +1,7 @@
+use Rattle.std.proofs.Common.{append_assoc}
+use Rattle.trace_picture.specs.Marks.{dot_text}
+use Rattle.trace_picture.proofs.marks.add_dot.Goals as goal
+
+pub returns : goal.returns
+unfolding dot_text
+returns c = simp append_assoc c.in_ok-writeln.ensures.bytes
