@@ -1,6 +1,6 @@
-//! The setup without a configuration.
+//! The setup without a configuration, and that of the name service.
 ghost use Rattle.std.specs.Prelude.{◌≡◌, IfOk, codes};
-ghost use Rattle.adapter_policies.specs.BuiltIn.{built_in_pool, built_in_adapter, built_in_object};
+ghost use Rattle.adapter_policies.specs.BuiltIn.{built_in_pool, built_in_adapter, built_in_object, names_object};
 
 use crate::adapter_spec::AdapterSpec;
 use crate::object_spec::ObjectSpec;
@@ -58,16 +58,30 @@ pub fn adapter(alloc: Global) -> Result<AdapterSpec, NoMemory>
     })
 }
 
-/// The object `ping`.
-pub fn object(alloc: Global) -> Result<ObjectSpec, NoMemory>
-    ensures { IfOk result (λ o. o ≡ built_in_object) }
+/// The object of the first adapter with this key and this interface.
+fn first_object(alloc: Global, key: &[u8], interface: &[u8]) -> Result<ObjectSpec, NoMemory>
+    ensures { IfOk result (λ o. o ≡ record { key = key.now; adapter = 0; interface = interface.now; priority = 100 }) }
 {
-    let key = text(alloc, b"ping")?;
-    let interface = text(alloc, b"IDL:Orb/Ping:1.0")?;
+    let key = text(alloc, key)?;
+    let interface = text(alloc, interface)?;
     Ok(ObjectSpec {
         key,
         adapter: 0,
         interface,
         priority: priority(),
     })
+}
+
+/// The object `ping`.
+pub fn object(alloc: Global) -> Result<ObjectSpec, NoMemory>
+    ensures { IfOk result (λ o. o ≡ built_in_object) }
+{
+    first_object(alloc, b"ping", b"IDL:Orb/Ping:1.0")
+}
+
+/// The object of the name service.
+pub fn names(alloc: Global) -> Result<ObjectSpec, NoMemory>
+    ensures { IfOk result (λ o. o ≡ names_object) }
+{
+    first_object(alloc, b"NameService", b"IDL:Orb/Names:1.0")
 }

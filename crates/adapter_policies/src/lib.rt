@@ -41,4 +41,4 @@ pub use laws::{
 };
 pub use object_spec::ObjectSpec;
 pub use reading::read_setup;
-pub use setup::Setup;
+pub use setup::{NAMES_PER_SLOT, NAMES_SLOTS, Setup};

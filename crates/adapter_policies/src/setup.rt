@@ -2,7 +2,7 @@
 ghost use Rattle.std.specs.Prelude.{◌≡◌, ◌<◌, ◌≤◌, ◌+◌, ◌^◌, ◌∷◌, [], IfOk, length, slice_get};
 ghost use Rattle.std.specs.Option.{option_copied};
 ghost use Rattle.orb_base.specs.Pool.{IsWellFormed, HasSlots};
-ghost use Rattle.adapter_policies.specs.BuiltIn.{built_in};
+ghost use Rattle.adapter_policies.specs.BuiltIn.{built_in, built_in_with, names_setup};
 ghost use Rattle.adapter_policies.specs.Index.{number_from};
 ghost use Rattle.adapter_policies.specs.MapRelations.{priority_map};
 ghost use Rattle.adapter_policies.specs.Publishing.{IsReferenceOf};
@@ -22,6 +22,12 @@ use priority_maps::Map;
 use std::alloc::Global;
 use std::collections::HashMap;
 use std::marker::Model;
+
+/// The slots of the name service.
+pub const NAMES_SLOTS: u8 = 4;
+
+/// The connections that each slot of the name service serves.
+pub const NAMES_PER_SLOT: u8 = 32;
 
 /// What a broker serves, and how: its pool and the limits of a run, its map of priorities, its adapters and objects, each
 /// numbered from 0, and the files of its interfaces and scripts.
@@ -68,8 +74,31 @@ impl Setup {
     pub fn built_in(alloc: Global) -> Result<Setup, NoMemory>
         ensures { IfOk result (λ s. s ≡ built_in) }
     {
+        let object = built_in::object(alloc)?;
+        Setup::with_object(alloc, object, 1, 128)
+    }
+
+    /// The setup of the name service: as without a configuration, but with `NAMES_SLOTS` slots of `NAMES_PER_SLOT` connections and
+    /// the one object `NameService` of `IDL:Orb/Names:1.0`.
+    pub fn names(alloc: Global) -> Result<Setup, NoMemory>
+        ensures { IfOk result (λ s. s ≡ names_setup) }
+    {
+        let object = built_in::names(alloc)?;
+        Setup::with_object(alloc, object, NAMES_SLOTS, NAMES_PER_SLOT)
+    }
+
+    /// The setup without a configuration, but for its object and its slots.
+    fn with_object(
+        alloc: Global,
+        object: ObjectSpec,
+        slots: u8,
+        per_slot: u8,
+    ) -> Result<Setup, NoMemory>
+        requires { HasSlots slots per_slot }
+        ensures { IfOk result (λ s. s ≡ built_in_with object slots per_slot) }
+    {
         let adapters = one(alloc, built_in::adapter(alloc)?)?;
-        let objects = one(alloc, built_in::object(alloc)?)?;
+        let objects = one(alloc, object)?;
         let pool = built_in::pool(alloc)?;
         if !pool.well_formed() {
             return Err(NoMemory);
@@ -80,8 +109,8 @@ impl Setup {
             scripts: None,
             mapping: Map::identity(),
             pool,
-            slots: 1,
-            per_slot: 128,
+            slots,
+            per_slot,
             adapters,
             objects,
             numbers,
