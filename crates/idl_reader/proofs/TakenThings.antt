@@ -11,7 +11,7 @@ use Rattle.idl_types.specs.Counting.{leaves_of, levels_of, leaves_of_members, le
 use Rattle.idl_types.specs.Declaring.{is_new, is_derived_in, may_hold}
 use Rattle.idl_types.specs.Inherited.{inherits_in}
 use Rattle.idl_types.specs.Names.{operation_names}
-use Rattle.idl_types.specs.Sound.{is_sound_type, is_sound_result, is_sound_operation, is_sound_thing, is_reserved, ping_id, is_own, has_bases_in, counted_leaves, file_leaves, most_leaves, most_levels, most_file_leaves}
+use Rattle.idl_types.specs.Sound.{is_sound_type, is_sound_result, is_sound_operation, is_sound_thing, is_reserved, is_built_in, is_own, has_bases_in, counted_leaves, file_leaves, most_leaves, most_levels, most_file_leaves}
 use Rattle.idl_types.specs.Things.{OperationView, ParamView, Thing, constant, named, exception, interface, id_of}
 use Rattle.idl_reader.specs.Accepted.{Each, TextsGive, IsNew, HasEarlierBases, is_small, is_small_kind, HasSmallTypes, has_params_apart, HasParamsApart, is_result_so, has_types_so, HasNamesApart, HasLawfulTypes, HasOperationsApart, HasInheritedFirst, HasLeavesLeft, MayDeclare, Takes}
 use Rattle.idl_scopes.specs.Table.{Table}
@@ -82,7 +82,7 @@ may_declare_so us t new bases small names lawful params apart inherits room =
     and_from (not (is_reserved (id_of t))) (may_hold us t) free
     (and_from (is_sound_thing t && is_derived_in us t) ((is_new us t && is_own t) && left)
     (and_from (is_sound_thing t) (is_derived_in us t) (sound_thing us t lawful names small params apart) (and_from (has_bases_in us t) (inherits_in us t) bases inherits))
-    (and_from (is_new us t && is_own t) left (and_from (is_new us t) (is_own t) new.0 (or_left (not (is_reserved (id_of t))) (bytes_eq ping_id (id_of t)) free)) room))
+    (and_from (is_new us t && is_own t) left (and_from (is_new us t) (is_own t) new.0 (or_left (not (is_reserved (id_of t))) (is_built_in (id_of t)) free)) room))
 
 -- so of each
 each_taken : (before ts : List Thing) → Each IsNew before ts → Each HasEarlierBases before ts → Each HasSmallTypes before ts → Each HasNamesApart before ts → Each HasLawfulTypes before ts → Each HasParamsApart before ts

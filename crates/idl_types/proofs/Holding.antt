@@ -18,11 +18,12 @@ use Rattle.idl_types.specs.declared.held.Held.{Held}
 use Rattle.idl_types.specs.Things.{Thing, constant, named, exception, interface, id_of, operations_of}
 use Rattle.idl_types.specs.Names.{names_in, operation_names}
 use Rattle.idl_types.specs.Apart.{are_apart}
-use Rattle.idl_types.specs.Sound.{is_sound_thing, is_sound_operation, is_reserved, ping_id, is_own, has_bases_in, are_based, file_leaves, counted_leaves, most_file_leaves}
+use Rattle.idl_types.specs.Sound.{is_sound_thing, is_sound_operation, is_reserved, ping_id, built_in_ids, is_built_in, is_own, has_bases_in, are_based, file_leaves, counted_leaves, most_file_leaves}
 use Rattle.idl_types.specs.Inherited.{inherits_in}
-use Rattle.idl_types.specs.Declaring.{is_new, is_derived_in, may_hold}
+use Rattle.idl_types.specs.Declaring.{is_new, is_derived_in, may_hold, IsAdded}
 use Rattle.idl_types.specs.Entries.{Entry, entry_thing, entry_things, AreKeyed, AreFolded, InsertsBehind, PutsBehind, SetsLeft}
-use Rattle.idl_types.specs.BuiltIn.{ping}
+use Rattle.idl_types.specs.BuiltIn.{ping, names, bare_exception}
+use Rattle.idl_types.specs.Counting.{thing_leaves}
 use Rattle.idl_types.specs.Finding.{has_id, place_named}
 use Rattle.orb_base.proofs.Places.{any_map}
 use Rattle.idl_types.proofs.Places.{any_more, none_any}
@@ -205,16 +206,13 @@ take_map zero xs = refl
 take_map (suc n) [] = refl
 take_map (suc n) (x ∷ xs) = ap (λ (ys : List ℕ). to_ascii_lowercase x ∷ ys) (take_map n xs)
 
--- the built-in interface may be held where its id isn't there
-reserved_like : (n : List ℕ) → str_eq_ignore_ascii_case ping_id n ≡ true → is_reserved n ≡ true
-reserved_like n same =
-    let e : str_to_ascii_lowercase ping_id ≡ str_to_ascii_lowercase n = (bytes_eq-Decides (str_to_ascii_lowercase ping_id) (str_to_ascii_lowercase n)).0 same in
-    let front : str_to_ascii_lowercase (take 8 n) ≡ str_to_ascii_lowercase (codes "IDL:Orb/") = take_map 8 n ∙ ap (take 8) (sym e) in
+-- an id in the module Orb is a reserved one
+reserved_like : (b n : List ℕ) → take 8 (str_to_ascii_lowercase b) ≡ str_to_ascii_lowercase (codes "IDL:Orb/") → str_eq_ignore_ascii_case b n ≡ true → is_reserved n ≡ true
+reserved_like b n head same =
+    let e : str_to_ascii_lowercase b ≡ str_to_ascii_lowercase n = (bytes_eq-Decides (str_to_ascii_lowercase b) (str_to_ascii_lowercase n)).0 same in
+    let front : str_to_ascii_lowercase (take 8 n) ≡ str_to_ascii_lowercase (codes "IDL:Orb/") = take_map 8 n ∙ ap (take 8) (sym e) ∙ head in
     or_left (str_eq_ignore_ascii_case (take 8 n) (codes "IDL:Orb/")) (str_eq_ignore_ascii_case n (codes "IDL:Orb:1.0"))
     ((bytes_eq-Decides (str_to_ascii_lowercase (take 8 n)) (str_to_ascii_lowercase (codes "IDL:Orb/"))).1 front)
-
-own_like : (t : Thing) → str_eq_ignore_ascii_case ping_id (id_of t) ≡ true → is_own t ≡ true → has_id ping_id t ≡ true
-own_like t same own = ap (λ (b : Bool). not b || bytes_eq ping_id (id_of t)) (sym (reserved_like (id_of t) same)) ∙ own
 
 any_both : {X : Type 0} (p q r : X → Bool) (xs : List X) → ((x : X) → p x ≡ true → q x ≡ true → r x ≡ true) → list_any p xs ≡ true → list_all q xs ≡ true → list_any r xs ≡ true
 any_both p q r [] both any all = any
@@ -225,19 +223,64 @@ any_both p q r (x ∷ xs) both any all =
       | inr t ↦ or_right (r x) (list_any r xs) (any_both p q r xs both t a.1)
     ]
 
+any_same : {X : Type 0} (b : Bool) (xs : List X) → list_any (λ x. b) xs ≡ true → b ≡ true
+any_same b [] any = absurd (both_ways false refl any)
+any_same b (x ∷ xs) any = elim (or_cases b (list_any (λ x. b) xs) any) [ inl t ↦ t | inr t ↦ any_same b xs t ]
+
+-- a built-in id, which no other one is like but for case
+pub record IsBuiltIn (b : List ℕ) : Type 0 where
+  pub head : take 8 (str_to_ascii_lowercase b) ≡ str_to_ascii_lowercase (codes "IDL:Orb/")
+  pub alone : list_all (λ n. not (str_eq_ignore_ascii_case b n) || bytes_eq n b) built_in_ids ≡ true
+
+like_same : (b n m : List ℕ) → str_eq_ignore_ascii_case b m ≡ true → bytes_eq n m ≡ true → (not (str_eq_ignore_ascii_case b n) || bytes_eq n b) ≡ true → bytes_eq b m ≡ true
+like_same b n m like same one =
+    let e : n ≡ m = (bytes_eq-Decides n m).0 same in
+    let l : str_eq_ignore_ascii_case b n ≡ true = ap (str_eq_ignore_ascii_case b) e ∙ like in
+    let f : n ≡ b = (bytes_eq-Decides n b).0 (ap (λ (x : Bool). not x || bytes_eq n b) (sym l) ∙ one) in
+    (bytes_eq-Decides b m).1 (sym f ∙ e)
+
+own_like : (b : List ℕ) → IsBuiltIn b → (t : Thing) → str_eq_ignore_ascii_case b (id_of t) ≡ true → is_own t ≡ true → has_id b t ≡ true
+own_like b h t same own =
+    let known : is_built_in (id_of t) ≡ true = ap (λ (x : Bool). not x || is_built_in (id_of t)) (sym (reserved_like b (id_of t) h.head same)) ∙ own in
+    any_same (has_id b t) built_in_ids
+    (any_both (λ n. bytes_eq n (id_of t)) (λ n. not (str_eq_ignore_ascii_case b n) || bytes_eq n b) (λ n. has_id b t) built_in_ids
+    (λ n s o. like_same b n (id_of t) same s o) known h.alone)
+
+-- a built-in thing may be held where its id isn't there
+pub may_be_built_in : (ts : List Thing) (t : Thing) → IsBuiltIn (id_of t) → (is_sound_thing t && is_derived_in ts t) ≡ true → is_own t ≡ true → counted_leaves t ≡ 0
+    → place_named ts (id_of t) ≡ None → list_all is_own ts ≡ true → file_leaves ts ≤ most_file_leaves → may_hold ts t ≡ true
+may_be_built_in ts t h sound mine free none own leaves =
+    and_from (is_sound_thing t && is_derived_in ts t) ((is_new ts t && is_own t) && nat_le (file_leaves ts + counted_leaves t) most_file_leaves) sound
+    (and_from (is_new ts t && is_own t) (nat_le (file_leaves ts + counted_leaves t) most_file_leaves)
+    (and_from (is_new ts t) (is_own t) new mine)
+    (le-leb (file_leaves ts + counted_leaves t) most_file_leaves (omega (arith, leaves, free))))
+  where
+    new : is_new ts t ≡ true
+    new = not_from_false (list_any (λ u. str_eq_ignore_ascii_case (id_of t) (id_of u)) ts)
+        (false_from_ne_true (list_any (λ u. str_eq_ignore_ascii_case (id_of t) (id_of u)) ts)
+        (λ there. both_ways (list_any (has_id (id_of t)) ts) (none_any (has_id (id_of t)) ts none)
+        (any_both (λ u. str_eq_ignore_ascii_case (id_of t) (id_of u)) is_own (has_id (id_of t)) ts (own_like (id_of t) h) there own)))
+
 pub ping_free : (t : Thing) → t ≡ ping → counted_leaves t ≡ 0
 ping_free t is = ap counted_leaves is
 
 pub ping_may : (ts : List Thing) (t : Thing) → t ≡ ping → place_named ts ping_id ≡ None → list_all is_own ts ≡ true → file_leaves ts ≤ most_file_leaves → may_hold ts t ≡ true
 ping_may ts t is none own leaves =
-    ap (may_hold ts) is
-    ∙ and_from (is_sound_thing ping && is_derived_in ts ping) ((is_new ts ping && is_own ping) && nat_le (file_leaves ts + counted_leaves ping) most_file_leaves) refl
-    (and_from (is_new ts ping && is_own ping) (nat_le (file_leaves ts + counted_leaves ping) most_file_leaves)
-    (and_from (is_new ts ping) (is_own ping) new refl)
-    (le-leb (file_leaves ts + counted_leaves ping) most_file_leaves (omega (arith, leaves))))
-  where
-    new : is_new ts ping ≡ true
-    new = not_from_false (list_any (λ u. str_eq_ignore_ascii_case ping_id (id_of u)) ts)
-        (false_from_ne_true (list_any (λ u. str_eq_ignore_ascii_case ping_id (id_of u)) ts)
-        (λ there. both_ways (list_any (has_id ping_id) ts) (none_any (has_id ping_id) ts none)
-        (any_both (λ u. str_eq_ignore_ascii_case ping_id (id_of u)) is_own (has_id ping_id) ts own_like there own)))
+    ap (may_hold ts) is ∙ may_be_built_in ts ping (record { head = refl; alone = refl }) refl refl refl none own leaves
+
+-- an exception without members
+pub exception_adds : (id : List ℕ) (t : Thing) → IsBuiltIn id → is_own (bare_exception id) ≡ true → is_reserved id ≡ true → t ≡ bare_exception id → IsAdded t
+exception_adds id t h mine reserved is = record {
+  free = ap counted_leaves is ∙ ap (λ (b : Bool). if b then 0 else thing_leaves (bare_exception id)) reserved;
+  may = (λ ts none own leaves. ap (may_hold ts) is
+      ∙ may_be_built_in ts (bare_exception id) h refl mine (ap (λ (b : Bool). if b then 0 else thing_leaves (bare_exception id)) reserved)
+      (ap (λ (u : Thing). place_named ts (id_of u)) (sym is) ∙ none) own leaves);
+}
+
+-- the interface of the name service
+pub names_adds : (t : Thing) → t ≡ names → IsAdded t
+names_adds t is = record {
+  free = ap counted_leaves is;
+  may = (λ ts none own leaves. ap (may_hold ts) is
+      ∙ may_be_built_in ts names (record { head = refl; alone = refl }) refl refl refl (ap (λ (u : Thing). place_named ts (id_of u)) (sym is) ∙ none) own leaves);
+}

@@ -8,7 +8,7 @@ use Rattle.std.proofs.lemmas.Bool.{and_left, and_right, and_from, or_left, not_f
 use Rattle.idl_types.specs.Things.{Thing, id_of}
 use Rattle.idl_types.specs.Counting.{thing_leaves}
 use Rattle.idl_types.specs.Budget.{left}
-use Rattle.idl_types.specs.Sound.{ping_id, is_sound_thing, is_reserved, is_own, counted_leaves, file_leaves, most_file_leaves}
+use Rattle.idl_types.specs.Sound.{is_built_in, is_sound_thing, is_reserved, is_own, counted_leaves, file_leaves, most_file_leaves}
 use Rattle.idl_types.specs.Declaring.{is_new, is_derived_in, may_declare}
 use Rattle.idl_types.specs.Entries.{Entry, entry_thing, entry_things, AreFolded}
 use Rattle.orb_base.proofs.Places.{any_map}
@@ -62,7 +62,7 @@ module _ (ts : List Thing) (t : Thing) where
   says_sound budget rest er eb en some all =
       let h = enough budget (thing_leaves t) rest some in
       by_soundness (is_reserved (id_of t)) (is_sound_thing t) (is_derived_in ts t) (is_new ts t) (is_own t) room er eb en
-      (or_left (not (is_reserved (id_of t))) (bytes_eq ping_id (id_of t)) (not_from_false (is_reserved (id_of t)) er))
+      (or_left (not (is_reserved (id_of t))) (is_built_in (id_of t)) (not_from_false (is_reserved (id_of t)) er))
       (le-leb (file_leaves ts + counted_leaves t) most_file_leaves (omega (arith, all, h.0, all_counted er)))
 
   -- what is left after a declaration

@@ -8,5 +8,6 @@ pub mod Marking
 pub mod Walks
 pub mod Descent
 pub mod Budgets
+pub mod BuiltInAdded
 pub mod Judging
 pub mod NamesTold

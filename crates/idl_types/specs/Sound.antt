@@ -1,6 +1,6 @@
 -- What a repository keeps (own profile where no section is named).
 use Rattle.std.specs.Prelude.{ℕ, ◌&&◌, ◌||◌, if◌then◌else◌, not, nat_le, take, Bool, true, List, [], ◌∷◌, ◌++◌, Option, Some, None, map, sum_by, codes}
-use Rattle.std.specs.List.{list_all}
+use Rattle.std.specs.List.{list_all, list_any}
 use Rattle.std.specs.Str.{bytes_eq, str_eq_ignore_ascii_case}
 use Rattle.cdr_values.specs.Trees.{Name, Kind, members_of}
 use Rattle.cdr_values.specs.Lawful.{differ, is_lawful, are_lawful}
@@ -51,13 +51,34 @@ is_sound_thing (interface i) = list_all is_sound_operation i.operations && diffe
 abbrev pub is_reserved : Name → Bool
 is_reserved id = str_eq_ignore_ascii_case (take 8 id) (codes "IDL:Orb/") || str_eq_ignore_ascii_case id (codes "IDL:Orb:1.0")
 
--- the id of the built-in interface
+-- the id of the built-in interface of `ping`
 abbrev pub ping_id : Name
 ping_id = codes "IDL:Orb/Ping:1.0"
 
--- whether a thing isn't in the module Orb, or is the built-in interface
+-- the ids of the interface of the name service and of its exceptions
+abbrev pub names_id : Name
+names_id = codes "IDL:Orb/Names:1.0"
+
+abbrev pub not_found_id : Name
+not_found_id = codes "IDL:Orb/NotFound:1.0"
+
+abbrev pub already_bound_id : Name
+already_bound_id = codes "IDL:Orb/AlreadyBound:1.0"
+
+abbrev pub no_room_id : Name
+no_room_id = codes "IDL:Orb/NoRoom:1.0"
+
+-- the ids of all things in the module Orb
+abbrev pub built_in_ids : List Name
+built_in_ids = ping_id ∷ not_found_id ∷ already_bound_id ∷ no_room_id ∷ names_id ∷ []
+
+-- whether an id is that of a built-in thing
+abbrev pub is_built_in : Name → Bool
+is_built_in id = list_any (λ n. bytes_eq n id) built_in_ids
+
+-- whether a thing isn't in the module Orb, or has the id of a built-in one
 abbrev pub is_own : Thing → Bool
-is_own t = not (is_reserved (id_of t)) || bytes_eq ping_id (id_of t)
+is_own t = not (is_reserved (id_of t)) || is_built_in (id_of t)
 
 -- whether a thing's bases are interfaces among the things before it (CORBA 3.0.3, section 3.8.5)
 abbrev pub has_bases_in : List Thing → Thing → Bool

@@ -18,6 +18,7 @@ mod leaves;
 mod levels;
 mod marks;
 mod named_type;
+mod names;
 mod operation;
 mod param;
 mod ping;

@@ -91,7 +91,7 @@ fn note(alloc: Global) -> Result<Operation, NoMemory>
 }
 
 /// A text without a NUL.
-fn named(alloc: Global, bytes: &[u8]) -> Result<Text, NoMemory>
+pub(crate) fn named(alloc: Global, bytes: &[u8]) -> Result<Text, NoMemory>
     ensures { IfOk result (λ t. t ≡ bytes.now) }
 {
     match Text::new(alloc, bytes) {

@@ -12,8 +12,8 @@ ghost use Rattle.idl_types.specs.Finding as Found;
 ghost use Rattle.idl_types.specs.Sound.{is_sound_thing, are_based, file_leaves, counted_leaves, is_own};
 ghost use Rattle.idl_types.specs.Apart.{are_apart};
 ghost use Rattle.idl_types.specs.Inherited.{inherits_in};
-ghost use Rattle.idl_types.specs.Declaring.{may_declare, may_hold, is_new};
-ghost use Rattle.idl_types.specs.BuiltIn.{with_ping};
+ghost use Rattle.idl_types.specs.Declaring.{may_declare, may_hold, is_new, IsAdded};
+ghost use Rattle.idl_types.specs.BuiltIn.{with_ping, with_names, with_thing};
 ghost use Rattle.idl_types.specs.References.{kind_at};
 ghost use Rattle.cdr_values.specs.Kinds.{kind_of};
 ghost use Rattle.idl_types.specs.Entries.{entry_things, AreKeyed, AreFolded, InsertsBehind, PutsBehind, SetsLeft};
@@ -27,6 +27,7 @@ use crate::interface::Interface;
 use crate::leaves::spend_declaration;
 use crate::marks::MARKS;
 use crate::named_type::NamedType;
+use crate::names::{already_bound, names, no_room, not_found};
 use crate::operation::Operation;
 use crate::ping::{PING_ID, ping};
 use crate::soundness::is_sound;
@@ -247,6 +248,31 @@ impl Repository {
         }
         let ping = ping(self.alloc)?;
         self.and_held(ping)
+    }
+
+    /// The repository with the interface of the name service and its exceptions, each of which is put after the others where its id
+    /// isn't there yet.
+    #[tactic(auto, using(crate::proofs::BuiltInAdded::not_found_adds, crate::proofs::BuiltInAdded::already_bound_adds, crate::proofs::BuiltInAdded::no_room_adds, crate::proofs::Holding::names_adds))]
+    pub fn with_names(self) -> Result<Repository, NoMemory>
+        ensures { IfOk result (λ r. things_of r ≡ with_names (things_of self)) }
+    {
+        let alloc = self.alloc;
+        let repository = self.with_added(not_found(alloc)?)?;
+        let repository = repository.with_added(already_bound(alloc)?)?;
+        let repository = repository.with_added(no_room(alloc)?)?;
+        repository.with_added(names(alloc)?)
+    }
+
+    /// The repository with a built-in thing, which is put after the others where its id isn't there yet.
+    #[tactic(auto, using(crate::proofs::BuiltInAdded::may_add))]
+    fn with_added(self, declaration: Declaration) -> Result<Repository, NoMemory>
+        requires { IsAdded (thing_of declaration) }
+        ensures { IfOk result (λ r. things_of r ≡ with_thing (thing_of declaration) (things_of self)) }
+    {
+        if self.place_of(declaration.id().as_slice()).is_some() {
+            return Ok(self);
+        }
+        self.and_held(declaration)
     }
 
     fn and_held(mut self, declaration: Declaration) -> Result<Repository, NoMemory>
