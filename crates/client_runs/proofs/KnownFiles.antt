@@ -6,7 +6,7 @@ use Rattle.text_streams.specs.Files.{IsFile}
 use Rattle.idl_tokens.specs.declared.token.TheConstants.{MAX_TEXT}
 use Rattle.idl_types.specs.declared.repository.Repository.{Repository}
 use Rattle.idl_types.specs.Contents.{things_of}
-use Rattle.client_runs.specs.Interfaces.{ReadsBytes, ReadsFile, AddsPing, KnowsBy}
+use Rattle.client_runs.specs.Interfaces.{ReadsBytes, ReadsFile, AddsBuiltIn, KnowsBy}
 use Rattle.client_runs.specs.declared.call_end.CallEnd.{CallEnd}
 use Rattle.client_runs.specs.declared.call_end.CallEnd.TheVariants as end
 use Rattle.client_runs.specs.declared.call_end.FileFault.TheVariants as fault
@@ -28,7 +28,7 @@ file_read (Err end.Done) name bytes old new file same h = absurd h
 
 -- and the built-in module is added to what they declare
 pub file_known : (r : Repository) (answer : Result Repository CallEnd) (name : List ℕ) (old new : FilesState)
-    → ReadsFile (Ok r) name old new → AddsPing answer r → KnowsBy answer name old new
+    → ReadsFile (Ok r) name old new → AddsBuiltIn answer r → KnowsBy answer name old new
 file_known r (Ok known) name old new h all = (record { declared = things_of r; gives = h.0; all = all }, h.1)
 file_known r (Err end.NoMemory) name old new h all = h.1
 file_known r (Err (end.File f)) name old new h all = absurd all

@@ -6,7 +6,7 @@ use Rattle.text_streams.specs.Files.{IsFile}
 use Rattle.idl_tokens.specs.declared.token.TheConstants.{MAX_TEXT}
 use Rattle.idl_grammar.specs.declared.fault.IdlFault.{IdlFault}
 use Rattle.idl_types.specs.declared.repository.Repository.{Repository}
-use Rattle.idl_types.specs.BuiltIn.{with_ping}
+use Rattle.idl_types.specs.BuiltIn.{with_ping, with_names}
 use Rattle.idl_types.specs.Contents.{things_of}
 use Rattle.idl_types.specs.Things.{Thing}
 use Rattle.idl_reader.specs.Whole.{text_things}
@@ -39,17 +39,21 @@ ReadsFile (Err (File ReadFault)) name old new = Rose old.faults new.faults
 ReadsFile (Err NoMemory) name old new = new.faults ≡ old.faults
 ReadsFile (Err _) name old new = ⊥
 
+-- things with the built-in module: the interface of `ping`, and that of the name service with its exceptions
+abbrev pub with_built_in : List Thing → List Thing
+with_built_in declared = with_names (with_ping declared)
+
 -- the things of a repository with the built-in module; out of memory, nothing is said
-abbrev pub AddsPing : Result Repository CallEnd → Repository → Type 0
-AddsPing (Ok r) before = things_of r ≡ with_ping (things_of before)
-AddsPing (Err NoMemory) before = Unit {0}
-AddsPing (Err _) before = ⊥
+abbrev pub AddsBuiltIn : Result Repository CallEnd → Repository → Type 0
+AddsBuiltIn (Ok r) before = things_of r ≡ with_built_in (things_of before)
+AddsBuiltIn (Err NoMemory) before = Unit {0}
+AddsBuiltIn (Err _) before = ⊥
 
 -- the file of this name declares things, and these are known: they and the built-in module
 pub record FileKnows (files : FilesState) (name : List ℕ) (things : List Thing) : Type 0 where
   pub declared : List Thing
   pub gives : FileGives files name (Ok declared)
-  pub all : things ≡ with_ping declared
+  pub all : things ≡ with_built_in declared
 
 -- what is known by the file of a name, or why nothing is
 abbrev pub KnowsBy : Result Repository CallEnd → List ℕ → FilesState → FilesState → Type 0
@@ -59,6 +63,6 @@ KnowsBy (Err end) name old new = ReadsFile (Err end) name old new
 -- what is known: by the file of a name, or without a name the built-in module alone
 abbrev pub Knows : Result Repository CallEnd → Option (List ℕ) → FilesState → FilesState → Type 0
 Knows answer (Some name) old new = KnowsBy answer name old new
-Knows (Ok r) None old new = (things_of r ≡ with_ping []) × (new ≡ old)
+Knows (Ok r) None old new = (things_of r ≡ with_built_in []) × (new ≡ old)
 Knows (Err NoMemory) None old new = new ≡ old
 Knows (Err _) None old new = ⊥

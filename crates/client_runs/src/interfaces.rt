@@ -1,5 +1,6 @@
 //! The interfaces that a call knows.
-ghost use Rattle.std.specs.Prelude.{◌≡◌, ◌≤◌, length, option_map};
+ghost use Rattle.std.specs.Prelude.{◌≡◌, ◌≤◌, IfOk, length, option_map};
+ghost use Rattle.idl_types.specs.Contents.{things_of};
 ghost use Rattle.client_runs.specs.Interfaces as Spec;
 
 use crate::call_end::{CallEnd, FileFault};
@@ -38,11 +39,18 @@ fn read_file<F: Files>(alloc: Global, files: &mut F, name: &Text) -> Result<Repo
     }
 }
 
-/// What a repository declares with the built-in module.
-fn with_ping(repository: Repository) -> Result<Repository, CallEnd>
-    ensures { Spec.AddsPing result repository }
+/// What a repository declares with the interface of `ping`, and with that of the name service and its exceptions.
+fn with_both(repository: Repository) -> Result<Repository, NoMemory>
+    ensures { IfOk result (λ r. things_of r ≡ Spec.with_built_in (things_of repository)) }
 {
-    match repository.with_ping() {
+    repository.with_ping()?.with_names()
+}
+
+/// What a repository declares with the built-in module.
+fn with_built_in(repository: Repository) -> Result<Repository, CallEnd>
+    ensures { Spec.AddsBuiltIn result repository }
+{
+    match with_both(repository) {
         Ok(repository) => Ok(repository),
         Err(NoMemory) => Err(CallEnd::NoMemory),
     }
@@ -55,7 +63,7 @@ fn known_by<F: Files>(alloc: Global, files: &mut F, name: &Text) -> Result<Repos
     ensures kept { (F.state files.new).files ≡ (F.state files.old).files }
 {
     match read_file(alloc, files, name) {
-        Ok(repository) => with_ping(repository),
+        Ok(repository) => with_built_in(repository),
         Err(end) => Err(end),
     }
 }
@@ -72,6 +80,6 @@ pub(crate) fn known<F: Files>(
 {
     match idl {
         Some(name) => known_by(alloc, files, name),
-        None => with_ping(Repository::new(alloc)),
+        None => with_built_in(Repository::new(alloc)),
     }
 }
