@@ -3,3 +3,5 @@ pub mod Building
 pub mod Readers
 pub mod Orders
 pub mod Written
+pub mod Digits
+pub mod NulWords

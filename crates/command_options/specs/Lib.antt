@@ -6,3 +6,5 @@ pub mod Found
 pub mod Commands
 pub mod Whole
 pub mod Clap
+pub mod Numbers
+pub mod Nul

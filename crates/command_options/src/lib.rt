@@ -8,6 +8,8 @@ mod commands;
 mod item;
 mod laws;
 mod library;
+mod nul;
+mod numbers;
 mod options;
 
 pub use commands::{
@@ -15,4 +17,6 @@ pub use commands::{
 };
 pub use item::{Item, Kind};
 pub use laws::{commands_are_read_as_written, order_is_free, second_use_is_refused};
+pub use nul::has_nul;
+pub use numbers::{MAX_DIGITS, number_of};
 pub use options::{Options, read_options};

@@ -1,4 +1,2 @@
-pub mod Digits
-pub mod NulWords
 pub mod Orders
 pub mod Written

@@ -4,12 +4,13 @@ use Rattle.std.specs.Prelude.{is_some, option_map}
 use Rattle.orb_base.specs.NulFree.{nul_at}
 use Rattle.command_options.specs.Given.{given}
 use Rattle.command_options.specs.Items.{Text}
+use Rattle.command_options.specs.Nul.{has_nul}
 use Rattle.command_options.specs.Uses.{Use}
 use Rattle.command_options.specs.Whole.{IsWhole}
 use Rattle.command_options.proofs.Orders as options
 use Rattle.command_words.specs.declared.meaning.Meaning.{Meaning}
 use Rattle.command_words.specs.declared.meaning.Meaning.TheVariants.{Unread}
-use Rattle.command_words.specs.Words.{Command, command_named, command_of, has_nul, meant, named_by}
+use Rattle.command_words.specs.Words.{Command, command_named, command_of, meant, named_by}
 
 -- ---- words with a NUL
 

@@ -8,10 +8,11 @@ use Rattle.object_lines.specs.Addresses.{address_of}
 use Rattle.pipe_runs.specs.declared.shown.Shown.TheVariants as shown
 use Rattle.command_options.specs.Given.{given}
 use Rattle.command_options.specs.Items.{Text}
+use Rattle.command_options.specs.Numbers.{number_of}
 use Rattle.command_options.specs.Words.{form_of, plain}
 use Rattle.command_options.proofs.Written as options
 use Rattle.command_words.specs.Meanings.{called, listed, loaded, piped, planned, refs_at, served_at}
-use Rattle.command_words.specs.Numbers.{batch_of, count_of, fragment_of, number_of, priority_of, runs_of}
+use Rattle.command_words.specs.Numbers.{batch_of, count_of, fragment_of, priority_of, runs_of}
 use Rattle.command_words.specs.Words.{command_of}
 
 -- ---- bytes before a value

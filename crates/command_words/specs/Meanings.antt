@@ -6,7 +6,8 @@ use Rattle.load_runs.specs.declared.load_plan.LoadPlan.{LoadPlan}
 use Rattle.pipe_runs.specs.declared.shown.Shown.{Shown}
 use Rattle.pipe_runs.specs.declared.shown.Shown.TheVariants as shown
 use Rattle.command_options.specs.Items.{Text}
-use Rattle.command_words.specs.Numbers.{number_of, batch_by, runs_by, priority_by, count_of, fragment_by}
+use Rattle.command_options.specs.Numbers.{number_of}
+use Rattle.command_words.specs.Numbers.{batch_by, runs_by, priority_by, count_of, fragment_by}
 use Rattle.command_words.specs.declared.meaning.Meaning.{Meaning}
 use Rattle.command_words.specs.declared.meaning.Meaning.TheVariants.{Pipe, Serve, Dump, Audit, Refs, RefsAt, Idl, Call, Load, Unread}
 

@@ -1,22 +1,12 @@
 -- Numbers in words: own profile.
-use Rattle.std.specs.Prelude.{◌&&◌, ◌^◌, ℕ, nat_lt, nat_le, length, option_map, Option, Some, None, if◌then◌else◌}
-use Rattle.std.specs.Char.{is_ascii_digit}
-use Rattle.std.specs.List.{list_all}
+use Rattle.std.specs.Prelude.{◌^◌, ℕ, nat_lt, option_map, Option, Some, None, if◌then◌else◌}
 use Rattle.std.specs.Option.{option_and_then}
-use Rattle.std.specs.Str.Parse.{digits_value}
 use Rattle.object_refs.specs.LocationReading.{port_number}
 use Rattle.load_runs.specs.Counts.{fragment_len, load_count}
 use Rattle.pipe_runs.specs.Batches.{batch}
 use Rattle.server_runs.specs.Counts.{run_count}
 use Rattle.command_options.specs.Items.{Text}
-
--- the number of 1 to 10 decimal digits that a word is, below 2^32; zeros may come before
-unfoldable pub number_of : Text → Option ℕ
-number_of word =
-    let number = digits_value 10 word in
-    if nat_lt 0 (length word) && (nat_le (length word) 10 && (list_all is_ascii_digit word && nat_lt number (2 ^ 32)))
-    then Some number
-    else None
+use Rattle.command_options.specs.Numbers.{number_of}
 
 -- a number from 1 to 64, of 1 to 10 decimal digits
 abbrev pub batch_of : Text → Option ℕ

@@ -1,11 +1,10 @@
 -- What the words of a command line mean: own profile.
 use Rattle.std.specs.Prelude.{Bool, false, not, ◌&&◌, if◌then◌else◌, List, [], ◌∷◌, codes}
 use Rattle.std.specs.Prelude.{Option, Some, None, is_some, option_map}
-use Rattle.std.specs.List.{list_any}
 use Rattle.std.specs.Str.{bytes_eq}
-use Rattle.orb_base.specs.NulFree.{nul_at}
 use Rattle.command_options.specs.Items.{Item, Text}
 use Rattle.command_options.specs.Commands.{pipe_items, serve_items, refs_items, dump_items, audit_items, idl_items, call_items, load_items}
+use Rattle.command_options.specs.Nul.{has_nul}
 use Rattle.command_options.specs.Uses.{reading}
 use Rattle.command_options.specs.Given.{given}
 use Rattle.command_words.specs.Meanings.{Gives, pipe_by, serve_by, refs_by, dump_by, audit_by, idl_by, call_by, load_by}
@@ -44,10 +43,6 @@ read_by None words = Unread
 abbrev pub named_by : List Text → Meaning
 named_by [] = Unread
 named_by (name ∷ words) = read_by (command_named name) words
-
--- one of the words holds a NUL
-abbrev pub has_nul : List Text → Bool
-has_nul words = list_any (λ word. is_some (nul_at word)) words
 
 -- what words mean: nothing where one of them holds a NUL
 unfoldable pub command_of : List Text → Meaning

@@ -4,12 +4,13 @@ ghost use Rattle.orb_base.specs.NulFree.{HasNoNul};
 ghost use Rattle.object_lines.specs.Addresses.{address_of};
 ghost use Rattle.pipe_runs.specs.declared.shown.Shown.TheVariants as shown;
 ghost use Rattle.command_options.specs.Items.{Text};
+ghost use Rattle.command_options.specs.Numbers.{number_of};
 ghost use Rattle.command_options.specs.Uses.{Use};
 ghost use Rattle.command_options.specs.Whole.{IsWhole};
 ghost use Rattle.command_options.specs.Words.{form_of, plain};
 ghost use Rattle.command_words.specs.declared.meaning.Meaning.TheVariants.{Unread};
 ghost use Rattle.command_words.specs.Meanings.{called, listed, loaded, piped, planned, refs_at, served_at};
-ghost use Rattle.command_words.specs.Numbers.{batch_of, count_of, fragment_of, number_of, priority_of, runs_of};
+ghost use Rattle.command_words.specs.Numbers.{batch_of, count_of, fragment_of, priority_of, runs_of};
 ghost use Rattle.command_words.specs.Words.{Command, command_named, command_of};
 
 /// The order of options is free: words in which two options of a command, each written out whole, change places mean the same. So do

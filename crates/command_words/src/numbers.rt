@@ -1,38 +1,13 @@
 //! Numbers in words.
 ghost use Rattle.std.specs.Prelude.{◌≡◌, option_map};
-ghost use Rattle.std.specs.Char.{is_ascii_digit};
-ghost use Rattle.std.specs.List.{list_all};
 ghost use Rattle.command_words.specs.Numbers as Spec;
 
+use command_options::{MAX_DIGITS, number_of};
 use load_runs::{FragmentLen, LoadCount};
 use object_refs::port_number;
 use orb_base::Priority;
 use pipe_runs::Batch;
 use server_runs::RunCount;
-
-/// The most digits of a number, own profile.
-const MAX_DIGITS: usize = 10;
-
-/// Whether each byte is a decimal digit.
-fn are_digits(bytes: &[u8]) -> bool
-    ensures { result ≡ list_all is_ascii_digit bytes.now }
-{
-    bytes.iter().all(|byte| byte.is_ascii_digit())
-}
-
-/// The number that the word is, 0 to 4,294,967,295 in 1 to 10 decimal digits; zeros may come before. None where the word is no such number.
-#[tactic(auto, unfolding(crate::specs::Numbers::number_of))]
-pub(crate) fn number_of(word: &str) -> Option<u32>
-    ensures { result ≡ Spec.number_of word.now }
-{
-    if word.len() > MAX_DIGITS || !are_digits(word.as_bytes()) {
-        return None;
-    }
-    match word.parse::<u32>() {
-        Ok(number) => Some(number),
-        Err(_) => None,
-    }
-}
 
 /// How many calls a group has: the number that the word is, 1 to 64 in 1 to 10 decimal digits, or 1 where there is no word. None
 /// where the word is no such number.

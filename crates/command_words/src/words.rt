@@ -1,6 +1,5 @@
 //! Reading the words of a command line.
 ghost use Rattle.std.specs.Prelude.{◌≡◌, ◌∷◌, true, IfOk, OnErr, is_some, map, option_map, string_bytes};
-ghost use Rattle.orb_base.specs.NulFree.{nul_at};
 ghost use Rattle.command_options.specs.Commands as Takes;
 ghost use Rattle.command_options.specs.Found.{given_by};
 ghost use Rattle.command_options.specs.Given.{given};
@@ -9,19 +8,18 @@ ghost use Rattle.command_words.specs.Meanings as By;
 ghost use Rattle.command_words.specs.Words as Spec;
 
 use crate::meaning::{LoadWords, Meaning, PipeWords, ServeWords};
-use crate::numbers::{batch_by, count_of, fragment_by, number_of, priority_by, runs_by};
+use crate::numbers::{batch_by, count_of, fragment_by, priority_by, runs_by};
 use client_runs::{ArgumentText, CallWords};
 use command_options::{
-    Options, read_audit, read_call, read_dump, read_idl, read_load, read_pipe, read_refs,
-    read_serve,
+    Options, has_nul, number_of, read_audit, read_call, read_dump, read_idl, read_load, read_pipe,
+    read_refs, read_serve,
 };
 use load_runs::LoadPlan;
 use object_lines::read_address;
-use orb_base::{NoMemory, Text, first_nul};
+use orb_base::{NoMemory, Text};
 use pipe_runs::Shown;
 use server_runs::RunPlan;
 use std::alloc::Global;
-use std::convert::AsStr;
 
 /// What the words mean, the first of which is the command: the options after it come in any order, each once at most, as
 /// `--name value` or `--name=value`. The reading, also of words that have none, takes time and memory in the length of the words.
@@ -39,25 +37,6 @@ pub fn read_words(alloc: Global, words: &[String]) -> Result<Meaning, NoMemory>
         [] => Ok(Meaning::Unread),
         [name, options @ ..] => read_named(alloc, name.as_str(), options),
     }
-}
-
-/// Whether one of the words holds a NUL.
-fn has_nul<S: AsStr>(words: &[S]) -> bool
-    ensures { result ≡ Spec.has_nul (map S.text words.now) }
-{
-    for word in words {
-        if holds_nul(word.as_str()) {
-            return true;
-        }
-    }
-    false
-}
-
-/// Whether a word holds a NUL.
-fn holds_nul(word: &str) -> bool
-    ensures { result ≡ is_some (nul_at word.now) }
-{
-    first_nul(word.as_bytes()).is_some()
 }
 
 /// What the command of this name means with these words after it.

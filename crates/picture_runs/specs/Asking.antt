@@ -1,16 +1,12 @@
 -- What the words of `orb_picture` ask for: `[RUN] [--from N] [--entries N] [--table]`. Own profile.
-use Rattle.std.specs.Prelude.{ℕ, Bool, true, false, ◌&&◌, ◌^◌, List, [], ◌∷◌, codes, length, is_some, nat_lt, nat_le, min, option_map, Option, Some, None, if◌then◌else◌}
-use Rattle.std.specs.Char.{is_ascii_digit}
-use Rattle.std.specs.List.{list_all, list_any}
-use Rattle.std.specs.Option.{option_and_then}
-use Rattle.std.specs.Str.Parse.{digits_value}
-use Rattle.orb_base.specs.NulFree.{nul_at}
+use Rattle.std.specs.Prelude.{ℕ, List, [], ◌∷◌, codes, is_some, option_map, Option, Some, None, if◌then◌else◌}
 use Rattle.command_options.specs.declared.item.Kind.TheVariants.{Valued, Switch, Positional}
 use Rattle.command_options.specs.Items.{Item, Text}
 use Rattle.command_options.specs.Commands.{may_have}
 use Rattle.command_options.specs.Given.{given}
+use Rattle.command_options.specs.Nul.{has_nul}
+use Rattle.command_options.specs.Numbers.{number_of}
 use Rattle.command_options.specs.Uses.{reading}
-use Rattle.trace_picture.specs.declared.view.View.{View}
 use Rattle.trace_picture.specs.declared.view.TheConstants.{MAX_DRAWN}
 use Rattle.picture_runs.specs.declared.asked.Asked.{Asked}
 use Rattle.picture_runs.specs.declared.asked.Asked.TheVariants.{Picture, Table}
@@ -20,14 +16,6 @@ abbrev pub items : List Item
 items =
     may_have (Positional 1) (codes "run") ∷ may_have Valued (codes "from") ∷ may_have Valued (codes "entries")
     ∷ may_have Switch (codes "table") ∷ []
-
--- the number of 1 to 10 decimal digits that a word is, below 2^32; zeros may come before
-abbrev pub number_of : Text → Option ℕ
-number_of word =
-    let number = digits_value 10 word in
-    if nat_lt 0 (length word) && (nat_le (length word) 10 && (list_all is_ascii_digit word && nat_lt number (2 ^ 32)))
-    then Some number
-    else None
 
 -- the number that the word is, or this one where there is no word
 abbrev pub number_or : ℕ → Option Text → Option ℕ
@@ -60,10 +48,6 @@ asked_by gives =
 abbrev pub read_as : Option (Text → Option Text) → Option Asked
 read_as (Some gives) = asked_by gives
 read_as None = None
-
--- one of the words holds a NUL
-abbrev pub has_nul : List Text → Bool
-has_nul words = list_any (λ word. is_some (nul_at word)) words
 
 -- what the words ask for; nothing where one of them holds a NUL
 abbrev pub asked_of : List Text → Option Asked

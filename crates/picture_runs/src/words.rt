@@ -1,16 +1,13 @@
 //! What the words ask for.
-ghost use Rattle.std.specs.Prelude.{◌≡◌, map, option_map, is_some, string_bytes, IfOk};
-ghost use Rattle.std.specs.Char.{is_ascii_digit};
-ghost use Rattle.std.specs.List.{list_all};
-ghost use Rattle.orb_base.specs.NulFree.{nul_at};
+ghost use Rattle.std.specs.Prelude.{◌≡◌, map, option_map, string_bytes, IfOk};
 ghost use Rattle.command_options.specs.Found.{given_by};
 ghost use Rattle.command_options.specs.Given.{given};
 ghost use Rattle.command_options.specs.Uses.{reading};
 ghost use Rattle.picture_runs.specs.Asking as Spec;
 
 use crate::asked::Asked;
-use command_options::{Item, Kind, Options, read_options};
-use orb_base::{NoMemory, first_nul};
+use command_options::{Item, Kind, Options, has_nul, number_of, read_options};
+use orb_base::NoMemory;
 use std::alloc::Global;
 use std::convert::AsStr;
 use trace_picture::{MAX_DRAWN, View};
@@ -38,30 +35,6 @@ static ITEMS: [Item<'static>; 4] = [
         is_due: false,
     },
 ];
-
-/// The most digits of a number, own profile.
-const MAX_DIGITS: usize = 10;
-
-/// Whether each byte is a decimal digit.
-fn are_digits(bytes: &[u8]) -> bool
-    ensures { result ≡ list_all is_ascii_digit bytes.now }
-{
-    bytes.iter().all(|byte| byte.is_ascii_digit())
-}
-
-/// The number that the word is, 0 to 4,294,967,295 in 1 to 10 decimal digits; zeros may come before. None where the word is no such
-/// number.
-fn number_of(word: &str) -> Option<u32>
-    ensures { result ≡ Spec.number_of word.now }
-{
-    if word.len() > MAX_DIGITS || !are_digits(word.as_bytes()) {
-        return None;
-    }
-    match word.parse::<u32>() {
-        Ok(number) => Some(number),
-        Err(_) => None,
-    }
-}
 
 /// The number that the word is, or this one where there is no word.
 fn number_or(other: u32, word: Option<&str>) -> Option<u32>
@@ -109,25 +82,6 @@ fn asked_by(options: &Options<'_>) -> Option<Asked>
     let from = number_or(0, options.value("from"));
     let entries = number_or(MAX_DRAWN, options.value("entries"));
     picture_by(run, from, entries)
-}
-
-/// Whether a word holds a NUL.
-fn holds_nul(word: &str) -> bool
-    ensures { result ≡ is_some (nul_at word.now) }
-{
-    first_nul(word.as_bytes()).is_some()
-}
-
-/// Whether one of the words holds a NUL.
-fn has_nul<S: AsStr>(words: &[S]) -> bool
-    ensures { result ≡ Spec.has_nul (map S.text words.now) }
-{
-    for word in words {
-        if holds_nul(word.as_str()) {
-            return true;
-        }
-    }
-    false
 }
 
 /// What the words give the items.

@@ -5,7 +5,7 @@ use Rattle.std.proofs.Math.Numerals.{add-one}
 use Rattle.std.proofs.lemmas.List.{drop_all}
 use Rattle.orb_base.specs.NulFree.{nul_at}
 use Rattle.command_options.specs.Items.{Text}
-use Rattle.command_words.specs.Words.{has_nul}
+use Rattle.command_options.specs.Nul.{has_nul}
 
 -- the words from number k on are the k-th and those after it
 from_word : {A : Type 0} (text : A → Text) (words : List A) (k : ℕ) (d : A) → k < length words

@@ -1,8 +1,8 @@
 use Rattle.std.proofs.Common.{◌≡◌, true, rules}
 use Rattle.std.specs.Char.{is_ascii_digit}
 use Rattle.std.specs.List.{list_all}
-use Rattle.picture_runs.proofs.Digits.{number_unparsed}
-use Rattle.picture_runs.proofs.words.number_of.Goals as goal
+use Rattle.command_options.proofs.Digits.{number_unparsed}
+use Rattle.command_options.proofs.numbers.number_of.Goals as goal
 
 pub returns-in-Err : goal.returns-in-Err
 returns-in-Err c =

@@ -1,8 +1,8 @@
 use Rattle.std.proofs.Common.{◌∙◌, ap, sym}
 use Rattle.std.specs.Prelude.{is_some}
 use Rattle.orb_base.specs.NulFree.{nul_at}
-use Rattle.picture_runs.proofs.NulWords.{clean_word, no_words, nul_word}
-use Rattle.picture_runs.proofs.words.has_nul.Goals as goal
+use Rattle.command_options.proofs.NulWords.{clean_word, no_words, nul_word}
+use Rattle.command_options.proofs.nul.has_nul.Goals as goal
 
 pub returns-then-holds_nul : goal.returns-then-holds_nul
 returns-then-holds_nul g c =

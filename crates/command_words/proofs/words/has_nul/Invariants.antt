@@ -1,6 +1,0 @@
-use Rattle.std.proofs.Common.{◌≡◌, drop, map}
-use Rattle.command_words.specs.Words.{has_nul}
-use Rattle.command_words.proofs.words.has_nul.Given as goal
-
-abbrev pub invariant-loop-word : goal.invariant-loop-word
-invariant-loop-word g l = has_nul (map g.S.AsStr.text (drop l.word-index l.words)) ≡ has_nul (map g.S.AsStr.text l.words)
