@@ -1,22 +1,22 @@
 -- What is written, and what a note says then.
-use Rattle.std.proofs.Common.{◌≡◌, ℕ, ◌≤◌, ◌<◌, Bool, true, false, List, [], length, Option, Some, None, refl, sym, ap, subst, ◌∙◌, arith, append-nil}
-use Rattle.std.specs.Prelude.{Result, Ok, Err, IfOk}
+use Rattle.std.proofs.Common.{◌≡◌, ◌⊎◌, inl, inr, ℕ, ◌≤◌, ◌<◌, true, false, List, [], length, Option, Some, None, refl, ap, subst, ◌∙◌, arith, append-nil}
+use Rattle.std.specs.Prelude.{Result, Ok, Err, IfOk, OnErr}
 use Rattle.std.proofs.lemmas.Bool.{both_ways}
 use Rattle.orb_base.specs.Outside.{SourceState, SinkState, Rose}
-use Rattle.text_streams.specs.Streams.{Gave, AtEnd, WroteText, WroteFrontOf}
-use Rattle.trace_reading.specs.Faults.{FaultAt}
-use Rattle.trace_reading.specs.Traces.{Trace, IsTrace, AreTraces}
+use Rattle.text_streams.specs.Streams.{Gave, GaveFew, AtEnd, WroteText, WroteFrontOf}
+use Rattle.text_streams.proofs.CallerLemmas.{gave_none}
+use Rattle.trace_reading.specs.Traces.{Trace, AreTraces}
 use Rattle.trace_runs.specs.Reading.{IsSound}
 use Rattle.trace_runs.proofs.FirstFaults.{is_sound}
 use Rattle.trace_audit.specs.Audit.{IsFaultInPart}
 use Rattle.orb_base.specs.declared.no_memory.NoMemory.{NoMemory}
 use Rattle.picture_runs.specs.declared.found.Found.{Found}
 use Rattle.picture_runs.specs.declared.found.Found.TheVariants as found
-use Rattle.picture_runs.specs.Answering.{WroteAll, WroteFront, Writes, Wrote, FellShort, Shows, Says, ReadsTill, Takes, Answers, whole_line_at_fault, note_of}
+use Rattle.picture_runs.specs.Answering.{WroteAll, WroteFront, Writes, Shows, Says, ReadsTill, Answers, AnswersWords, whole_line_at_fault, note_of}
 use Rattle.picture_runs.specs.Drawing.{IsDrawn, run_of}
-use Rattle.picture_runs.specs.Inputs.{HasRun, HasNoRun, Finds}
+use Rattle.picture_runs.specs.Inputs.{HasRun, Finds}
 use Rattle.picture_runs.specs.declared.asked.Asked.{Asked}
-use Rattle.picture_runs.specs.declared.input.TheConstants.{MAX_READ}
+use Rattle.trace_audit.specs.declared.input.TheConstants.{MAX_AUDITED}
 use Rattle.picture_runs.specs.declared.note.Note.{Note}
 use Rattle.picture_runs.specs.declared.note.Note.TheVariants as note
 use Rattle.lane_audit.specs.Verdicts.{IsFirstWrong}
@@ -49,9 +49,9 @@ shows_run asked bytes run (note.Absent k) out out' has w = absurd w
 shows_run asked bytes run note.Limit out out' has w = absurd w
 
 -- an input that was read to its end
-module _ (asked : Asked) (bytes : List ℕ) (old new : SourceState) (out out' : SinkState) (few : length bytes < MAX_READ) (gave : Gave bytes old new) (met : AtEnd old new)
+module _ (asked : Asked) (bytes : List ℕ) (old new : SourceState) (out out' : SinkState) (few : length bytes < MAX_AUDITED) (gave : Gave bytes old new) (met : AtEnd old new)
     (faults : new.faults ≡ old.faults) where
-  taken : (n : Note) → ReadsTill n true old new → Says asked n bytes true out out' → Takes asked n old new out out'
+  taken : (n : Note) → ReadsTill n bytes true old new → Says asked n bytes true out out' → Answers asked n old new out out'
   taken n reads says = record { bytes = bytes; ended = true; gave = gave; few = omega arith; met = met; reads = reads; says = says }
 
   pub whole_answers : (n : Note) → Shows asked bytes n out out' → Answers asked n old new out out'
@@ -59,7 +59,7 @@ module _ (asked : Asked) (bytes : List ℕ) (old new : SourceState) (out out' : 
   whole_answers note.WriteFault w = taken note.WriteFault faults (refl, w)
   whole_answers (note.Absent k) w = taken (note.Absent k) (λ e. faults) (refl, w.0, w.1, w.2)
   whole_answers (note.Trace at) w = taken (note.Trace at) (λ e. faults) w
-  whole_answers note.Memory w = w
+  whole_answers note.Memory w = taken note.Memory (λ e. faults) w
   whole_answers note.Usage w = absurd w
   whole_answers note.ReadFault w = absurd w
   whole_answers note.Limit w = absurd w
@@ -77,17 +77,34 @@ found_in_part bytes n found.Absent h = runs_are_sound bytes h.runs h.are
 
 -- an input of which no end was met
 module _ (asked : Asked) (bytes : List ℕ) (old new : SourceState) (out : SinkState) (gave : Gave bytes old new) (ends : new.ends ≡ old.ends) where
-  taken_part : (n : Note) → length bytes ≤ MAX_READ → ReadsTill n false old new → Says asked n bytes false out out → Takes asked n old new out out
+  taken_part : (n : Note) → length bytes ≤ MAX_AUDITED → ReadsTill n bytes false old new → Says asked n bytes false out out → Answers asked n old new out out
   taken_part n few reads says = record { bytes = bytes; ended = false; gave = gave; few = few; met = ends; reads = reads; says = says }
 
-  pub full_answers : (f : Result (Option ℕ) NoMemory) → IfOk f (IsFaultInPart bytes) → length bytes ≡ MAX_READ → new.faults ≡ old.faults
+  pub full_answers : (f : Result (Option ℕ) NoMemory) → IfOk f (IsFaultInPart bytes) → length bytes ≡ MAX_AUDITED → new.faults ≡ old.faults
       → Answers asked (note_of f note.Limit) old new out out
   full_answers (Ok (Some at)) is many faults = taken_part (note.Trace at) (omega (arith, many)) (λ e. faults) (is, refl)
   full_answers (Ok None) is many faults = taken_part note.Limit (omega (arith, many)) faults (refl, many, is, refl)
-  full_answers (Err e) is many faults = refl
+  full_answers (Err e) is many faults = taken_part note.Memory (omega (arith, many)) (λ e. faults) refl
 
-  pub failed_answers : (f : Result (Option ℕ) NoMemory) → IfOk f (IsFaultInPart bytes) → length bytes < MAX_READ → Rose old.faults new.faults
+  -- memory is asked for bytes alone
+  no_bytes : 0 < length bytes → ((bytes ≡ []) ⊎ (false ≡ true)) → new.faults ≡ old.faults
+  no_bytes some (inl none) = absurd (omega (arith, some, ap length none))
+  no_bytes some (inr ended) = absurd (both_ways false refl ended)
+
+  pub failed_answers : (f : Result (Option ℕ) NoMemory) → IfOk f (IsFaultInPart bytes) → OnErr f (0 < length bytes) → length bytes < MAX_AUDITED
+      → Rose old.faults new.faults
       → Answers asked (note_of f note.ReadFault) old new out out
-  failed_answers (Ok (Some at)) is few rose = taken_part (note.Trace at) (omega arith) (λ e. absurd (both_ways false refl e)) (is, refl)
-  failed_answers (Ok None) is few rose = taken_part note.ReadFault (omega arith) rose (refl, is, refl)
-  failed_answers (Err e) is few rose = refl
+  failed_answers (Ok (Some at)) is some few rose = taken_part (note.Trace at) (omega arith) (λ e. absurd (both_ways false refl e)) (is, refl)
+  failed_answers (Ok None) is some few rose = taken_part note.ReadFault (omega arith) rose (refl, is, refl)
+  failed_answers (Err e) is some few rose = taken_part note.Memory (omega arith) (no_bytes some) refl
+
+-- memory ran out for the input
+pub unread_answers : (asked : Asked) (old new : SourceState) (out : SinkState) → GaveFew MAX_AUDITED old new → new.ends ≡ old.ends → new.faults ≡ old.faults
+    → Answers asked note.Memory old new out out
+unread_answers asked old new out gave ends faults =
+    record { bytes = gave.bytes; ended = false; gave = gave.gave; few = gave.few; met = ends; reads = λ e. faults; says = refl }
+
+-- memory ran out for the words
+pub words_unread : (words : Option Asked) (old : SourceState) (out : SinkState) → AnswersWords words note.Memory old old out out
+words_unread (Some asked) old out = unread_answers asked old old out (gave_none MAX_AUDITED old) refl refl
+words_unread None old out = (inr refl, refl, refl)

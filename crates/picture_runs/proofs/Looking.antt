@@ -12,9 +12,8 @@ use Rattle.trace_reading.specs.Traces.{Trace, IsTrace, AreTraces, run_text}
 use Rattle.trace_runs.specs.Reading.{HasNoSummary, BeginsWith, IsSound}
 use Rattle.trace_runs.proofs.Afresh.{AreApart, faults_after, sounds_after, apart_more}
 use Rattle.trace_audit.proofs.Runs.{shorter}
-use Rattle.picture_runs.specs.Inputs.{HasRun, HasNoRun, Finds, found_of}
+use Rattle.picture_runs.specs.Inputs.{Finds, found_of}
 use Rattle.picture_runs.specs.declared.found.Found.{Found}
-use Rattle.picture_runs.specs.declared.found.Found.TheVariants as found
 
 -- some runs were read, the one that is wanted is kept if it is among them, and this is the rest of the text
 pub record LookedSoFar (text rest : List ℕ) (wanted n : ℕ) (kept : Option Trace) : Type 0 where
@@ -109,3 +108,7 @@ all_found text rest wanted n kept o h none e = subst (Finds text wanted) (sym e)
     by_kept : (k : Option Trace) → k ≡ slice_get h.runs wanted → Finds text wanted (found_of k)
     by_kept (Some t) which = (record { runs = h.runs; are = are; which = which }, is_run h.runs wanted t h.each which)
     by_kept None which = record { runs = h.runs; are = are; none = which }
+
+-- a rest that isn't empty is of a text that isn't
+pub has_bytes : (text rest : List ℕ) (wanted n : ℕ) (kept : Option Trace) → LookedSoFar text rest wanted n kept → 0 < length rest → 0 < length text
+has_bytes text rest wanted n kept h some = let r = h.room in omega (arith, r, some)

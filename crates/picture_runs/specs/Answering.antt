@@ -1,17 +1,17 @@
 -- What `orb_picture` answers, and what it writes. Own profile.
-use Rattle.std.specs.Prelude.{◌≡◌, ◌≤◌, ◌⊎◌, ℕ, Bool, true, false, List, length, Option, Some, None, Result, Ok, Err}
+use Rattle.std.specs.Prelude.{◌≡◌, ◌≤◌, ◌⊎◌, ℕ, Bool, true, false, List, [], length, Option, Some, None, Result, Ok, Err}
 use Rattle.orb_base.specs.Outside.{SourceState, SinkState, Rose}
 use Rattle.text_streams.specs.Streams.{Gave, MeetsEnd, WroteText, WroteFrontOf}
 use Rattle.trace_reading.specs.Faults.{FaultAt}
 use Rattle.trace_reading.specs.Traces.{Trace}
 use Rattle.trace_runs.specs.Reading.{IsSound}
+use Rattle.trace_audit.specs.declared.input.TheConstants.{MAX_AUDITED}
 use Rattle.picture_runs.specs.Inputs.{HasRun, HasNoRun}
 use Rattle.picture_runs.specs.Drawing.{IsDrawn, run_of}
 use Rattle.picture_runs.specs.declared.asked.Asked.{Asked}
 use Rattle.orb_base.specs.declared.no_memory.NoMemory.{NoMemory}
 use Rattle.picture_runs.specs.declared.found.Found.{Found}
 use Rattle.picture_runs.specs.declared.found.Found.TheVariants as found
-use Rattle.picture_runs.specs.declared.input.TheConstants.{MAX_READ}
 use Rattle.picture_runs.specs.declared.note.Note.{Note}
 use Rattle.picture_runs.specs.declared.note.Note.TheVariants as note
 
@@ -87,32 +87,29 @@ Says asked note.WriteFault bytes ended out out' = (ended ≡ true) × FellShort 
 Says asked (note.Absent run) bytes ended out out' = (ended ≡ true) × (run ≡ run_of asked) × HasNoRun bytes run × (out' ≡ out)
 Says asked (note.Trace at) bytes ended out out' = FaultAt bytes ended at × (out' ≡ out)
 Says asked note.ReadFault bytes ended out out' = (ended ≡ false) × IsSound bytes × (out' ≡ out)
-Says asked note.Limit bytes ended out out' = (ended ≡ false) × (length bytes ≡ MAX_READ) × IsSound bytes × (out' ≡ out)
+Says asked note.Limit bytes ended out out' = (ended ≡ false) × (length bytes ≡ MAX_AUDITED) × IsSound bytes × (out' ≡ out)
 Says asked note.Memory bytes ended out out' = out' ≡ out
 Says asked note.Usage bytes ended out out' = ⊥
 
--- the count of failed reads rose, where that is the note, and where it rose no end was met
-abbrev pub ReadsTill : Note → Bool → SourceState → SourceState → Type 0
-ReadsTill note.Nothing ended old new = new.faults ≡ old.faults
-ReadsTill note.WriteFault ended old new = new.faults ≡ old.faults
-ReadsTill note.Limit ended old new = new.faults ≡ old.faults
-ReadsTill note.ReadFault ended old new = Rose old.faults new.faults
-ReadsTill note ended old new = ended ≡ true → new.faults ≡ old.faults
+-- the count of failed reads rose, where that is the note, and where it rose no end was met; out of memory it rose only where bytes had
+-- come before: memory is asked for bytes alone, and of an input that fails at once a read fault is said
+abbrev pub ReadsTill : Note → List ℕ → Bool → SourceState → SourceState → Type 0
+ReadsTill note.Nothing bytes ended old new = new.faults ≡ old.faults
+ReadsTill note.WriteFault bytes ended old new = new.faults ≡ old.faults
+ReadsTill note.Limit bytes ended old new = new.faults ≡ old.faults
+ReadsTill note.ReadFault bytes ended old new = Rose old.faults new.faults
+ReadsTill note.Memory bytes ended old new = ((bytes ≡ []) ⊎ (ended ≡ true)) → new.faults ≡ old.faults
+ReadsTill note bytes ended old new = ended ≡ true → new.faults ≡ old.faults
 
--- some bytes of the input were taken, and the note says what they are and what was written
-pub record Takes (asked : Asked) (note : Note) (old new : SourceState) (out out' : SinkState) : Type 0 where
+-- some bytes of the input were taken, and the note says what they are and what was written; out of memory nothing was
+pub record Answers (asked : Asked) (note : Note) (old new : SourceState) (out out' : SinkState) : Type 0 where
   pub bytes : List ℕ
   pub ended : Bool
   pub gave : Gave bytes old new
-  pub few : length bytes ≤ MAX_READ
+  pub few : length bytes ≤ MAX_AUDITED
   pub met : MeetsEnd ended old new
-  pub reads : ReadsTill note ended old new
+  pub reads : ReadsTill note bytes ended old new
   pub says : Says asked note bytes ended out out'
-
--- the same; out of memory it is only said that nothing was written
-abbrev pub Answers : Asked → Note → SourceState → SourceState → SinkState → SinkState → Type 0
-Answers asked note.Memory old new out out' = out' ≡ out
-Answers asked n old new out out' = Takes asked n old new out out'
 
 -- words that ask for nothing touch neither the input nor the output
 abbrev pub AnswersWords : Option Asked → Note → SourceState → SourceState → SinkState → SinkState → Type 0

@@ -1,27 +1,11 @@
 -- The input of a picture: what its bytes are, and which of its runs is looked for. Own profile.
-use Rattle.std.specs.Prelude.{◌≡◌, ◌<◌, ◌≤◌, ℕ, true, false, List, length, Option, Some, None, slice_get, Result, Ok, Err}
-use Rattle.orb_base.specs.Outside.{SourceState, Rose}
-use Rattle.orb_base.specs.declared.no_memory.NoMemory.{NoMemory}
-use Rattle.text_streams.specs.Streams.{Gave, GaveFew, AtEnd}
+use Rattle.std.specs.Prelude.{◌≡◌, ℕ, true, false, List, Option, Some, None, slice_get}
 use Rattle.trace_reading.specs.Faults.{FaultAt}
 use Rattle.trace_reading.specs.Traces.{Trace, AreTraces}
 use Rattle.trace_runs.specs.Reading.{IsSound}
 use Rattle.trace_reading.specs.Traces.{IsTrace}
-use Rattle.picture_runs.specs.declared.input.Input.{Input}
-use Rattle.picture_runs.specs.declared.input.Input.TheVariants as input
-use Rattle.picture_runs.specs.declared.input.TheConstants.{MAX_READ}
 use Rattle.picture_runs.specs.declared.found.Found.{Found}
 use Rattle.picture_runs.specs.declared.found.Found.TheVariants as found
-
--- the bytes of an input were taken, up to its end, to a failed read, or to the limit
-abbrev pub TakesInput : Result Input NoMemory → SourceState → SourceState → Type 0
-TakesInput (Ok (input.Whole bytes)) old new =
-    (length bytes.items < MAX_READ) × Gave bytes.items old new × AtEnd old new × (new.faults ≡ old.faults)
-TakesInput (Ok (input.Full bytes)) old new =
-    (length bytes.items ≡ MAX_READ) × Gave bytes.items old new × (new.ends ≡ old.ends) × (new.faults ≡ old.faults)
-TakesInput (Ok (input.Failed bytes)) old new =
-    (length bytes.items < MAX_READ) × Gave bytes.items old new × (new.ends ≡ old.ends) × Rose old.faults new.faults
-TakesInput (Err _) old new = Unit {0}
 
 -- the bytes are runs, and the one of this number among them is this one
 pub record HasRun (bytes : List ℕ) (n : ℕ) (run : Trace) : Type 0 where

@@ -1,5 +1,5 @@
 //! Looking for a run.
-ghost use Rattle.std.specs.Prelude.{◌≡◌, ◌==◌, IfOk, Some, if◌then◌else◌};
+ghost use Rattle.std.specs.Prelude.{◌≡◌, ◌<◌, ◌==◌, length, IfOk, OnErr, Some, if◌then◌else◌};
 ghost use Rattle.picture_runs.specs.Inputs.{Finds, found_of as found_of_lem};
 
 use crate::found::Found;
@@ -28,9 +28,11 @@ fn found_of(kept: Option<Run>) -> Found
 
 /// Reads a text run by run, and looks for the one of a number; or gives its first line at fault, or where it lacks lines. Work grows with
 /// the text; memory with the lines of two runs.
-#[tactic(auto, using(crate::proofs::Looking::starts, crate::proofs::Looking::all_found, trace_audit::proofs::Runs::within, trace_audit::proofs::Runs::shorter))]
+#[tactic(auto, using(crate::proofs::Looking::starts, crate::proofs::Looking::all_found, crate::proofs::Looking::has_bytes, trace_audit::proofs::Runs::within, trace_audit::proofs::Runs::shorter))]
 pub fn find_run(alloc: Global, text: &[u8], wanted: u32) -> Result<Found, NoMemory>
-    ensures { IfOk result (Finds text.now wanted) }
+    ensures finds { IfOk result (Finds text.now wanted) }
+    // Memory is asked for bytes alone.
+    ensures memory { OnErr result (0 < length text.now) }
 {
     let mut kept = None;
     let mut n: usize = 0;

@@ -4,12 +4,10 @@
 mod asked;
 mod finding;
 mod found;
-mod input;
 mod note;
 mod picturing;
 mod words;
 
 pub use asked::Asked;
-pub use input::MAX_READ;
 pub use note::{Note, status_of};
 pub use picturing::picture_main;

@@ -19,9 +19,9 @@ pub enum Note {
     Trace(u64),
     /// The input is traces, but has no run of this number. Nothing was written.
     Absent(u32),
-    /// Memory was wanting. Nothing was written.
+    /// Out of memory. Nothing was written. Where the input failed too, bytes had come before.
     Memory,
-    /// `MAX_READ` bytes were taken, in which no whole line is at fault. Nothing was written.
+    /// `MAX_AUDITED` bytes were taken, in which no whole line is at fault. Nothing was written.
     Limit,
 }
 

@@ -1,5 +1,5 @@
 //! The picture of a run of an input of traces.
-ghost use Rattle.std.specs.Prelude.{◌≡◌, map, string_bytes, length, IfOk};
+ghost use Rattle.std.specs.Prelude.{◌≡◌, ◌<◌, map, string_bytes, length, IfOk, OnErr};
 ghost use Rattle.trace_reading.specs.Traces.{IsTrace};
 ghost use Rattle.trace_audit.specs.Audit.{IsFaultInPart};
 ghost use Rattle.picture_runs.specs.Answering as Spec;
@@ -9,13 +9,13 @@ ghost use Rattle.picture_runs.specs.Drawing.{IsDrawn, asked_text, run_of as run_
 use crate::asked::Asked;
 use crate::finding::find_run;
 use crate::found::Found;
-use crate::input::{Input, take_input};
 use crate::note::Note;
 use crate::words::read_words;
 use lane_audit::count_legal;
 use orb_base::{NoMemory, Sink, Source};
 use std::alloc::Global;
 use text_streams::{WriteAll, write_all};
+use trace_audit::{Input, take_input};
 use trace_picture::{picture, table};
 use trace_runs::Run;
 
@@ -98,7 +98,9 @@ fn whole_line_at_fault(found: &Found) -> Option<u64>
 /// Where the first line at fault begins of an input that wasn't read to its end. None where no whole line is at fault.
 #[tactic(auto, using(crate::proofs::Ending::found_in_part))]
 fn fault_in_part(alloc: Global, text: &[u8]) -> Result<Option<u64>, NoMemory>
-    ensures { IfOk result (IsFaultInPart text.now) }
+    ensures fault { IfOk result (IsFaultInPart text.now) }
+    // Memory is asked for bytes alone.
+    ensures memory { OnErr result (0 < length text.now) }
 {
     let found = find_run(alloc, text, 0)?;
     Ok(whole_line_at_fault(&found))
@@ -117,7 +119,7 @@ fn note_of(found: Result<Option<u64>, NoMemory>, cause: Note) -> Note
 
 /// Reads an input of traces to its end, and writes what is asked for of one of its runs. See `find_run`, `picture` and `table` on work and
 /// memory; the run is judged first, as an audit does.
-#[tactic(auto, using(crate::proofs::Ending::whole_answers))]
+#[tactic(auto, using(crate::proofs::Ending::whole_answers, crate::proofs::Ending::unread_answers))]
 fn picture_input<I: Source, O: Sink>(
     alloc: Global,
     asked: Asked,
@@ -142,6 +144,7 @@ fn picture_input<I: Source, O: Sink>(
 
 /// Reads an input of traces to its end, and writes the picture of one of its runs, or the table of its lanes, as the words ask. Words that
 /// ask for nothing touch neither the input nor the output.
+#[tactic(auto, using(crate::proofs::Ending::words_unread))]
 pub fn picture_main<I: Source, O: Sink>(
     alloc: Global,
     words: &[String],

@@ -14,7 +14,7 @@ use Rattle.trace_audit.specs.declared.judged.Judged.{Judged}
 use Rattle.trace_audit.specs.declared.judged.Judged.TheVariants as judged
 use Rattle.trace_audit.specs.declared.verdict.Verdict.{Verdict}
 
--- the bytes of an input were taken, up to its end, to a failed read, or to the limit
+-- the bytes of an input were taken, up to its end, to a failed read, or to the limit; out of memory some were, and no read failed
 abbrev pub TakesInput : Result Input NoMemory → SourceState → SourceState → Type 0
 TakesInput (Ok (input.Whole bytes)) old new =
     (length bytes.items < MAX_AUDITED) × Gave bytes.items old new × AtEnd old new × (new.faults ≡ old.faults)

@@ -1,27 +1,28 @@
-//! The input of an audit.
+//! An input of traces.
 ghost use Rattle.trace_audit.specs.Inputs.{TakesInput};
 
 use orb_base::{Got, List, NoMemory, Octets, Source};
 use std::alloc::Global;
 
-/// Bytes of an input that an audit takes at most.
+/// Bytes of an input of traces that are taken at most: 64 MiB. Own profile.
 pub const MAX_AUDITED: usize = 67_108_864;
 
 /// Bytes of one read at most.
 const READ_LEN: usize = 4096;
 
-/// An input, as far as it was read.
+/// An input of traces, as far as it was read.
 #[derive(Drop)]
 pub enum Input {
-    /// Its bytes, up to the end.
+    /// Its bytes, up to the end: fewer than `MAX_AUDITED`.
     Whole(Octets),
     /// Its first `MAX_AUDITED` bytes. The end was not looked for.
     Full(Octets),
-    /// Its bytes before a failed read.
+    /// Its bytes before a failed read: fewer than `MAX_AUDITED`.
     Failed(Octets),
 }
 
-/// Reads to the end of the input, or until `MAX_AUDITED` bytes came. Work per byte is constant.
+/// Reads to the end of the input, or to a failed read, or until `MAX_AUDITED` bytes came. Out of memory the bytes that came are lost.
+/// Work per byte is constant; memory grows with the input.
 #[tactic(auto, using(text_streams::proofs::CallerLemmas::gave_start, text_streams::proofs::CallerLemmas::gave_step, text_streams::proofs::CallerLemmas::gave_same, text_streams::proofs::CallerLemmas::gave_few))]
 pub fn take_input<I: Source>(alloc: Global, source: &mut I) -> Result<Input, NoMemory>
     ensures { TakesInput result (I.state source.old) (I.state source.new) }

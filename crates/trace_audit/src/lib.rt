@@ -13,5 +13,5 @@ mod verdict;
 
 pub use audit_end::{AuditEnd, AuditFault, WrongEntry};
 pub use auditing::{audit, audit_run};
-pub use input::MAX_AUDITED;
+pub use input::{Input, MAX_AUDITED, take_input};
 pub use verdict::Verdict;
