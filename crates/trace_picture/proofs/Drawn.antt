@@ -1,9 +1,9 @@
 -- The shapes of lines, one after another.
-use Rattle.std.proofs.Common.{◌≡◌, ℕ, ◌+◌, ◌<◌, ◌≤◌, List, [], ◌∷◌, ◌++◌, length, take, drop, get_or, refl, sym, ap, ◌∙◌, arith, append_assoc, append-nil}
+use Rattle.std.proofs.Common.{◌≡◌, ℕ, ◌+◌, ◌<◌, ◌≤◌, List, [], ◌∷◌, ◌++◌, length, take, drop, get_or, sym, ap, ◌∙◌, arith, append_assoc, append-nil}
 use Rattle.std.specs.Prelude.{map, Option, Some}
 use Rattle.std.proofs.lemmas.List.{take_more, drop_more, drop_all, take_all, map-append}
 use Rattle.trace_lines.specs.declared.trace_line.TraceLine.{TraceLine}
-use Rattle.trace_picture.specs.Scenes.{ScenePlain, draw, bar_to, wait_to}
+use Rattle.trace_picture.specs.Scenes.{ScenePlain, draw}
 use Rattle.trace_picture.specs.Shapes.{scene_after, shapes, drawn, unfinished}
 use Rattle.trace_picture.specs.declared.shape.Shape.{Shape}
 

@@ -1,5 +1,5 @@
 -- The picture of a run: what it says at its head, the ground, the shapes and the legend. Own profile.
-use Rattle.std.specs.Prelude.{ℕ, Bool, true, false, not, ◌+◌, ◌==◌, ◌&&◌, List, [], ◌∷◌, ◌++◌, codes, length, take, drop, min, count_by, if◌then◌else◌}
+use Rattle.std.specs.Prelude.{ℕ, Bool, true, false, not, ◌+◌, ◌==◌, List, [], ◌++◌, codes, length, take, drop, min, count_by, if◌then◌else◌}
 use Rattle.std.specs.List.{flat_map}
 use Rattle.std.specs.Fmt.{decimal}
 use Rattle.orb_base.specs.Pool.{Pool}

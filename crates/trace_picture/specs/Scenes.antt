@@ -1,8 +1,7 @@
 -- What goes on between two entries of a run, and what an entry draws. Own profile.
-use Rattle.std.specs.Prelude.{◌≡◌, ℕ, ◌==◌, ◌&&◌, Bool, true, false, List, [], ◌∷◌, ◌++◌, length, remove, position, slice_get, slice_index, Option, Some, None, Result, Ok, Err}
+use Rattle.std.specs.Prelude.{◌≡◌, ℕ, ◌==◌, ◌&&◌, Bool, List, [], ◌∷◌, ◌++◌, length, remove, position, slice_get, slice_index, Option, Some, None, Result, Ok, Err}
 use Rattle.orb_base.specs.Conn.{same_conn}
 use Rattle.orb_base.specs.declared.conn_id.ConnId.{ConnId}
-use Rattle.orb_base.specs.declared.due.Due.{Due}
 use Rattle.orb_base.specs.declared.no_memory.NoMemory.{NoMemory}
 use Rattle.request_buffer.specs.Kept.{is_late}
 use Rattle.trace_lines.specs.declared.trace_line.OfferedRequest.{OfferedRequest}

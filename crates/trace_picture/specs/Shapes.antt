@@ -1,7 +1,7 @@
 -- The shapes of a run: what its entries draw, one after another, and what still goes on after the last one. Own profile.
 use Rattle.std.specs.Prelude.{ℕ, ◌+◌, List, [], ◌∷◌, ◌++◌, map, Option, Some, None}
 use Rattle.trace_lines.specs.declared.trace_line.TraceLine.{TraceLine}
-use Rattle.trace_picture.specs.Scenes.{ScenePlain, no_scene, draw, bar_to, wait_to}
+use Rattle.trace_picture.specs.Scenes.{ScenePlain, draw, bar_to, wait_to}
 use Rattle.trace_picture.specs.declared.shape.Shape.{Shape}
 use Rattle.trace_picture.specs.declared.shape.WaitEnd.TheVariants as how
 

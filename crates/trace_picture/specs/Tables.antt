@@ -76,7 +76,7 @@ abbrev pub longest : ℕ → List Shape → ℕ
 longest l [] = 0
 longest l (s ∷ ss) = max (waited_in l s) (longest l ss)
 
--- what is told of a lane: what its threads carried out, and its requests that others did
+-- what is said of a lane: what its threads carried out, and its requests that others did
 abbrev pub ran_text : Plot → List Shape → ℕ → List ℕ
 ran_text p s l =
     codes "own " ++ decimal (count_by (counts p l Own) s) ++ codes " lent_out " ++ decimal (count_by (counts p l LentOut) s)

@@ -151,7 +151,7 @@ fn longest(lane: u8, shapes: &[Shape]) -> u32
     most
 }
 
-/// What is told of a lane, and of what.
+/// What is said of a lane, and of what.
 #[derive(Clone, Copy)]
 struct Row<'a> {
     layout: &'a Layout,

@@ -1,6 +1,5 @@
 use Rattle.trace_picture.proofs.Homes.{homes_all, few_homes}
 use Rattle.trace_picture.specs.Plots.{homes_from}
-use Rattle.std.proofs.Common.{refl, sym}
 use Rattle.trace_picture.proofs.layout.homes_of.Goals as goal
 
 pub returns-clause-few : goal.returns-clause-few

@@ -1,4 +1,3 @@
-use Rattle.std.proofs.Common.{◌∙◌}
 use Rattle.trace_picture.specs.Pictures.{whole_text}
 use Rattle.trace_picture.proofs.Wholes.{from_nothing}
 use Rattle.trace_picture.proofs.Chains.{six}
