@@ -18,13 +18,15 @@ use Rattle.client_mux.specs.Machine.{Mux, One, History}
 abbrev pub heir : ℕ → ℕ → Option ℕ
 heir = flat MAX_SEATS
 
--- callers have the seats from 1 on, then the writer, then the reader
+-- the seat of the writer: callers have the seats from 1 on, and the writer the next one
 abbrev pub writer : Mux → ℕ
 writer x = x.callers + 1
 
+-- the seat of the reader, the last one
 abbrev pub reader : Mux → ℕ
 reader x = x.callers + 2
 
+-- the seat is one of a caller
 abbrev pub IsCaller : Mux → ℕ → Type 0
 IsCaller x n = (1 ≤ n) × (n ≤ x.callers)
 
@@ -42,27 +44,32 @@ by_of (Await by _) n = by
 by_of (Lost _) n = n
 by_of (Left by) n = by
 
--- the kinds of calls
+-- the call is a Start
 abbrev pub is_start : MuxCall → Bool
 is_start (Start _ _) = true
 is_start call = false
 
+-- it is a Cancel
 abbrev pub is_cancel : MuxCall → Bool
 is_cancel (Cancel _ _) = true
 is_cancel call = false
 
+-- it is an Await
 abbrev pub is_await : MuxCall → Bool
 is_await (Await _ _) = true
 is_await call = false
 
+-- it is an Arrived
 abbrev pub is_arrived : MuxCall → Bool
 is_arrived (Arrived _ _) = true
 is_arrived call = false
 
+-- it is a Lost
 abbrev pub is_lost : MuxCall → Bool
 is_lost (Lost _) = true
 is_lost call = false
 
+-- it is a Left
 abbrev pub is_left : MuxCall → Bool
 is_left (Left _) = true
 is_left call = false
@@ -72,11 +79,12 @@ abbrev pub starts_as : ℕ → MuxCall → MuxReply → Bool
 starts_as id (Start _ _) (reply.Id i) = i == id
 starts_as id call r = false
 
--- a Cancel of this id, and an Await
+-- a Cancel of this id
 abbrev pub cancels : ℕ → MuxCall → Bool
 cancels id (Cancel _ i) = i == id
 cancels id call = false
 
+-- an Await of this id
 abbrev pub awaits : ℕ → MuxCall → Bool
 awaits id (Await _ i) = i == id
 awaits id call = false
@@ -91,32 +99,39 @@ abbrev pub finishes : MuxCall → MuxReply → Bool
 finishes Next reply.Finish = true
 finishes call r = false
 
--- the id is one of a Start of its own; it was cancelled; it was cancelled in time; it was awaited
+-- the id is one of a Start of its own
 abbrev pub owns : ℕ → History → Bool
 owns id mine = list_any (λ (e : One). starts_as id e.call e.reply) mine
 
+-- the call of this id was cancelled
 abbrev pub has_cancel : ℕ → History → Bool
 has_cancel id mine = list_any (λ (e : One). cancels id e.call) mine
 
+-- it was cancelled in time
 abbrev pub was_dropped : ℕ → History → Bool
 was_dropped id mine = list_any (λ (e : One). cancels id e.call && is_cancelled e.reply) mine
 
+-- it was awaited
 abbrev pub has_await : ℕ → History → Bool
 has_await id mine = list_any (λ (e : One). awaits id e.call) mine
 
--- how many calls there were of each kind
+-- how many Starts there were
 abbrev pub starts : History → ℕ
 starts mine = count_by (λ (e : One). is_start e.call) mine
 
+-- how many Arriveds
 abbrev pub arrivals : History → ℕ
 arrivals mine = count_by (λ (e : One). is_arrived e.call) mine
 
+-- how many Losts
 abbrev pub losses : History → ℕ
 losses mine = count_by (λ (e : One). is_lost e.call) mine
 
+-- how many Lefts
 abbrev pub lefts : History → ℕ
 lefts mine = count_by (λ (e : One). is_left e.call) mine
 
+-- how many Nexts that were answered Finish
 abbrev pub finished : History → ℕ
 finished mine = count_by (λ (e : One). finishes e.call e.reply) mine
 

@@ -19,9 +19,10 @@ gives Next reply.Finish = 0
 gives Next r = 1
 gives call r = 0
 
--- how much was to be sent, and how much was handed out
+-- how much was to be sent along a history
 abbrev pub queued : History → ℕ
 queued h = sum_by (λ (e : One). queues e.call e.reply) h
 
+-- how much was handed out along it
 abbrev pub given : History → ℕ
 given h = sum_by (λ (e : One). gives e.call e.reply) h

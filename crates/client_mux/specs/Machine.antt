@@ -28,6 +28,7 @@ pub record Mux : Type 0 where
 abbrev pub One : Type 0
 One = Entry Mux MuxCall MuxReply
 
+-- the calls of the link, in the order in which they were answered
 abbrev pub History : Type 0
 History = List One
 
@@ -66,7 +67,7 @@ started m by r None =
     (record m { calls = m.calls ++ new_call by ∷ []; sends = m.sends ++ Send (length m.calls + 1) r ∷ [] }, reply.Id (length m.calls + 1))
 started m by r (Some why) = (m, reply.Gone why)
 
--- Cancel: a call that waits is dropped, and the peer is to be told; one that was answered stays as it is
+-- Cancel: a call that waits is dropped, and that is to be said to the peer; one that was answered stays as it is
 abbrev pub stopped : Mux → ℕ → Called → Doing → Mux × MuxReply
 stopped m id c Waiting =
     (record (put m id (record c { doing = Dropped; cancelled = true })) { sends = m.sends ++ Stop id ∷ [] }, reply.Cancelled)

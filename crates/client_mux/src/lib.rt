@@ -1,6 +1,6 @@
 //! The machine of a link that several callers share: calls with their ids, what is to be sent, which calls wait, were
 //! answered or dropped, why the link was lost first, and who left. Each call is one step of the machine in
-//! `specs/Machine.antt`, which stands behind a turn cell: own profile.
+//! `specs/Machine.antt`, made through a turn cell, one after another. Own profile.
 #![tactic(auto)]
 
 mod call;

@@ -15,6 +15,6 @@ pub enum Why {
     ReadFault,
     /// A write failed.
     WriteFault,
-    /// Memory was wanting.
+    /// Out of memory.
     NoMemory,
 }

@@ -10,15 +10,17 @@ use Rattle.trace_lines.specs.declared.trace_line.Action.{Action}
 use Rattle.trace_lines.specs.declared.trace_line.Action.TheVariants as action
 use Rattle.fit_audit.specs.declared.reader.Reader.{Reader}
 
--- an Offer was answered Closing, a Post, a Cancel
+-- an Offer was answered Closing
 abbrev pub offer_closing : OfferReply → Bool
 offer_closing offer_reply.Closing = true
 offer_closing r = false
 
+-- a Post was
 abbrev pub post_closing : PostReply → Bool
 post_closing post_reply.Closing = true
 post_closing r = false
 
+-- a Cancel was
 abbrev pub cancel_closing : CancelReply → Bool
 cancel_closing cancel_reply.Closing = true
 cancel_closing r = false

@@ -12,10 +12,11 @@ use Rattle.fit_audit.specs.declared.last_reply.LastReply.TheVariants.{Unheard}
 use Rattle.fit_audit.specs.declared.reader.Reader.{Reader}
 use Rattle.fit_audit.specs.declared.seats.Seats.{Seats}
 
--- the numbers of the seats of a thread's worker and of a connection's writing side
+-- the number of the seat of a thread's worker, by the slots of the run
 abbrev pub worker_seat : ℕ → ℕ → ℕ
 worker_seat slots t = seat.worker_seat slots t
 
+-- the number of the seat of a connection's writing side
 abbrev pub writer_seat : ConnId → ℕ
 writer_seat conn = seat.writer_seat conn
 

@@ -1,5 +1,5 @@
-//! What objects behind a turn cell need alike where every caller has a seat that was split from the first one: the numbers
-//! of those seats, and how long a history gets whose callers make so many calls at most.
+//! What objects need alike that are called through a turn cell, where every caller has a seat that was split from the first one:
+//! the numbers of those seats, and how long a history gets whose callers make so many calls at most.
 #![tactic(auto)]
 
 mod heirs;

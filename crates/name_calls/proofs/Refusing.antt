@@ -85,7 +85,7 @@ bind_long : (bind : List ℕ → List ℕ → NamesCall) (r : Reads (List ℕ ×
 bind_long bind (Ok x) e = if_false (keep_limits x.0.0 x.0.1) (Asks (bind x.0.0 x.0.1)) (Tells limited) (not_back (keep_limits x.0.0 x.0.1) e)
 bind_long bind (Err f) e = absurd (true≢false (sym e))
 
--- ---- by what is told
+-- ---- by what is said
 
 two_when : (b : Bool) → unread_number b ≡ 2 → b ≡ false
 two_when true e = absurd (omega arith)

@@ -124,25 +124,31 @@ collect_reply_in _ = None
 abbrev pub how_words : List (List ℕ × How)
 how_words = (codes "quiet", how.Quiet) ∷ (codes "bad", how.Bad) ∷ (codes "shut", how.Shut) ∷ []
 
--- a call with its reply, of its parts
+-- an offer, of its request and the reply
 abbrev pub offer_from : OfferedRequest → OfferReply → Action
 offer_from request r = action.Offer request r
 
+-- an answer of the reading side, of its connection, its request's id and the reply
 abbrev pub post_from : ConnId → ℕ → PostReply → Action
 post_from conn id r = action.Post conn id r
 
+-- a withdrawal, of its connection, its request's id and the reply
 abbrev pub cancel_from : ConnId → ℕ → CancelReply → Action
 cancel_from conn id r = action.Cancel conn id r
 
+-- a thread that takes its task, if one comes
 abbrev pub take_from : ℕ → Option ℕ → Action
 take_from thread task = action.Take thread task
 
+-- a thread that has carried out its task, with the length of the answer's body
 abbrev pub finish_from : ℕ → ℕ → ℕ → Action
 finish_from thread request len = action.Finish thread request len
 
+-- a writing side that asks, and the reply
 abbrev pub collect_from : ConnId → CollectReply → Action
 collect_from conn r = action.Collect conn r
 
+-- a reading side that has ended, and how
 abbrev pub end_from : ConnId → How → Action
 end_from conn h = action.End conn h
 
