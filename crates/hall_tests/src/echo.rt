@@ -13,6 +13,8 @@ use orb_base::{
 };
 use std::alloc::Global;
 use std::sync::Wait;
+use std::sync::atomic::{AtomicU64, Ordering};
+use std::thread;
 
 /// Answers each request with its own body.
 #[derive(Drop)]
@@ -122,6 +124,60 @@ impl<'a, R: Wait> Hall for Echo<'a, R> {
         hand.left -= 1;
         hand.done = hand.done.and(&kept);
         outcome
+    }
+}
+
+/// How often a hand looks for the other one.
+const LOOKS: u64 = 100_000_000;
+
+/// Answers as `Echo` does, but each invocation waits until two were begun.
+#[derive(Drop)]
+pub struct Meeting<'a, R> {
+    pub echo: Echo<'a, R>,
+    /// How many invocations were begun.
+    pub begun: &'a AtomicU64,
+    /// How many looked too often.
+    pub missed: &'a AtomicU64,
+}
+
+impl<'a, R: Wait> Meeting<'a, R> {
+    /// Waits until two invocations were begun, or until it looked too often.
+    fn meet(&self) {
+        self.begun.fetch_add(1, Ordering::SeqCst);
+        for _ in 0..LOOKS {
+            if self.begun.load(Ordering::SeqCst) >= 2 {
+                return;
+            }
+            thread::yield_now();
+        }
+        self.missed.fetch_add(1, Ordering::SeqCst);
+    }
+}
+
+impl<'a, R: Wait> Hall for Meeting<'a, R> {
+    type Hand = Tally;
+
+    ghost judged_by = { λ h. h.echo.setup.now };
+
+    ghost held = { λ t. record { slot = t.slot; done = t.done.items; spare = t.left } };
+
+    ghost is_of = { λ h t. Unit {0} };
+
+    fn setup(&self) -> &Setup {
+        self.echo.setup
+    }
+
+    fn slot(&self, hand: &Tally) -> u8 {
+        hand.slot
+    }
+
+    fn spare(&self, hand: &Tally) -> u32 {
+        hand.left
+    }
+
+    fn invoke(&self, hand: &mut Tally, job: &Arc<Job>) -> Outcome {
+        self.meet();
+        self.echo.invoke(hand, job)
     }
 }
 

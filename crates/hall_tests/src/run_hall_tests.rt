@@ -11,6 +11,7 @@ use orb_base::{List, MemAcceptor, MemLink, MemSink, MemSource};
 use std::alloc::Global;
 use std::collections::LinkedList;
 use std::sync::Wait;
+use std::sync::atomic::{AtomicU64, Ordering};
 use std::test::*;
 use std::thread::Threads;
 
@@ -119,4 +120,50 @@ fn both_come_out<R: Wait + Threads + Sync>(rt: &R, alloc: Global) -> bool {
 #[test]
 fn slots_serve_links_until_a_limit_is_met(rt: HostRuntime) {
     assert!(rt; both_come_out(&rt, rt.alloc()));
+}
+
+/// Two slots of a link with one request each, in a hall where each waits for the other.
+fn run_meeting<R: Wait + Threads + Sync>(
+    rt: &R,
+    alloc: Global,
+    begun: &AtomicU64,
+    missed: &AtomicU64,
+) -> Option<Left> {
+    let setup = setup_of(alloc, PLAIN)?;
+    let hall = Meeting {
+        echo: Echo {
+            rt,
+            alloc,
+            setup: &setup,
+        },
+        begun,
+        missed,
+    };
+    let mut jobs = Vec::with_capacity(alloc, 2).ok()?;
+    add_job(&mut jobs, slot_of(alloc, 0, &[&[LATE_2]])?);
+    add_job(&mut jobs, slot_of(alloc, 1, &[&[LATE_2]])?);
+    let done = Vec::with_capacity(alloc, 2).ok()?;
+    Some(run_hall(rt, alloc, &hall, 2, jobs, done))
+}
+
+/// Whether both slots answered their request, and neither waited in vain.
+fn both_meet<R: Wait + Threads + Sync>(rt: &R, alloc: Global) -> bool {
+    let begun = AtomicU64::new(0);
+    let missed = AtomicU64::new(0);
+    let Some(done) = run_meeting(rt, alloc, &begun, &missed) else {
+        return false;
+    };
+    let answered = match done.as_slice() {
+        [first, second] => match (first.logs.as_slice(), second.logs.as_slice()) {
+            ([a], [b]) => { wrote(alloc, a, 0, 0, &[REPLY_2]) && wrote(alloc, b, 1, 0, &[REPLY_2]) }
+            _ => false,
+        },
+        _ => false,
+    };
+    answered && begun.load(Ordering::SeqCst) == 2 && missed.load(Ordering::SeqCst) == 0
+}
+
+#[test]
+fn two_slots_invoke_at_once(rt: HostRuntime) {
+    assert!(rt; both_meet(&rt, rt.alloc()));
 }

@@ -406,3 +406,30 @@ fn is_built_in(setup: &Setup) -> bool {
 fn the_built_in_setup_has_ping(rt: HostRuntime) {
     assert!(rt; built_in_comes(rt.alloc(), Due::BuiltIn));
 }
+
+/// Whether a setup has 4 slots of 32 connections, and the object `NameService` alone, of the interface of the name service.
+fn is_of_names(setup: &Setup) -> bool {
+    setup.slots() == 4
+        && setup.per_slot() == 32
+        && setup.find(b"NameService") == Some(0)
+        && setup.find(b"ping") == None
+        && setup.object(1).is_none()
+        && is_served(setup, 0, 0, 100)
+        && match setup.object(0) {
+            Some(object) => object.interface.as_slice() == b"IDL:Orb/Names:1.0".as_slice(),
+            None => false,
+        }
+}
+
+/// Whether the setup of the name service is so.
+fn names_come(alloc: Global) -> bool {
+    match Setup::names(alloc) {
+        Ok(setup) => is_of_names(&setup),
+        Err(_) => false,
+    }
+}
+
+#[test]
+fn the_setup_of_the_name_service_has_its_one_object(rt: HostRuntime) {
+    assert!(rt; names_come(rt.alloc()));
+}
