@@ -12,8 +12,6 @@ mod run_door;
 mod std_files;
 mod std_links;
 mod std_net;
-mod std_sink;
-mod std_source;
 #[cfg(test)]
 mod tests;
 mod turned_away;
@@ -24,25 +22,14 @@ use orb_base::List;
 use orb_command::{Answered, Note, orb_main};
 use run_door::RunDoor;
 use std::alloc::Global;
+use std::io;
 use std::process::ExitCode;
-use std::rt::Env;
-use std::{env, io};
+use std_devices::{StdSink, StdSource, words};
 use std_files::StdFiles;
 use std_net::StdNet;
-use std_sink::StdSink;
-use std_source::StdSource;
 use turned_away::end_listening;
 
-/// The words after the program's name.
-fn words<R: Env + AllocGlobal>(rt: &R, alloc: Global) -> io::Result<Vec<String>> {
-    let mut words = Vec::new(alloc);
-    for word in env::args(rt)?.skip(1) {
-        words.push(word)?;
-    }
-    Ok(words)
-}
-
-/// What is answered where the words can't be had: memory was wanting, or one of them isn't UTF-8.
+/// What is answered where the words can't be had: out of memory, or one of them isn't UTF-8.
 fn without_words<A, I, O>(alloc: Global, fault: &io::Error) -> Answered<A, I, O>
     ensures { result.status ≡ status_of result.note }
 {

@@ -2,10 +2,10 @@
 ghost use Rattle.std.specs.Prelude.{◌≡◌, ◌≤◌, None, [], length};
 ghost use Rattle.orb.specs.Filling.{Fills};
 
-use crate::std_source::StdSource;
 use orb_base::{Filed, Files, Octets, Text};
 use std::alloc::Global;
 use std::{fs, io, rt};
+use std_devices::StdSource;
 use text_streams::{ReadAll, read_all};
 
 /// The files of a file system, by their paths from the working directory, with the count of faults. It tells no content, since
