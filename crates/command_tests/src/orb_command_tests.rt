@@ -2,6 +2,7 @@
 mod at_tests;
 mod call_tests;
 mod config_tests;
+mod format_tests;
 mod hostile_tests;
 mod lane_tests;
 mod lies_tests;

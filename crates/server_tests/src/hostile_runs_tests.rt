@@ -1,11 +1,14 @@
-//! Runs whose reads, writes and accepts fail, that meet a limit, or that many clients storm: what each connection leaves, what was
-//! called for it, that the others are whole, and that an audit says of each run that it is legal and fit.
+//! Runs whose reads, writes and accepts fail, whose clients lie or break off, that meet a limit, or that many clients storm: what each
+//! connection leaves, what was called for it, that the others are whole, and that an audit says of each run that it is legal and fit.
 ghost use Rattle.orb_base.specs.declared.outcome.Outcome.TheVariants.{Returned};
 ghost use Rattle.std.specs.Prelude.{◌≡◌, ◌∷◌, [], IfOk};
 
 use adapter_policies::{Setup, read_setup};
+use cdr_core::CdrCause;
 use conn_engine::ReadEnd;
 use conn_sides::{LastCollect, ReadSideEnd, WriteEnd};
+use giop_frames::FrameCause;
+use giop_messages::Fault;
 use heard_calls::Ending;
 use lane_machine::{LaneCall, LaneReply, Lanes};
 use orb_base::{
@@ -67,6 +70,10 @@ impl Gate for Open {
 const DAY_PAIR: &[u8] =
     b"server = { slots = 2, per_slot = 1 }\npool = { borrowing = true, buffering = true, max_buffered_requests = 500, max_request_buffer_size = 1000000, lanes = [{ priority = 10, static = 1, dynamic = 0 }, { priority = 20, static = 1, dynamic = 0 }, { priority = 30, static = 1, dynamic = 0 }] }\nadapter = [{ name = \"prop\", model = \"CLIENT_PROPAGATED\", priority = 10 }]\nobject = [{ key = \"ping\", adapter = \"prop\", interface = \"i\" }]\n";
 
+/// Two slots of two connections each over the same.
+const DAY_TWICE: &[u8] =
+    b"server = { slots = 2, per_slot = 2 }\npool = { borrowing = true, buffering = true, max_buffered_requests = 500, max_request_buffer_size = 1000000, lanes = [{ priority = 10, static = 1, dynamic = 0 }, { priority = 20, static = 1, dynamic = 0 }, { priority = 30, static = 1, dynamic = 0 }] }\nadapter = [{ name = \"prop\", model = \"CLIENT_PROPAGATED\", priority = 10 }]\nobject = [{ key = \"ping\", adapter = \"prop\", interface = \"i\" }]\n";
+
 /// Eight slots of sixteen connections each over the same, with room for 4,096 requests.
 const DAY_STORM: &[u8] =
     b"server = { slots = 8, per_slot = 16 }\npool = { borrowing = true, buffering = true, max_buffered_requests = 4096, max_request_buffer_size = 1000000, lanes = [{ priority = 10, static = 1, dynamic = 0 }, { priority = 20, static = 1, dynamic = 0 }, { priority = 30, static = 1, dynamic = 0 }] }\nadapter = [{ name = \"prop\", model = \"CLIENT_PROPAGATED\", priority = 10 }]\nobject = [{ key = \"ping\", adapter = \"prop\", interface = \"i\" }]\n";
@@ -80,16 +87,25 @@ const REPLY_1: &[u8] = b"GIOP\x01\x02\0\x01\0\0\0\x0e\0\0\0\x01\0\0\0\0\0\0\0\0\
 
 const REPLY_2: &[u8] = b"GIOP\x01\x02\0\x01\0\0\0\x0e\0\0\0\x02\0\0\0\0\0\0\0\0\0\x07";
 
+/// MARSHAL, minor 2, completed NO, to the request of id 2.
+const MARSHAL_2: &[u8] =
+    b"GIOP\x01\x02\0\x01\0\0\0\x38\0\0\0\x02\0\0\0\x02\0\0\0\0\0\0\0\x1eIDL:omg.org/CORBA/MARSHAL:1.0\0\0\0\0\0\0\x02\0\0\0\x01";
+
+/// MessageError: CORBA 3.0.3, section 15.4.8.
+const ERROR: &[u8] = b"GIOP\x01\x02\0\x06\0\0\0\0";
+
 /// CloseConnection: CORBA 3.0.3, section 15.4.7.
 const CLOSE: &[u8] = b"GIOP\x01\x02\0\x05\0\0\0\0";
 
 /// A request for `current` of `ping`: its id, and the priority of its context.
 type Asked = (u8, u8);
 
-/// A link: the requests that come by it, how many bytes its first reads give at most, and the reads and writes that fail.
+/// A link: the requests that come by it, and the bytes after them, how many bytes its first reads give at most, and the reads and writes
+/// that fail.
 #[derive(Clone, Copy)]
 struct Comes<'a> {
     requests: &'a [Asked],
+    after: &'a [u8],
     cuts: &'a [usize],
     reads: &'a [u64],
     writes: &'a [u64],
@@ -179,9 +195,9 @@ fn link(
     )
 }
 
-fn requests(alloc: Global, all: &[Asked]) -> Option<Octets> {
+fn requests(alloc: Global, all: &[Asked], after: &[u8]) -> Option<Octets> {
     let mut bytes = Octets::new(alloc);
-    if put_requests(&mut bytes, all) {
+    if put_requests(&mut bytes, all) && bytes.append(after).is_ok() {
         Some(bytes)
     } else {
         None
@@ -192,7 +208,7 @@ fn link_of(alloc: Global, comes: &Comes<'_>) -> Option<MemLink> {
     let cuts = sizes(alloc, comes.cuts)?;
     let reads = numbers(alloc, comes.reads)?;
     let writes = numbers(alloc, comes.writes)?;
-    match requests(alloc, comes.requests) {
+    match requests(alloc, comes.requests, comes.after) {
         Some(bytes) => Some(link(alloc, bytes, cuts, reads, writes)),
         None => None,
     }
@@ -486,6 +502,7 @@ fn all_hold<R: Wait + Threads + Sync>(rt: &R, alloc: Global, rows: &[Row<'_>]) -
 /// Two requests of 120 bytes together, read at once, and by 16 bytes.
 const TWO: Comes<'static> = Comes {
     requests: &[(1, 10), (2, 10)],
+    after: b"",
     cuts: &[],
     reads: &[],
     writes: &[],
@@ -765,6 +782,349 @@ const CLOSED: Left<'static> = Left {
 #[test]
 fn what_fails_or_is_closed_leaves_the_others_whole(rt: HostRuntime) {
     assert!(&rt; all_hold(&rt, rt.alloc(), ROWS));
+}
+
+/// One request of 60 bytes, after which a link lies or breaks off, and none before that.
+const ONE: Comes<'static> = Comes {
+    requests: &[(1, 10)],
+    ..TWO
+};
+
+const NONE: Comes<'static> = Comes {
+    requests: &[],
+    ..TWO
+};
+
+/// What a connection leaves that is whole after one request, and that is broken after it.
+const ONE_WHOLE: Left<'static> = Left {
+    heard: 1,
+    output: &[REPLY_1],
+    ..WHOLE
+};
+
+const BROKEN: Left<'static> = Left {
+    write: WriteEnd::Error,
+    output: &[REPLY_1, ERROR],
+    ..ONE_WHOLE
+};
+
+/// A slot of two links that are whole, of which one is read by 16 bytes.
+const SECOND_TWICE: Slot<'static> = Slot {
+    links: &[TWO_CUT, TWO],
+    failing: &[],
+};
+
+/// What lies or breaks off after its first request, or before it; the next link of the same slot, and those of the other slot, are whole.
+/// CORBA 3.0.3, section 15.4; what ends a connection in silence is own profile.
+const LIES: &[Row<'static>] = &[
+    // A header of no GIOP.
+    Row {
+        config: DAY_TWICE,
+        slots: &[
+            Slot {
+                links: &[
+                    Comes {
+                        after: b"GIOX\x01\x02\0\0\0\0\0\0",
+                        ..ONE
+                    },
+                    TWO,
+                ],
+                failing: &[],
+            },
+            SECOND_TWICE,
+        ],
+        came: &[Came {
+            conns: &[
+                Left {
+                    read: ReadSideEnd::Read(ReadEnd::Ended(Ending::Broken {
+                        offset: 60,
+                        fault: Fault::Frame(FrameCause::BadMagic),
+                    })),
+                    ..BROKEN
+                },
+                WHOLE,
+                WHOLE,
+                WHOLE,
+            ],
+            finished: 7,
+            ends: BOTH_SERVED,
+        }],
+    },
+    // A Fragment of no unfinished message.
+    Row {
+        config: DAY_TWICE,
+        slots: &[
+            Slot {
+                links: &[
+                    Comes {
+                        after: b"GIOP\x01\x02\0\x07\0\0\0\x04\0\0\0\x01",
+                        ..ONE
+                    },
+                    TWO,
+                ],
+                failing: &[],
+            },
+            SECOND_TWICE,
+        ],
+        came: &[Came {
+            conns: &[
+                Left {
+                    read: ReadSideEnd::Read(ReadEnd::Ended(Ending::Broken {
+                        offset: 60,
+                        fault: Fault::Frame(FrameCause::BadPiece),
+                    })),
+                    ..BROKEN
+                },
+                WHOLE,
+                WHOLE,
+                WHOLE,
+            ],
+            finished: 7,
+            ends: BOTH_SERVED,
+        }],
+    },
+    // A LocateRequest for a key of 2^32 - 1 bytes.
+    Row {
+        config: DAY_TWICE,
+        slots: &[
+            Slot {
+                links: &[
+                    Comes {
+                        after: b"GIOP\x01\x02\0\x03\0\0\0\x0c\0\0\0\x02\0\0\0\0\xff\xff\xff\xff",
+                        ..ONE
+                    },
+                    TWO,
+                ],
+                failing: &[],
+            },
+            SECOND_TWICE,
+        ],
+        came: &[Came {
+            conns: &[
+                Left {
+                    read: ReadSideEnd::Read(ReadEnd::Ended(Ending::Broken {
+                        offset: 60,
+                        fault: Fault::Message(CdrCause::TooMany),
+                    })),
+                    ..BROKEN
+                },
+                WHOLE,
+                WHOLE,
+                WHOLE,
+            ],
+            finished: 7,
+            ends: BOTH_SERVED,
+        }],
+    },
+    // A LocateReply, which a server alone sends.
+    Row {
+        config: DAY_TWICE,
+        slots: &[
+            Slot {
+                links: &[
+                    Comes {
+                        after: b"GIOP\x01\x02\0\x04\0\0\0\x08\0\0\0\x01\0\0\0\x01",
+                        ..ONE
+                    },
+                    TWO,
+                ],
+                failing: &[],
+            },
+            SECOND_TWICE,
+        ],
+        came: &[Came {
+            conns: &[
+                Left {
+                    read: ReadSideEnd::Read(ReadEnd::Ended(Ending::Broken {
+                        offset: 60,
+                        fault: Fault::WrongWay,
+                    })),
+                    ..BROKEN
+                },
+                WHOLE,
+                WHOLE,
+                WHOLE,
+            ],
+            finished: 7,
+            ends: BOTH_SERVED,
+        }],
+    },
+    // An end after a first piece.
+    Row {
+        config: DAY_TWICE,
+        slots: &[
+            Slot {
+                links: &[
+                    Comes {
+                        after: b"GIOP\x01\x02\x02\0\0\0\0\x0c\0\0\0\x02\x03\0\0\0\0\0\0\0",
+                        ..ONE
+                    },
+                    TWO,
+                ],
+                failing: &[],
+            },
+            SECOND_TWICE,
+        ],
+        came: &[Came {
+            conns: &[
+                Left {
+                    read: ReadSideEnd::Read(ReadEnd::Ended(Ending::Cut(60))),
+                    ..ONE_WHOLE
+                },
+                WHOLE,
+                WHOLE,
+                WHOLE,
+            ],
+            finished: 7,
+            ends: BOTH_SERVED,
+        }],
+    },
+    // A CloseConnection, after which nothing is looked at.
+    Row {
+        config: DAY_TWICE,
+        slots: &[
+            Slot {
+                links: &[
+                    Comes {
+                        after: b"GIOP\x01\x02\0\x05\0\0\0\0rubbish that is no GIOP",
+                        ..ONE
+                    },
+                    TWO,
+                ],
+                failing: &[],
+            },
+            SECOND_TWICE,
+        ],
+        came: &[Came {
+            conns: &[ONE_WHOLE, WHOLE, WHOLE, WHOLE],
+            finished: 7,
+            ends: BOTH_SERVED,
+        }],
+    },
+    // An end within the first header: nothing is heard, and nothing said.
+    Row {
+        config: DAY_TWICE,
+        slots: &[
+            Slot {
+                links: &[
+                    Comes {
+                        after: b"GIOP\x01\x02\0",
+                        ..NONE
+                    },
+                    TWO,
+                ],
+                failing: &[],
+            },
+            SECOND_TWICE,
+        ],
+        came: &[Came {
+            conns: &[
+                Left {
+                    read: ReadSideEnd::Read(ReadEnd::Ended(Ending::Cut(0))),
+                    heard: 0,
+                    output: &[],
+                    ..WHOLE
+                },
+                WHOLE,
+                WHOLE,
+                WHOLE,
+            ],
+            finished: 6,
+            ends: BOTH_SERVED,
+        }],
+    },
+    // A priority without a reading costs its request alone, which isn't offered.
+    Row {
+        config: DAY_TWICE,
+        slots: &[
+            Slot {
+                links: &[
+                    Comes {
+                        after: b"GIOP\x01\x02\0\0\0\0\0\x2c\0\0\0\x02\x03\0\0\0\0\0\0\0\0\0\0\x04ping\0\0\0\x08current\0\0\0\0\x01\0\0\0\x0a\0\0\0\0",
+                        ..NONE
+                    },
+                    TWO,
+                ],
+                failing: &[],
+            },
+            SECOND_TWICE,
+        ],
+        came: &[Came {
+            conns: &[
+                Left {
+                    heard: 0,
+                    output: &[MARSHAL_2],
+                    ..WHOLE
+                },
+                WHOLE,
+                WHOLE,
+                WHOLE,
+            ],
+            finished: 6,
+            ends: BOTH_SERVED,
+        }],
+    },
+];
+
+#[test]
+fn a_lie_ends_its_own_connection_alone(rt: HostRuntime) {
+    assert!(&rt; all_hold(&rt, rt.alloc(), LIES));
+}
+
+/// A second accept that fails, after a connection that is whole; and a connection of which both a read and the first write fail, by which
+/// both requests are carried out and nothing is written.
+const LATER_FAULTS: &[Row<'static>] = &[
+    Row {
+        config: DAY_TWICE,
+        slots: &[
+            Slot {
+                links: &[TWO, TWO],
+                failing: &[1],
+            },
+            SECOND_TWICE,
+        ],
+        came: &[Came {
+            conns: &[WHOLE, WHOLE, WHOLE],
+            finished: 6,
+            ends: &[SlotEnd::AcceptFault, SlotEnd::Served],
+        }],
+    },
+    Row {
+        config: DAY_TWICE,
+        slots: &[
+            Slot {
+                links: &[
+                    Comes {
+                        reads: &[8],
+                        writes: &[0],
+                        ..TWO_CUT
+                    },
+                    TWO,
+                ],
+                failing: &[],
+            },
+            SECOND_TWICE,
+        ],
+        came: &[Came {
+            conns: &[
+                Left {
+                    write: WriteEnd::WriteFault(LastCollect::Done),
+                    output: &[],
+                    ..BOTH_READ
+                },
+                WHOLE,
+                WHOLE,
+                WHOLE,
+            ],
+            finished: 8,
+            ends: BOTH_SERVED,
+        }],
+    },
+];
+
+#[test]
+fn a_slot_goes_on_after_a_fault_of_a_connection_and_not_of_an_accept(rt: HostRuntime) {
+    assert!(&rt; all_hold(&rt, rt.alloc(), LATER_FAULTS));
 }
 
 /// Ten requests over the three lanes, the priority by the id.

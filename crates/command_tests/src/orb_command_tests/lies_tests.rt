@@ -218,12 +218,12 @@ fn a_lie_is_refused_at_its_own_offset(rt: HostRuntime) {
 /// An input that is made.
 #[derive(Clone, Copy)]
 enum Made {
-    /// So many first pieces of 24 bytes each, of ids from 1 on, after none of which a Fragment comes.
-    Firsts(u8),
+    /// So many first pieces of 24 bytes each, of ids from 1 on, after none of which a Fragment comes; and bytes after them.
+    Firsts(u8, &'static [u8]),
     /// So many requests of 262,144 bytes each.
     Longest(u16),
-    /// A request whose first piece has so many bytes after 48, and its last Fragment so many after 16.
-    Joined(u32, u32),
+    /// A request whose first piece has so many bytes after 48, and a Fragment of it, of these flags, so many after 16.
+    Joined(u32, u8, u32),
 }
 
 /// What comes of an input that is made.
@@ -254,9 +254,10 @@ fn put_request(bytes: &mut Octets, flags: u8, letters: u32) -> bool {
         && put_letters(bytes, letters)
 }
 
-/// Puts the last Fragment of id 1, with so many letters.
-fn put_fragment(bytes: &mut Octets, letters: u32) -> bool {
-    bytes.append(b"GIOP\x01\x02\0\x07").is_ok()
+/// Puts a Fragment of id 1, with these flags and so many letters.
+fn put_fragment(bytes: &mut Octets, flags: u8, letters: u32) -> bool {
+    bytes.append(b"GIOP\x01\x02").is_ok()
+        && bytes.append(&[flags, 7]).is_ok()
         && bytes.append(&letters.wrapping_add(4).to_be_bytes()).is_ok()
         && bytes.append(b"\0\0\0\x01").is_ok()
         && put_letters(bytes, letters)
@@ -291,15 +292,17 @@ fn put_longest(alloc: Global, bytes: &mut Octets, count: u16) -> bool {
 
 fn put_made(alloc: Global, bytes: &mut Octets, made: Made) -> bool {
     match made {
-        Made::Firsts(count) => put_firsts(bytes, count),
+        Made::Firsts(count, after) => put_firsts(bytes, count) && bytes.append(after).is_ok(),
         Made::Longest(count) => put_longest(alloc, bytes, count),
-        Made::Joined(first, last) => put_request(bytes, 2, first) && put_fragment(bytes, last),
+        Made::Joined(first, flags, more) => {
+            put_request(bytes, 2, first) && put_fragment(bytes, flags, more)
+        }
     }
 }
 
 const LONG: &[Long] = &[
     Long {
-        made: Made::Firsts(16),
+        made: Made::Firsts(16, b""),
         row: Row {
             story: "sixteen unfinished messages are held",
             note: "Input(0, Cut)",
@@ -308,7 +311,7 @@ const LONG: &[Long] = &[
         },
     },
     Long {
-        made: Made::Firsts(17),
+        made: Made::Firsts(17, b""),
         row: Row {
             story: "a seventeenth unfinished message is TooManyPartials, at its own offset",
             note: "Input(384, Frame(TooManyPartials))",
@@ -316,17 +319,60 @@ const LONG: &[Long] = &[
         },
     },
     Long {
-        made: Made::Joined(262_088, 8),
+        made: Made::Joined(262_088, 0, 8),
         row: Row {
             story: "pieces of 262,136 and 8 bytes are the greatest message",
             ..EMPTY
         },
     },
     Long {
-        made: Made::Joined(262_096, 1),
+        made: Made::Joined(262_096, 0, 1),
         row: Row {
             story: "pieces that are joined to a byte more are TooLong, at the last of them",
             note: "Input(262144, Frame(TooLong))",
+            ..REFUSED
+        },
+    },
+    Long {
+        made: Made::Firsts(
+            16,
+            b"GIOP\x01\x02\x02\0\0\0\0\x0c\0\0\0\x01\x03\0\0\0\0\0\0\0",
+        ),
+        row: Row {
+            story: "a first piece of an open id is BadPiece before it is one too many",
+            note: "Input(384, Frame(BadPiece))",
+            ..REFUSED
+        },
+    },
+    Long {
+        made: Made::Firsts(
+            16,
+            b"GIOP\x01\x02\0\x02\0\0\0\x04\0\0\0\x01GIOP\x01\x02\x02\0\0\0\0\x0c\0\0\0\x11\x03\0\0\0\0\0\0\0",
+        ),
+        row: Row {
+            story: "a CancelRequest drops one of sixteen unfinished messages, and another may begin: the second is the first that is cut",
+            note: "Input(24, Cut)",
+            output: b"",
+            ..REFUSED
+        },
+    },
+    Long {
+        made: Made::Firsts(
+            16,
+            b"GIOP\x01\x02\0\0\0\0\0\x24\0\0\0\x01\x03\0\0\0\0\0\0\0\0\0\0\x04ping\0\0\0\x08current\0\0\0\0\0",
+        ),
+        row: Row {
+            story: "a whole message beside sixteen unfinished ones is answered",
+            note: "Input(0, Cut)",
+            output: PING_REPLY,
+            ..REFUSED
+        },
+    },
+    Long {
+        made: Made::Joined(262_096, 2, 1),
+        row: Row {
+            story: "a piece's own length goes before that of what it is joined to: 17 bytes that aren't the last are BadPiece, not TooLong",
+            note: "Input(262144, Frame(BadPiece))",
             ..REFUSED
         },
     },
