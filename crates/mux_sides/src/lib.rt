@@ -1,0 +1,10 @@
+//! The sides of a link that several callers share, each by its seat: the writer, which sends what the link gives it, the reader, which
+//! hears the replies, and a caller, which makes one call: own profile.
+#![tactic(auto)]
+
+mod laws;
+mod sharing;
+mod writing;
+
+pub use laws::sent_requests_are_short;
+pub use writing::{WriterEnd, write_side};
