@@ -1,2 +1,4 @@
 pub mod Entering
 pub mod Sending
+pub mod Calling
+pub mod Replying
