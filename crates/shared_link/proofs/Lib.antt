@@ -4,3 +4,4 @@ pub mod Outcomes
 pub mod Growing
 pub mod Heirs
 pub mod RoleLaws
+pub mod Closings

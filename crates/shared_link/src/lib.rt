@@ -11,6 +11,7 @@
 #![tactic(auto)]
 
 mod answers;
+mod closing;
 mod laws;
 mod mux_seat;
 mod opening;
