@@ -232,8 +232,11 @@ module _ (cell : CellView Mux) (h h' : Hearer) (taken taken' : ℕ) (from mid to
           bytes = h'.framer.fed;
           ended = false;
           takes = takes_on h.framer.fed piece h'.framer.fed taken' from to one.feeds.fed_is got;
-          carry = inr (refl, (let c = count in let f = arrives.few in omega arith),
-              (one.puts.rest, ending, subst (λ (rs : List Reply). Carry h'.framer.fed rs ending) parts one.feeds.heard));
+          carry = inr (
+            refl,
+            (let c = count in let f = arrives.few in omega arith),
+            (one.puts.rest, ending, subst (λ (rs : List Reply). Carry h'.framer.fed rs ending) parts one.feeds.heard),
+          );
           faults = got.reads;
           before = h.calls;
           went_on = (x.going.heard, before_less cell h taken now.1 from mid old now.0 x);
@@ -262,9 +265,9 @@ module _ (cell : CellView Mux) (h h' : Hearer) (taken taken' : ℕ) (from mid to
   stops_with came one = elim one [
     | inl lacks ↦ subst (λ (w : Why). Reads cell w old new.0 from to) (sym lacks.0) (lacks_with lacks.1)
     | inr heard ↦ elim heard.2 [
-        | inl full ↦ subst (λ (w : Why). Reads cell w old new.0 from to) (sym full.0) (full_with heard.0 full.1 heard.1)
-        | inr out ↦ ended_with came out.1.0 out.1.2 out.0 (subst (λ (e : Option ReadEnd). FeedsAndPuts cell h h' piece e now new) out.1.1 heard.1)
-      ]
+      | inl full ↦ subst (λ (w : Why). Reads cell w old new.0 from to) (sym full.0) (full_with heard.0 full.1 heard.1)
+      | inr out ↦ ended_with came out.1.0 out.1.2 out.0 (subst (λ (e : Option ReadEnd). FeedsAndPuts cell h h' piece e now new) out.1.1 heard.1)
+    ]
   ]
 
 -- ---- it stops without a piece

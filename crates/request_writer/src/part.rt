@@ -7,8 +7,8 @@ ghost use Rattle.giop_messages.specs.Message as Spec;
 ghost use Rattle.giop_messages.specs.Layout.{target_fields, contexts_fields, body_fields, profiles_fields};
 ghost use Rattle.giop_messages.specs.TargetView.{target_of};
 
-use giop_messages::Target;
 use cdr_core::{Writer, put_list};
+use giop_messages::Target;
 use orb_base::{Context, NoMemory, Tagged, Text};
 
 /// Puts a tag and what it tells of.

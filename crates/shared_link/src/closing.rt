@@ -24,11 +24,7 @@ impl Shared {
 }
 
 /// Joins the seats into the first one, and closes the cell.
-fn end(
-    cell: TurnCell<MuxCell>,
-    main: Seat<MuxCell>,
-    seats: Vec<MuxSeat>,
-) -> List<Entry<MuxCell>>
+fn end(cell: TurnCell<MuxCell>, main: Seat<MuxCell>, seats: Vec<MuxSeat>) -> List<Entry<MuxCell>>
     requires main { MainAt cell (length seats.items) main }
     requires seats { AreBack cell 1 seats.items }
     ensures { IsHistory cell seats.items result.items }

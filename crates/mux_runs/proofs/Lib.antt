@@ -1,0 +1,3 @@
+pub mod CallerJobs
+pub mod OwnReplies
+pub mod WholeRuns
