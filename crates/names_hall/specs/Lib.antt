@@ -1,0 +1,5 @@
+pub mod Hands
+pub mod Entering
+pub mod Seats
+pub mod Closing
+pub mod Laws
