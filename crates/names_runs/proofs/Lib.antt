@@ -1,0 +1,4 @@
+mod Giving
+mod Starting
+mod Closing
+mod Completing

@@ -1,0 +1,7 @@
+//! Tests of `names_hall` and `names_runs`.
+#![tactic(auto)]
+
+#[cfg(test)]
+mod messages;
+#[cfg(test)]
+mod run_tests;
