@@ -1,6 +1,6 @@
 -- Each command's words, written out with all its options.
 use Rattle.std.proofs.Common.{◌≡◌, ◌++◌, ◌∷◌, [], Some, None, codes, refl}
-use Rattle.command_options.specs.Commands.{call_items, idl_items, load_items, pipe_items, refs_items, serve_items}
+use Rattle.command_options.specs.Commands.{call_items, idl_items, load_items, names_items, pipe_items, refs_items, serve_items}
 use Rattle.command_options.specs.Items.{Text}
 use Rattle.command_options.specs.Words.{form_of, has_no_stray_dash, plain}
 use Rattle.command_options.specs.Uses.{reading, uses}
@@ -46,6 +46,18 @@ pub serve_runs_joined_reads : (file place number : Text)
     ≡ Some ((codes "trace", None) ∷ (codes "runs", Some number) ∷ (codes "listen", Some place) ∷ (codes "config", Some file) ∷ [])
 unfolding reading uses has_no_stray_dash
 serve_runs_joined_reads file place number = refl
+
+pub names_reads : (place : Text) → form_of place ≡ plain
+    → reading names_items (codes "--listen" ∷ place ∷ [])
+    ≡ Some ((codes "listen", Some place) ∷ [])
+unfolding reading uses has_no_stray_dash
+names_reads place place_plain = rw place_plain refl
+
+pub names_joined_reads : (place : Text)
+    → reading names_items ((codes "--listen=" ++ place) ∷ [])
+    ≡ Some ((codes "listen", Some place) ∷ [])
+unfolding reading uses has_no_stray_dash
+names_joined_reads place = refl
 
 pub refs_reads : (place file : Text) → form_of place ≡ plain → form_of file ≡ plain
     → reading refs_items (codes "--at" ∷ place ∷ codes "--config" ∷ file ∷ [])

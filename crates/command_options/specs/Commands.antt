@@ -24,6 +24,10 @@ serve_items =
     must_have Valued (codes "config") ∷ must_have Valued (codes "listen") ∷ may_have Valued (codes "runs") ∷ may_have Switch (codes "trace")
     ∷ []
 
+-- `names --listen HOST:PORT`
+abbrev pub names_items : List Item
+names_items = must_have Valued (codes "listen") ∷ []
+
 -- `refs [--at HOST:PORT] [--config FILE]`
 abbrev pub refs_items : List Item
 refs_items = may_have Valued (codes "at") ∷ may_have Valued (codes "config") ∷ []

@@ -59,6 +59,13 @@ static SERVE: [Item<'static>; 4] = [
     },
 ];
 
+// `names --listen HOST:PORT`
+static NAMES: [Item<'static>; 1] = [Item {
+    name: "listen",
+    kind: Kind::Valued,
+    is_due: true,
+}];
+
 // `refs [--at HOST:PORT] [--config FILE]`
 static REFS: [Item<'static>; 2] = [
     Item {
@@ -171,6 +178,18 @@ pub fn read_serve<'a, S: AsStr>(
         ≡ option_map given (reading Spec.serve_items (map S.text words.entry.now))) }
 {
     read_options(alloc, SERVE.as_slice(), words)
+}
+
+/// What the words after `names` give, which are `--listen HOST:PORT`.
+/// None where the words have no reading.
+pub fn read_names<'a, S: AsStr>(
+    alloc: Global,
+    words: &'a [S],
+) -> Result<Option<Options<'a>>, NoMemory>
+    ensures { IfOk result (λ found. option_map given_by found
+        ≡ option_map given (reading Spec.names_items (map S.text words.entry.now))) }
+{
+    read_options(alloc, NAMES.as_slice(), words)
 }
 
 /// What the words after `refs` give, which are `[--at HOST:PORT] [--config FILE]` in any order.

@@ -1,6 +1,6 @@
 //! Laws of the reading of words. The bodies are empty: each contract is a law of the definitions.
 ghost use Rattle.std.specs.Prelude.{◌≡◌, ◌++◌, ◌∷◌, [], List, Some, None, codes, option_map};
-ghost use Rattle.command_options.specs.Commands.{call_items, idl_items, load_items, pipe_items, refs_items, serve_items};
+ghost use Rattle.command_options.specs.Commands.{call_items, idl_items, load_items, names_items, pipe_items, refs_items, serve_items};
 ghost use Rattle.command_options.specs.Given.{given};
 ghost use Rattle.command_options.specs.Items.{Item, Text};
 ghost use Rattle.command_options.specs.Uses.{Use, reading};
@@ -44,6 +44,12 @@ pub fn commands_are_read_as_written()
     ensures serve_runs_joined { (file place number : Text)
         → reading serve_items (codes "--trace" ∷ (codes "--runs=" ++ number) ∷ (codes "--listen=" ++ place) ∷ (codes "--config=" ++ file) ∷ [])
         ≡ Some ((codes "trace", None) ∷ (codes "runs", Some number) ∷ (codes "listen", Some place) ∷ (codes "config", Some file) ∷ []) }
+    ensures names { (place : Text) → form_of place ≡ plain
+        → reading names_items (codes "--listen" ∷ place ∷ [])
+        ≡ Some ((codes "listen", Some place) ∷ []) }
+    ensures names_joined { (place : Text)
+        → reading names_items ((codes "--listen=" ++ place) ∷ [])
+        ≡ Some ((codes "listen", Some place) ∷ []) }
     ensures refs { (place file : Text) → form_of place ≡ plain → form_of file ≡ plain
         → reading refs_items (codes "--at" ∷ place ∷ codes "--config" ∷ file ∷ [])
         ≡ Some ((codes "at", Some place) ∷ (codes "config", Some file) ∷ []) }

@@ -13,7 +13,8 @@ mod numbers;
 mod options;
 
 pub use commands::{
-    read_audit, read_call, read_dump, read_idl, read_load, read_pipe, read_refs, read_serve,
+    read_audit, read_call, read_dump, read_idl, read_load, read_names, read_pipe, read_refs,
+    read_serve,
 };
 pub use item::{Item, Kind};
 pub use laws::{commands_are_read_as_written, order_is_free, second_use_is_refused};

@@ -17,6 +17,8 @@ enum Said {
     Pipe(Option<&'static str>, u8, Shown),
     /// The configuration, the host and port, how many runs, and whether they are traced.
     Serve(&'static str, &'static str, u16, u8, bool),
+    /// The host and port.
+    Names(&'static str, u16),
     Dump,
     Audit,
     Refs,
@@ -164,6 +166,7 @@ fn is_said(meaning: &Meaning, want: Said) -> bool {
                 && is_place(&words.at, host, port)
                 && is_plan(&words.plan, runs, trace)
         }
+        (Meaning::Names(at), Said::Names(host, port)) => is_place(at, host, port),
         (Meaning::RefsAt(at, name), Said::RefsAt(host, port, config)) => {
             is_place(at, host, port) && is_name(name.as_ref(), config)
         }
@@ -685,6 +688,35 @@ const DUMPS: &[Row] = &[
 #[test]
 fn the_words_of_dump(rt: HostRuntime) {
     assert!(rt; all_mean(rt.alloc(), DUMPS));
+}
+
+const NAMES: &[Row] = &[
+    (&["names", "--listen", "h:1"], Said::Names("h", 1)),
+    (
+        &["names", "--listen=127.0.0.1:65535"],
+        Said::Names("127.0.0.1", 65_535),
+    ),
+    (&["names", "--listen", "h:0"], Said::Unread),
+    (&["names", "--listen", "h:65536"], Said::Unread),
+    (&["names", "--listen", "h"], Said::Unread),
+    (&["names", "--listen", ":1"], Said::Unread),
+    (&["names", "--listen"], Said::Unread),
+    (&["names"], Said::Unread),
+    (&["names", "h:1"], Said::Unread),
+    (
+        &["names", "--listen", "h:1", "--listen", "h:1"],
+        Said::Unread,
+    ),
+    (&["names", "--listen", "h:1", "--config", "c"], Said::Unread),
+    (&["names", "--listen", "h:1", "--runs", "2"], Said::Unread),
+    (&["names", "--listen", "h:1", "x"], Said::Unread),
+    (&["names", "--listen", "h\0:1"], Said::Unread),
+    (&["names", "--help"], Said::Unread),
+];
+
+#[test]
+fn the_words_of_names(rt: HostRuntime) {
+    assert!(rt; all_mean(rt.alloc(), NAMES));
 }
 
 const AUDITS: &[Row] = &[

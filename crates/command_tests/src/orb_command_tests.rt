@@ -7,6 +7,7 @@ mod hostile_tests;
 mod lane_tests;
 mod lies_tests;
 mod load_tests;
+mod names_tests;
 mod rows;
 mod script_tests;
 mod serve_tests;

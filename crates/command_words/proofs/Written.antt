@@ -11,7 +11,7 @@ use Rattle.command_options.specs.Items.{Text}
 use Rattle.command_options.specs.Numbers.{number_of}
 use Rattle.command_options.specs.Words.{form_of, plain}
 use Rattle.command_options.proofs.Written as options
-use Rattle.command_words.specs.Meanings.{called, listed, loaded, piped, planned, refs_at, served_at}
+use Rattle.command_words.specs.Meanings.{called, listed, loaded, named_at, piped, planned, refs_at, served_at}
 use Rattle.command_words.specs.Numbers.{batch_of, count_of, fragment_of, priority_of, runs_of}
 use Rattle.command_words.specs.Words.{command_of}
 
@@ -88,6 +88,18 @@ serve_runs_joined_means file place number file_clean place_clean number_clean =
     let place_so : HasNoNul (codes "--listen=" ++ place) = clean (codes "--listen=" ++ place) place refl place_clean in
     let number_so : HasNoNul (codes "--runs=" ++ number) = clean (codes "--runs=" ++ number) number refl number_clean in
     rw (file_so, place_so, number_so, options.serve_runs_joined_reads file place number) refl
+
+pub names_means : (place : Text) → form_of place ≡ plain → HasNoNul place
+    → command_of (codes "names" ∷ codes "--listen" ∷ place ∷ []) ≡ named_at (address_of place)
+unfolding command_of given
+names_means place place_plain place_clean = rw (place_clean, options.names_reads place place_plain) refl
+
+pub names_joined_means : (place : Text) → HasNoNul place
+    → command_of (codes "names" ∷ (codes "--listen=" ++ place) ∷ []) ≡ named_at (address_of place)
+unfolding command_of given
+names_joined_means place place_clean =
+    let place_so : HasNoNul (codes "--listen=" ++ place) = clean (codes "--listen=" ++ place) place refl place_clean in
+    rw (place_so, options.names_joined_reads place) refl
 
 pub refs_means : (place file : Text) → form_of place ≡ plain → form_of file ≡ plain → HasNoNul place → HasNoNul file
     → command_of (codes "refs" ∷ codes "--at" ∷ place ∷ codes "--config" ∷ file ∷ []) ≡ refs_at (address_of place) (Some file)

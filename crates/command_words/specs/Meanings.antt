@@ -9,7 +9,7 @@ use Rattle.command_options.specs.Items.{Text}
 use Rattle.command_options.specs.Numbers.{number_of}
 use Rattle.command_words.specs.Numbers.{batch_by, runs_by, priority_by, count_of, fragment_by}
 use Rattle.command_words.specs.declared.meaning.Meaning.{Meaning}
-use Rattle.command_words.specs.declared.meaning.Meaning.TheVariants.{Pipe, Serve, Dump, Audit, Refs, RefsAt, Idl, Call, Load, Unread}
+use Rattle.command_words.specs.declared.meaning.Meaning.TheVariants.{Pipe, Serve, Names, Dump, Audit, Refs, RefsAt, Idl, Call, Load, Unread}
 
 -- what words give the items of a command: for each name its text, where the item is used
 abbrev pub Gives : Type 0
@@ -51,6 +51,17 @@ abbrev pub serve_by : Gives → Meaning
 serve_by gives =
     served_at (gives (codes "config")) (option_and_then address_of (gives (codes "listen"))) (runs_by (gives (codes "runs")))
     (is_some (gives (codes "trace")))
+
+-- ---- `names --listen HOST:PORT`
+
+-- the name service at a place, where it is an address
+abbrev pub named_at : Option Place → Meaning
+named_at (Some at) = Names at
+named_at None = Unread
+
+-- the name service, by the text of its option
+abbrev pub names_by : Gives → Meaning
+names_by gives = named_at (option_and_then address_of (gives (codes "listen")))
 
 -- ---- `refs`, or `refs --at HOST:PORT [--config FILE]`
 

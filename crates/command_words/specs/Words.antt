@@ -3,11 +3,11 @@ use Rattle.std.specs.Prelude.{Bool, false, not, ◌&&◌, if◌then◌else◌, L
 use Rattle.std.specs.Prelude.{Option, Some, None, is_some, option_map}
 use Rattle.std.specs.Str.{bytes_eq}
 use Rattle.command_options.specs.Items.{Item, Text}
-use Rattle.command_options.specs.Commands.{pipe_items, serve_items, refs_items, dump_items, audit_items, idl_items, call_items, load_items}
+use Rattle.command_options.specs.Commands.{pipe_items, serve_items, names_items, refs_items, dump_items, audit_items, idl_items, call_items, load_items}
 use Rattle.command_options.specs.Nul.{has_nul}
 use Rattle.command_options.specs.Uses.{reading}
 use Rattle.command_options.specs.Given.{given}
-use Rattle.command_words.specs.Meanings.{Gives, pipe_by, serve_by, refs_by, dump_by, audit_by, idl_by, call_by, load_by}
+use Rattle.command_words.specs.Meanings.{Gives, pipe_by, serve_by, names_by, refs_by, dump_by, audit_by, idl_by, call_by, load_by}
 use Rattle.command_words.specs.declared.meaning.Meaning.{Meaning}
 use Rattle.command_words.specs.declared.meaning.Meaning.TheVariants.{Unread}
 
@@ -21,6 +21,7 @@ abbrev pub command_named : Text → Option Command
 command_named name =
     if bytes_eq name (codes "pipe") then Some (record { items = pipe_items; meaning = pipe_by })
     else if bytes_eq name (codes "serve") then Some (record { items = serve_items; meaning = serve_by })
+    else if bytes_eq name (codes "names") then Some (record { items = names_items; meaning = names_by })
     else if bytes_eq name (codes "refs") then Some (record { items = refs_items; meaning = refs_by })
     else if bytes_eq name (codes "dump") then Some (record { items = dump_items; meaning = dump_by })
     else if bytes_eq name (codes "audit") then Some (record { items = audit_items; meaning = audit_by })

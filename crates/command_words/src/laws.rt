@@ -9,7 +9,7 @@ ghost use Rattle.command_options.specs.Uses.{Use};
 ghost use Rattle.command_options.specs.Whole.{IsWhole};
 ghost use Rattle.command_options.specs.Words.{form_of, plain};
 ghost use Rattle.command_words.specs.declared.meaning.Meaning.TheVariants.{Unread};
-ghost use Rattle.command_words.specs.Meanings.{called, listed, loaded, piped, planned, refs_at, served_at};
+ghost use Rattle.command_words.specs.Meanings.{called, listed, loaded, named_at, piped, planned, refs_at, served_at};
 ghost use Rattle.command_words.specs.Numbers.{batch_of, count_of, fragment_of, priority_of, runs_of};
 ghost use Rattle.command_words.specs.Words.{Command, command_named, command_of};
 
@@ -30,7 +30,7 @@ pub fn second_use_is_refused()
 
 /// What each command's words mean, written out with all its options: with a value after each name, where no value begins with a
 /// dash, and the other way round with `=`; no value holds a NUL. What isn't the number or the address that it has to be has no
-/// reading, by `piped`, `served_at`, `refs_at`, `called` and `planned`.
+/// reading, by `piped`, `served_at`, `named_at`, `refs_at`, `called` and `planned`.
 pub fn commands_mean_what_they_say()
     ensures pipe { (file number : Text) → form_of file ≡ plain → form_of number ≡ plain → HasNoNul file → HasNoNul number
         → command_of (codes "pipe" ∷ codes "--config" ∷ file ∷ codes "--batch" ∷ number ∷ codes "--history" ∷ [])
@@ -55,6 +55,12 @@ pub fn commands_mean_what_they_say()
         → command_of (codes "serve" ∷ codes "--trace" ∷ (codes "--runs=" ++ number) ∷ (codes "--listen=" ++ place)
         ∷ (codes "--config=" ++ file) ∷ [])
         ≡ served_at (Some file) (address_of place) (runs_of number) true }
+    ensures names { (place : Text) → form_of place ≡ plain → HasNoNul place
+        → command_of (codes "names" ∷ codes "--listen" ∷ place ∷ [])
+        ≡ named_at (address_of place) }
+    ensures names_joined { (place : Text) → HasNoNul place
+        → command_of (codes "names" ∷ (codes "--listen=" ++ place) ∷ [])
+        ≡ named_at (address_of place) }
     ensures refs { (place file : Text) → form_of place ≡ plain → form_of file ≡ plain → HasNoNul place → HasNoNul file
         → command_of (codes "refs" ∷ codes "--at" ∷ place ∷ codes "--config" ∷ file ∷ [])
         ≡ refs_at (address_of place) (Some file) }

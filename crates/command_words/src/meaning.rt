@@ -45,6 +45,8 @@ pub enum Meaning {
     Pipe(PipeWords),
     /// The command `serve`.
     Serve(ServeWords),
+    /// The command `names`, at an address.
+    Names(Address),
     /// The command `dump`.
     Dump,
     /// The command `audit`.

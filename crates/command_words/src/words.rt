@@ -11,8 +11,8 @@ use crate::meaning::{LoadWords, Meaning, PipeWords, ServeWords};
 use crate::numbers::{batch_by, count_of, fragment_by, priority_by, runs_by};
 use client_runs::{ArgumentText, CallWords};
 use command_options::{
-    Options, has_nul, number_of, read_audit, read_call, read_dump, read_idl, read_load, read_pipe,
-    read_refs, read_serve,
+    Options, has_nul, number_of, read_audit, read_call, read_dump, read_idl, read_load, read_names,
+    read_pipe, read_refs, read_serve,
 };
 use load_runs::LoadPlan;
 use object_lines::read_address;
@@ -48,6 +48,8 @@ fn read_named(alloc: Global, name: &str, words: &[String]) -> Result<Meaning, No
         pipe(alloc, words)
     } else if name == "serve" {
         serve(alloc, words)
+    } else if name == "names" {
+        names(alloc, words)
     } else if name == "refs" {
         refs(alloc, words)
     } else if name == "dump" {
@@ -135,6 +137,30 @@ fn serve_by(alloc: Global, options: &Options<'_>) -> Result<Meaning, NoMemory>
     let config = text_of(alloc, config)?;
     let plan = RunPlan { runs, trace };
     Ok(Meaning::Serve(ServeWords { config, at, plan }))
+}
+
+/// What `names` means with these words after it.
+fn names(alloc: Global, words: &[String]) -> Result<Meaning, NoMemory>
+    ensures { IfOk result (λ meaning. meaning
+        ≡ Spec.meant By.names_by (option_map given (reading Takes.names_items (map string_bytes words.now)))) }
+{
+    match read_names(alloc, words)? {
+        Some(options) => names_by(alloc, &options),
+        None => Ok(Meaning::Unread),
+    }
+}
+
+/// What `names` means by what its options give.
+fn names_by(alloc: Global, options: &Options<'_>) -> Result<Meaning, NoMemory>
+    ensures { IfOk result (λ meaning. meaning ≡ By.names_by (given_by options.now)) }
+{
+    let Some(place) = options.value("listen") else {
+        return Ok(Meaning::Unread);
+    };
+    let Some(at) = read_address(alloc, place.as_bytes())? else {
+        return Ok(Meaning::Unread);
+    };
+    Ok(Meaning::Names(at))
 }
 
 /// What `refs` means with these words after it.

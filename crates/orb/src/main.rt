@@ -42,6 +42,7 @@ fn without_words<A, I, O>(alloc: Global, fault: &io::Error) -> Answered<A, I, O>
         note,
         piped: None,
         runs: List::new(alloc),
+        names: None,
         acceptors: List::new(alloc),
         link: None,
     }

@@ -147,9 +147,9 @@ module _ {I O : Type 0} (source : I → SourceState) (sink : O → SinkState) wh
 module _ {A I O : Type 0} (state : A → AcceptorState I O) (source : I → SourceState) (sink : O → SinkState) where
   pub call_answers : (words : CallWords) (answered : Answered A I O) (before after : Moment) (net net' : NetState I O) → after.input ≡ before.input
       → CallsSo source sink words (call_told answered) before.files after.files net net' before.out after.out
-      → answered.status ≡ status_of answered.note → answered.piped ≡ None → answered.runs.items ≡ [] → answered.acceptors.items ≡ []
+      → answered.status ≡ status_of answered.note → answered.piped ≡ None → answered.runs.items ≡ [] → answered.names ≡ None → answered.acceptors.items ≡ []
       → Answers state source sink (Call words) answered before after net net'
-  call_answers words answered before after net net' same h status none run empty = record {
+  call_answers words answered before after net net' same h status none run unnamed empty = record {
     reports = record {
       status = status;
       means = same;
@@ -157,5 +157,5 @@ module _ {A I O : Type 0} (state : A → AcceptorState I O) (source : I → Sour
       faults = (same, subst (λ n. CallFaults n before after) (sym h.note) (calls_faults source sink words h.answer net net' before after h.calls));
       few = subst (λ (s : SourceState). GaveFew 0 before.input s) (sym same) (gave_none 0 before.input);
     };
-    uses = (run, empty, h);
+    uses = (run, unnamed, empty, h);
   }

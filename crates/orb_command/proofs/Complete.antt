@@ -41,6 +41,8 @@ use Rattle.idl_lines.specs.declared.idl_end.IdlEnd.{IdlEnd}
 use Rattle.idl_lines.specs.declared.idl_end.IdlEnd.TheVariants as listed
 use Rattle.load_runs.specs.declared.load_end.LoadEnd.{LoadEnd}
 use Rattle.load_runs.specs.declared.load_end.LoadEnd.TheVariants as load
+use Rattle.names_server.specs.declared.names_end.NamesEnd.{NamesEnd}
+use Rattle.names_server.specs.declared.names_end.NamesEnd.TheVariants as names
 use Rattle.server_runs.specs.Plans.{after_one, goes_on}
 use Rattle.server_runs.specs.RunLines.{lines_of, WritesLines}
 use Rattle.server_runs.specs.Serving as servers
@@ -64,10 +66,11 @@ use Rattle.client_runs.specs.declared.call_end.FileFault.TheVariants as file
 use Rattle.client_runs.specs.declared.call_words.CallWords.{CallWords}
 use Rattle.client_runs.specs.declared.called.Called.{Called}
 use Rattle.command_words.specs.declared.meaning.Meaning.{Meaning}
-use Rattle.command_words.specs.declared.meaning.Meaning.TheVariants.{Pipe, Serve, Dump, Audit, Refs, RefsAt, Idl, Call, Load, Unread}
+use Rattle.command_words.specs.declared.meaning.Meaning.TheVariants.{Pipe, Serve, Names, Dump, Audit, Refs, RefsAt, Idl, Call, Load, Unread}
 use Rattle.command_words.specs.declared.meaning.PipeWords.{PipeWords}
 use Rattle.command_words.specs.declared.meaning.ServeWords.{ServeWords}
 use Rattle.command_words.specs.declared.meaning.LoadWords.{LoadWords}
+use Rattle.orb_command.proofs.NamesNotes.{names_asked}
 use Rattle.orb_command.specs.Moment.{Moment}
 use Rattle.orb_command.specs.Command.{status_of, Answers}
 use Rattle.orb_command.specs.Completeness.{is_good, LinkFails, RefusesSetup, RefusesListed, RefusesKnown, GoesWell}
@@ -81,6 +84,7 @@ use Rattle.orb_command.specs.AtAnswer.{at_note}
 use Rattle.orb_command.specs.IdlAnswer.{idl_note}
 use Rattle.orb_command.specs.LoadAnswer as loads
 use Rattle.orb_command.specs.ServeAnswer as serves
+use Rattle.orb_command.specs.NamesAnswer as named
 use Rattle.orb_command.specs.CallAnswer as called
 use Rattle.orb_command.specs.declared.answered.Answered.{Answered}
 use Rattle.orb_command.specs.declared.note.Note.{Note}
@@ -175,6 +179,12 @@ at_good place config at.Done files files' out out' none h unread unwritten = ref
 at_good place config (at.NoBroker why) files files' out out' none h unread unwritten = setup_good (RefsAt place config) config why files files' none h.0 unread refl
 at_good place config at.WriteFault files files' out out' none h unread unwritten = absurd (unwritten refl)
 at_good place config at.NoMemory files files' out out' none h unread unwritten = refl
+
+names_good : (at : Place) (end : NamesEnd) → (end ≡ names.NetFault → ⊥) → (named.note_of_end end ≡ WriteFault → ⊥) → Good (Names at) (named.note_of_end end)
+names_good at names.Done asked unwritten = refl
+names_good at names.NetFault asked unwritten = absurd (asked refl)
+names_good at names.WriteFault asked unwritten = absurd (unwritten refl)
+names_good at names.NoMemory asked unwritten = refl
 
 -- ---- the net of a server
 
@@ -358,7 +368,7 @@ module _ {A I O : Type 0} (state : A → AcceptorState I O) (source : I → Sour
       ]
   complete (Serve words) answered before after net net' h well =
       let c = Serve words in
-      elim h.uses.1.1 [
+      elim h.uses.2.1 [
         | inl k ↦
             let ran = k.2 in
             let end = ran.answer.end in
@@ -369,6 +379,13 @@ module _ {A I O : Type 0} (state : A → AcceptorState I O) (source : I → Sour
             by_note c answered before after net net' (setup_note k.0) (h, well) k.2.note (setup_good c (Some words.config) k.0 before.files after.files well.files k.1
             (never c answered before after net net' (setup_note k.0) ReadFault (h, well) k.2.note (λ f. well.store f.1.0)) refl)
       ]
+  complete (Names at) answered before after net net' h well =
+      let c = Names at in
+      let ran = h.uses.2 in
+      let end = ran.answer.end in
+      by_note c answered before after net net' (named.note_of_end end) (h, well) ran.note (names_good at end
+      (names_asked state source sink at ran.answer net net' before.out after.out well.nets ran.serves)
+      (never c answered before after net net' (named.note_of_end end) WriteFault (h, well) ran.note (λ f. well.output f.2)))
   complete Dump answered before after net net' h well =
       let m = h.reports.means in
       by_note Dump answered before after net net' (dump_note m.answer) (h, well) m.told (dump_good m.answer
@@ -399,7 +416,7 @@ module _ {A I O : Type 0} (state : A → AcceptorState I O) (source : I → Sour
       (never c answered before after net net' (idl_note m.answer) ReadFault (h, well) m.told (λ f. well.store f.1.0))
       (never c answered before after net net' (idl_note m.answer) WriteFault (h, well) m.told (λ f. well.output f.1.1)))
   complete (Call words) answered before after net net' h well =
-      let c = h.uses.2 in
+      let c = h.uses.3 in
       by_note (Call words) answered before after net net' (called.note_of_end c.answer.end) (h, well) c.note
       (call_good source sink words c.answer before.files after.files net net' before.out after.out well.files well.store well.nets well.output
       (λ fails. well.links (subst (LinkFails source sink) (sym c.link) fails)) c.calls)

@@ -5,6 +5,7 @@ pub mod LoadNotes
 pub mod IdlLaws
 pub mod PipeNotes
 pub mod Plain
+pub mod NamesNotes
 pub mod ServeNotes
 pub mod UsageLaws
 pub mod Complete

@@ -35,11 +35,11 @@ use Rattle.text_streams.proofs.CallerLemmas.{gave_none}
 use Rattle.text_streams.specs.Streams.{GaveFew}
 use Rattle.orb_command.specs.declared.answered.Reported.{Reported}
 use Rattle.command_words.specs.declared.meaning.Meaning.{Meaning}
-use Rattle.command_words.specs.declared.meaning.Meaning.TheVariants.{Pipe, Serve, Dump, Audit, Refs, RefsAt, Idl, Call, Load, Unread}
+use Rattle.command_words.specs.declared.meaning.Meaning.TheVariants.{Pipe, Serve, Names, Dump, Audit, Refs, RefsAt, Idl, Call, Load, Unread}
 use Rattle.orb_command.specs.declared.note.Note.{Note}
 use Rattle.orb_command.specs.declared.note.Note.TheVariants.{Memory}
 use Rattle.orb_command.specs.Command.{status_of, Reports}
-use Rattle.orb_command.specs.Faults.{RunFaults, ConfiguredFaults, PipeFaults, ServeFaults, CallFaults}
+use Rattle.orb_command.specs.Faults.{RunFaults, ConfiguredFaults, PipeFaults, ServeFaults, NamesFaults, CallFaults}
 use Rattle.orb_command.specs.Moment.{Moment, moment}
 use Rattle.orb_command.specs.PipeAnswer.{note_of, note_of_run, piped_of, Ran, Declined, PipeAnswers}
 use Rattle.orb_command.specs.SetupNotes.{serving_note, setup_note}
@@ -207,6 +207,13 @@ wanting_answers (Serve words) answered before note status none = record {
   means = refl;
   piped = none;
   faults = (refl, subst (λ n. ServeFaults n before before) (sym note) (refl, refl));
+  few = gave_none 0 before.input;
+}
+wanting_answers (Names at) answered before note status none = record {
+  status = status ∙ ap status_of (sym note);
+  means = refl;
+  piped = none;
+  faults = (refl, refl, subst (λ n. NamesFaults n before before) (sym note) refl);
   few = gave_none 0 before.input;
 }
 wanting_answers Dump answered before note status none = dump_wanting answered before note status none

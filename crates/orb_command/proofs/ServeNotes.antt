@@ -30,9 +30,9 @@ use Rattle.server_runs.specs.declared.run_at.Served.{Served}
 use Rattle.text_streams.proofs.CallerLemmas.{gave_none}
 use Rattle.text_streams.specs.Streams.{GaveFew}
 use Rattle.command_words.specs.declared.meaning.Meaning.{Meaning}
-use Rattle.command_words.specs.declared.meaning.Meaning.TheVariants.{Pipe, Serve, Dump, Audit, Refs, RefsAt, Idl, Call, Load, Unread}
+use Rattle.command_words.specs.declared.meaning.Meaning.TheVariants.{Pipe, Serve, Names, Dump, Audit, Refs, RefsAt, Idl, Call, Load, Unread}
 use Rattle.command_words.specs.declared.meaning.ServeWords.{ServeWords}
-use Rattle.orb_command.specs.Command.{status_of, Answers, call_told, report_of, serve_told}
+use Rattle.orb_command.specs.Command.{status_of, Answers, call_told, names_told, report_of, serve_told}
 use Rattle.orb_command.specs.Faults.{FiledFaults, ServeFaults}
 use Rattle.orb_command.specs.Moment.{Moment}
 use Rattle.orb_command.specs.ServeAnswer.{note_of_end, RanAt, ServesBy}
@@ -45,6 +45,7 @@ use Rattle.orb_command.specs.declared.note.Note.TheVariants.{Nothing, Usage, Con
 use Rattle.orb_command.proofs.AtLaws.{broker_faults}
 use Rattle.orb_command.proofs.PipeNotes.{wanting_answers}
 use Rattle.orb_command.proofs.CallNotes.{call_answers, call_wanting}
+use Rattle.orb_command.proofs.NamesNotes.{names_answers, names_wanting}
 use Rattle.orb_command.proofs.Plain.{plain_answers}
 
 -- ---- a setup and its servants
@@ -181,8 +182,8 @@ module _ {A I O : Type 0} (state : A → AcceptorState I O) (source : I → Sour
 
   pub serve_answers : (words : ServeWords) (answered : Answered A I O) (before after : Moment) (net net' : NetState I O) → after.input ≡ before.input
       → ServesBy state source sink words (serve_told answered) before.files after.files net net' before.out after.out
-      → answered.status ≡ status_of answered.note → answered.piped ≡ None → answered.link ≡ None → Answers state source sink (Serve words) answered before after net net'
-  serve_answers words answered before after net net' same h status none link = record {
+      → answered.status ≡ status_of answered.note → answered.piped ≡ None → answered.names ≡ None → answered.link ≡ None → Answers state source sink (Serve words) answered before after net net'
+  serve_answers words answered before after net net' same h status none unnamed link = record {
     reports = record {
       status = status;
       means = same;
@@ -190,36 +191,41 @@ module _ {A I O : Type 0} (state : A → AcceptorState I O) (source : I → Sour
       faults = (same, serve_faults words (serve_told answered) net net' before after h);
       few = subst (λ (s : SourceState). GaveFew 0 before.input s) (sym same) (gave_none 0 before.input);
     };
-    uses = (link, h);
+    uses = (unnamed, link, h);
   }
 
   -- where memory runs out over the words, nothing was done
   pub wanting : (command : Meaning) (reported : Reported) (answered : Answered A I O) (before : Moment) (net : NetState I O)
-      → reported.note ≡ Memory → reported.status ≡ 12 → reported.piped ≡ None → report_of answered ≡ reported → answered.runs.items ≡ [] → answered.acceptors.items ≡ []
+      → reported.note ≡ Memory → reported.status ≡ 12 → reported.piped ≡ None → report_of answered ≡ reported → answered.runs.items ≡ [] → answered.names ≡ None → answered.acceptors.items ≡ []
       → answered.link ≡ None → Answers state source sink command answered before before net net
-  wanting (Serve words) reported answered before net note status none same run empty link =
+  wanting (Serve words) reported answered before net note status none same run unnamed empty link =
       let told : answered.note ≡ Memory = ap (λ (r : Reported). r.note) same ∙ note in
       serve_answers words answered before before net net refl
       (by_none state source sink words why.NoMemory (serve_told answered) before.files before.files net before.out refl refl told run empty)
-      (ap (λ (r : Reported). r.status) same ∙ (status ∙ ap status_of (sym told))) (ap (λ (r : Reported). r.piped) same ∙ none) link
-  wanting (Call words) reported answered before net note status none same run empty link =
+      (ap (λ (r : Reported). r.status) same ∙ (status ∙ ap status_of (sym told))) (ap (λ (r : Reported). r.piped) same ∙ none) unnamed link
+  wanting (Names at) reported answered before net note status none same run unnamed empty link =
+      let told : answered.note ≡ Memory = ap (λ (r : Reported). r.note) same ∙ note in
+      names_answers state source sink at answered before before net net refl refl
+      (names_wanting state source sink at (names_told answered) net before.out told unnamed empty)
+      (ap (λ (r : Reported). r.status) same ∙ (status ∙ ap status_of (sym told))) (ap (λ (r : Reported). r.piped) same ∙ none) run link
+  wanting (Call words) reported answered before net note status none same run unnamed empty link =
       let told : answered.note ≡ Memory = ap (λ (r : Reported). r.note) same ∙ note in
       call_answers state source sink words answered before before net net refl
       (call_wanting source sink words (call_told answered) before.files net before.out told link)
-      (ap (λ (r : Reported). r.status) same ∙ (status ∙ ap status_of (sym told))) (ap (λ (r : Reported). r.piped) same ∙ none) run empty
-  wanting (Pipe words) reported answered before net note status none same run empty link =
+      (ap (λ (r : Reported). r.status) same ∙ (status ∙ ap status_of (sym told))) (ap (λ (r : Reported). r.piped) same ∙ none) run unnamed empty
+  wanting (Pipe words) reported answered before net note status none same run unnamed empty link =
       plain_answers state source sink (Pipe words) reported answered before before net tt (wanting_answers (Pipe words) reported before note status none) same run empty link
-  wanting (RefsAt place config) reported answered before net note status none same run empty link =
+  wanting (RefsAt place config) reported answered before net note status none same run unnamed empty link =
       plain_answers state source sink (RefsAt place config) reported answered before before net tt (wanting_answers (RefsAt place config) reported before note status none) same run empty link
-  wanting (Idl name) reported answered before net note status none same run empty link =
+  wanting (Idl name) reported answered before net note status none same run unnamed empty link =
       plain_answers state source sink (Idl name) reported answered before before net tt (wanting_answers (Idl name) reported before note status none) same run empty link
-  wanting (Load words) reported answered before net note status none same run empty link =
+  wanting (Load words) reported answered before net note status none same run unnamed empty link =
       plain_answers state source sink (Load words) reported answered before before net tt (wanting_answers (Load words) reported before note status none) same run empty link
-  wanting Dump reported answered before net note status none same run empty link =
+  wanting Dump reported answered before net note status none same run unnamed empty link =
       plain_answers state source sink Dump reported answered before before net tt (wanting_answers Dump reported before note status none) same run empty link
-  wanting Audit reported answered before net note status none same run empty link =
+  wanting Audit reported answered before net note status none same run unnamed empty link =
       plain_answers state source sink Audit reported answered before before net tt (wanting_answers Audit reported before note status none) same run empty link
-  wanting Refs reported answered before net note status none same run empty link =
+  wanting Refs reported answered before net note status none same run unnamed empty link =
       plain_answers state source sink Refs reported answered before before net tt (wanting_answers Refs reported before note status none) same run empty link
-  wanting Unread reported answered before net note status none same run empty link =
+  wanting Unread reported answered before net note status none same run unnamed empty link =
       plain_answers state source sink Unread reported answered before before net tt (wanting_answers Unread reported before note status none) same run empty link

@@ -9,7 +9,7 @@ use Rattle.trace_audit.specs.declared.audit_end.AuditEnd.TheVariants as audit
 use Rattle.reference_lines.specs.declared.refs_end.RefsEnd.{RefsEnd}
 use Rattle.reference_lines.specs.declared.refs_end.RefsEnd.TheVariants as refs
 use Rattle.command_words.specs.declared.meaning.Meaning.{Meaning}
-use Rattle.command_words.specs.declared.meaning.Meaning.TheVariants.{Pipe, Serve, Dump, Audit, Refs as RefsMeaning, RefsAt, Idl, Call, Load, Unread}
+use Rattle.command_words.specs.declared.meaning.Meaning.TheVariants.{Pipe, Serve, Names, Dump, Audit, Refs as RefsMeaning, RefsAt, Idl, Call, Load, Unread}
 use Rattle.orb_command.specs.declared.answered.Reported.{Reported}
 use Rattle.orb_command.specs.declared.note.Note.{Note}
 use Rattle.orb_command.specs.declared.note.Note.TheVariants.{Nothing, Usage, Config, Idl as IdlNote, Script, Check, TooLong, ReadFault}
@@ -90,6 +90,8 @@ usage_only (Pipe words) reported before after h e =
     absurd (pipe_other words.config before after (subst (λ n. FaultsAt (Pipe words) n before after) (usage_note reported.note (sym h.status ∙ e)) h.faults))
 usage_only (Serve words) reported before after h e =
     absurd ((subst (λ n. FaultsAt (Serve words) n before after) (usage_note reported.note (sym h.status ∙ e)) h.faults).1)
+usage_only (Names at) reported before after h e =
+    absurd ((subst (λ n. FaultsAt (Names at) n before after) (usage_note reported.note (sym h.status ∙ e)) h.faults).2)
 usage_only (RefsAt place config) reported before after h e =
     absurd ((subst (λ n. FaultsAt (RefsAt place config) n before after) (usage_note reported.note (sym h.status ∙ e)) h.faults).1)
 usage_only (Idl name) reported before after h e =

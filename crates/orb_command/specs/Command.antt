@@ -6,12 +6,13 @@ use Rattle.orb_nets.specs.Nets.{NetState}
 use Rattle.command_options.specs.Items.{Text}
 use Rattle.command_words.specs.Words.{asks_memory, command_of}
 use Rattle.command_words.specs.declared.meaning.Meaning.{Meaning}
-use Rattle.command_words.specs.declared.meaning.Meaning.TheVariants.{Pipe, Serve, Dump, Audit, Refs, RefsAt, Idl, Call, Load, Unread}
+use Rattle.command_words.specs.declared.meaning.Meaning.TheVariants.{Pipe, Serve, Names, Dump, Audit, Refs, RefsAt, Idl, Call, Load, Unread}
 use Rattle.orb_command.specs.declared.answered.Answered.{Answered}
 use Rattle.orb_command.specs.declared.answered.Reported.{Reported}
 use Rattle.orb_command.specs.declared.note.Note.{Note}
 use Rattle.orb_command.specs.declared.call.CallTold.{CallTold}
 use Rattle.orb_command.specs.declared.serve.ServeTold.{ServeTold}
+use Rattle.orb_command.specs.declared.names.NamesTold.{NamesTold}
 use Rattle.orb_command.specs.declared.note.Note.TheVariants.{Nothing, Usage, Config, Idl as IdlNote, Script, Check, TooLong, ReadFault}
 use Rattle.orb_command.specs.declared.note.Note.TheVariants.{WriteFault, NetFault, Input, Absent, Reference, Local, System, User, Forward}
 use Rattle.orb_command.specs.declared.note.Note.TheVariants.{Peer, PeerBody, Closed, Memory, Limit, Trace, Audit as AuditNote}
@@ -30,6 +31,7 @@ use Rattle.orb_command.specs.RefsAnswer.{RefsAnswers}
 use Rattle.orb_command.specs.AtAnswer.{AtAnswers}
 use Rattle.orb_command.specs.IdlAnswer.{IdlAnswers}
 use Rattle.orb_command.specs.ServeAnswer.{ServesBy}
+use Rattle.orb_command.specs.NamesAnswer.{NamesBy}
 use Rattle.orb_command.specs.CallAnswer.{CallsSo}
 use Rattle.orb_command.specs.LoadAnswer.{LoadAnswers}
 
@@ -69,10 +71,11 @@ most_taken Refs = MAX_REFERENCE + 2
 most_taken _ = 0
 
 -- what each note means, and what a run of the pipe says, by what the words mean; words without a reading do nothing, whether they are
--- refused or memory runs out over them; the server and a call take no input, and what their notes mean is by what they do to the net
+-- refused or memory runs out over them; the server, the name service and a call take no input, and what their notes mean is by what they do to the net
 abbrev pub NoteMeans : Meaning → Note → Option Piped → Moment → Moment → Type 0
 NoteMeans (Pipe words) note piped before after = PipeAnswers words note piped before after
 NoteMeans (Serve words) note piped before after = after.input ≡ before.input
+NoteMeans (Names at) note piped before after = after.input ≡ before.input
 NoteMeans Dump note piped before after = DumpAnswers note before after
 NoteMeans Audit note piped before after = AuditAnswers note before after
 NoteMeans Refs note piped before after = RefsAnswers note before after
@@ -105,6 +108,10 @@ module _ {A I O : Type 0} where
   abbrev pub serve_told : Answered A I O → ServeTold A I O
   serve_told answered = record { note = answered.note; runs = answered.runs; acceptors = answered.acceptors }
 
+  -- the name service's part
+  abbrev pub names_told : Answered A I O → NamesTold A I O
+  names_told answered = record { note = answered.note; run = answered.names; acceptors = answered.acceptors }
+
   -- a call's part
   abbrev pub call_told : Answered A I O → CallTold I O
   call_told answered = record { note = answered.note; link = answered.link }
@@ -112,18 +119,22 @@ module _ {A I O : Type 0} where
   -- the net was not asked
   pub record LeavesNet (answered : Answered A I O) (net net' : NetState I O) : Type 0 where
     pub runs : answered.runs.items ≡ []
+    pub names : answered.names ≡ None
     pub acceptors : answered.acceptors.items ≡ []
     pub link : answered.link ≡ None
     pub unasked : net' ≡ net
 
   module _ (state : A → AcceptorState I O) (source : I → SourceState) (sink : O → SinkState) where
-    -- what was done over the net, by what the words mean: nothing but by the server and by a call
+    -- what was done over the net, by what the words mean: nothing but by the server, by the name service and by a call
     abbrev pub UsesNet : Meaning → Answered A I O → Moment → Moment → NetState I O → NetState I O → Type 0
     UsesNet (Serve words) answered before after net net' =
-        (answered.link ≡ None)
+        (answered.names ≡ None) × (answered.link ≡ None)
         × ServesBy state source sink words (serve_told answered) before.files after.files net net' before.out after.out
+    UsesNet (Names at) answered before after net net' =
+        (answered.runs.items ≡ []) × (answered.link ≡ None)
+        × NamesBy state source sink at (names_told answered) net net' before.out after.out
     UsesNet (Call words) answered before after net net' =
-        (answered.runs.items ≡ []) × (answered.acceptors.items ≡ [])
+        (answered.runs.items ≡ []) × (answered.names ≡ None) × (answered.acceptors.items ≡ [])
         × CallsSo source sink words (call_told answered) before.files after.files net net' before.out after.out
     UsesNet _ answered before after net net' = LeavesNet answered net net'
 

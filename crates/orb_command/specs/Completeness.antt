@@ -17,7 +17,7 @@ use Rattle.client_runs.specs.declared.call_end.CallEnd.TheVariants.{File}
 use Rattle.client_runs.specs.declared.call_end.FileFault.{FileFault}
 use Rattle.client_runs.specs.declared.call_end.FileFault.TheVariants as known
 use Rattle.command_words.specs.declared.meaning.Meaning.{Meaning}
-use Rattle.command_words.specs.declared.meaning.Meaning.TheVariants.{Pipe, Serve, Dump, Audit, Refs, RefsAt, Idl, Call, Load, Unread}
+use Rattle.command_words.specs.declared.meaning.Meaning.TheVariants.{Pipe, Serve, Names, Dump, Audit, Refs, RefsAt, Idl, Call, Load, Unread}
 use Rattle.orb_command.specs.Moment.{Moment}
 
 -- this reason for which a setup has no servants blames a file: it is absent, too long, or has a fault. A failed read and memory that ran out
@@ -79,6 +79,7 @@ RefusesFile _ files files' = ⊥
 abbrev pub good_ends : Meaning → List ℕ
 good_ends (Pipe words) = 0 ∷ 8 ∷ 13 ∷ 12 ∷ []
 good_ends (Serve words) = 0 ∷ 12 ∷ []
+good_ends (Names at) = 0 ∷ 12 ∷ []
 good_ends Dump = 0 ∷ 8 ∷ 13 ∷ 12 ∷ []
 good_ends Audit = 0 ∷ 8 ∷ 13 ∷ 15 ∷ 12 ∷ []
 good_ends Refs = 0 ∷ 8 ∷ 12 ∷ []

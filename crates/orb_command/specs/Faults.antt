@@ -5,7 +5,7 @@ use Rattle.pipe_runs.specs.Pipe.{MayFail}
 use Rattle.text_streams.specs.Faults.{NoneFailed, ReadFailed, WriteFailed}
 use Rattle.orb_command.specs.Moment.{Moment}
 use Rattle.command_words.specs.declared.meaning.Meaning.{Meaning}
-use Rattle.command_words.specs.declared.meaning.Meaning.TheVariants.{Pipe, Serve, Dump, Audit, Refs, RefsAt, Idl, Call, Load, Unread}
+use Rattle.command_words.specs.declared.meaning.Meaning.TheVariants.{Pipe, Serve, Names, Dump, Audit, Refs, RefsAt, Idl, Call, Load, Unread}
 use Rattle.orb_command.specs.declared.note.Note.{Note}
 use Rattle.orb_command.specs.declared.note.Note.TheVariants.{Nothing, Usage, Config, Idl as IdlNote, Script, Check, TooLong, ReadFault}
 use Rattle.orb_command.specs.declared.note.Note.TheVariants.{WriteFault, NetFault, Input, Absent, Reference, Local, System, User, Forward}
@@ -50,6 +50,14 @@ FiledFaults _ before after = ⊥
 abbrev pub ServeFaults : Note → Moment → Moment → Type 0
 ServeFaults NetFault before after = NoFileFailed before after
 ServeFaults note before after = FiledFaults note before after
+
+-- of the name service: none but at a fault, and the output's alone at a write fault. It has no file
+abbrev pub NamesFaults : Note → Moment → Moment → Type 0
+NamesFaults Nothing before after = after.out.faults ≡ before.out.faults
+NamesFaults NetFault before after = after.out.faults ≡ before.out.faults
+NamesFaults Memory before after = after.out.faults ≡ before.out.faults
+NamesFaults WriteFault before after = Rose before.out.faults after.out.faults
+NamesFaults _ before after = ⊥
 
 -- of a load: as of a command over files; a limit of the run is no fault
 abbrev pub LoadFaults : Note → Moment → Moment → Type 0
@@ -121,6 +129,7 @@ CallFaults _ before after = ⊥
 abbrev pub FaultsAt : Meaning → Note → Moment → Moment → Type 0
 FaultsAt (Pipe words) note before after = PipeFaults words.config note before after
 FaultsAt (Serve words) note before after = (after.input ≡ before.input) × ServeFaults note before after
+FaultsAt (Names at) note before after = (after.input ≡ before.input) × (after.files ≡ before.files) × NamesFaults note before after
 FaultsAt Dump note before after = (after.files ≡ before.files) × StreamFaults note before after
 FaultsAt Audit note before after = (after.files ≡ before.files) × StreamFaults note before after
 FaultsAt Refs note before after = (after.files ≡ before.files) × StreamFaults note before after

@@ -7,6 +7,7 @@ pub mod DumpAnswer
 pub mod AuditAnswer
 pub mod RefsAnswer
 pub mod ServeAnswer
+pub mod NamesAnswer
 pub mod CallAnswer
 pub mod LoadAnswer
 pub mod Faults

@@ -3,12 +3,13 @@ ghost use Rattle.std.specs.Prelude.{◌≡◌, [], None};
 ghost use Rattle.orb_command.specs.Command.{report_of};
 
 use crate::note::Note;
+use names_runs::NamesRun;
 use orb_base::List;
 use orb_server::Run;
 use pipe_runs::Piped;
 use std::alloc::Global;
 
-/// What a command other than `serve` and `call` ends with: its status, the note that it prints, and what a run of `pipe` came to.
+/// What a command other than `serve`, `names` and `call` ends with: its status, the note that it prints, and what a run of `pipe` came to.
 #[derive(Drop)]
 pub struct Reported {
     pub status: u8,
@@ -16,8 +17,8 @@ pub struct Reported {
     pub piped: Option<Piped>,
 }
 
-/// What the program ends with: its status, the note that it prints, what a run of `pipe` came to, what the runs of `serve` left over these
-/// acceptors and connections of these sources and sinks, and what `call` left of its connection.
+/// What the program ends with: its status, the note that it prints, what a run of `pipe` came to, what the runs of `serve` and that of
+/// `names` left over these acceptors and connections of these sources and sinks, and what `call` left of its connection.
 #[derive(Drop)]
 pub struct Answered<A, I, O> {
     /// The exit status: 0 done, 1 usage, 2 a file that is too long or refused, 3 a read fault, 4 a write fault, 5 a fault of the net, 6 an
@@ -30,17 +31,20 @@ pub struct Answered<A, I, O> {
     /// The runs of `serve` that ended, in order, each with its history. There is none where the net gave no acceptors, or memory ran out
     /// for the first one.
     pub runs: List<Run<I, O>>,
-    /// The acceptors that the net gave to `serve`, as they are at the end.
+    /// The run of `names`, with its history: exactly where the net gave acceptors, and memory did not run out for the run.
+    pub names: Option<NamesRun<I, O>>,
+    /// The acceptors that the net gave to `serve` or `names`, as they are at the end.
     pub acceptors: List<A>,
     /// The source and the sink of the connection that the net gave to `call`, as they are at the end.
     pub link: Option<(I, O)>,
 }
 
 impl<A, I, O> Answered<A, I, O> {
-    /// What a command other than `serve` and `call` ends with.
+    /// What a command other than `serve`, `names` and `call` ends with.
     pub fn plain(alloc: Global, reported: Reported) -> Answered<A, I, O>
         ensures reported { report_of result ≡ reported }
         ensures runs { result.runs.items ≡ [] }
+        ensures names { result.names ≡ None }
         ensures acceptors { result.acceptors.items ≡ [] }
         ensures link { result.link ≡ None }
     {
@@ -49,6 +53,7 @@ impl<A, I, O> Answered<A, I, O> {
             note: reported.note,
             piped: reported.piped,
             runs: List::new(alloc),
+            names: None,
             acceptors: List::new(alloc),
             link: None,
         }

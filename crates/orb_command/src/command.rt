@@ -13,6 +13,7 @@ use crate::call::{CallTold, run_call};
 use crate::dump::dump_note;
 use crate::idl::idl_note;
 use crate::load::run_load;
+use crate::names::{NamesTold, run_names};
 use crate::note::Note;
 use crate::pipe::{Told, run_pipe};
 use crate::refs::{note_at, refs_note};
@@ -85,6 +86,7 @@ fn answered_serve<A, I, O>(told: ServeTold<A, I, O>) -> Answered<A, I, O>
     ensures told { Spec.serve_told result ≡ told }
     ensures status { result.status ≡ Spec.status_of told.note }
     ensures piped { result.piped ≡ None }
+    ensures names { result.names ≡ None }
     ensures link { result.link ≡ None }
 {
     let status = status_of(&told.note);
@@ -93,6 +95,27 @@ fn answered_serve<A, I, O>(told: ServeTold<A, I, O>) -> Answered<A, I, O>
         note: told.note,
         piped: None,
         runs: told.runs,
+        names: None,
+        acceptors: told.acceptors,
+        link: None,
+    }
+}
+
+/// What the name service came to, with its status.
+fn answered_names<A, I, O>(alloc: Global, told: NamesTold<A, I, O>) -> Answered<A, I, O>
+    ensures told { Spec.names_told result ≡ told }
+    ensures status { result.status ≡ Spec.status_of told.note }
+    ensures piped { result.piped ≡ None }
+    ensures runs { result.runs.items ≡ [] }
+    ensures link { result.link ≡ None }
+{
+    let status = status_of(&told.note);
+    Answered {
+        status,
+        note: told.note,
+        piped: None,
+        runs: List::new(alloc),
+        names: told.run,
         acceptors: told.acceptors,
         link: None,
     }
@@ -104,6 +127,7 @@ fn answered_call<A, I, O>(alloc: Global, told: CallTold<I, O>) -> Answered<A, I,
     ensures status { result.status ≡ Spec.status_of told.note }
     ensures piped { result.piped ≡ None }
     ensures runs { result.runs.items ≡ [] }
+    ensures names { result.names ≡ None }
     ensures acceptors { result.acceptors.items ≡ [] }
 {
     let status = status_of(&told.note);
@@ -112,6 +136,7 @@ fn answered_call<A, I, O>(alloc: Global, told: CallTold<I, O>) -> Answered<A, I,
         note: told.note,
         piped: None,
         runs: List::new(alloc),
+        names: None,
         acceptors: List::new(alloc),
         link: told.link,
     }
@@ -138,6 +163,7 @@ fn carry_out<N: Net, F: Files, I: Source, O: Sink, R: Wait + Threads + Sync>(
             reported_pipe(run_pipe(alloc, files, &words, input, out)),
         ),
         Meaning::Serve(words) => answered_serve(run_server(rt, alloc, net, files, &words, out)),
+        Meaning::Names(at) => answered_names(alloc, run_names(rt, alloc, net, &at, out)),
         Meaning::Dump => Answered::plain(alloc, reported(dump_note(dump_run(alloc, input, out)))),
         Meaning::Audit => {
             Answered::plain(alloc, reported(audit_note(audit_run(alloc, input, out))))
@@ -165,15 +191,15 @@ fn carry_out<N: Net, F: Files, I: Source, O: Sink, R: Wait + Threads + Sync>(
 /// names, in groups of one, or with `--batch N` of up to N calls, and writes what is answered, or with `--history` the text of the run's
 /// history, or with `--trace` its trace. `serve --config FILE --listen HOST:PORT` serves the configuration of this name at that address, in
 /// one run, or with `--runs N` in up to N, one after another; after each it writes one line of summary, and before that with `--trace` the
-/// run's trace. `audit` judges each run of the traces that the input is, and writes a line for each. `dump` writes a line for each message
+/// run's trace. `names --listen HOST:PORT` serves the map of names at that address in one run, and writes its line. `audit` judges each run of the traces that the input is, and writes a line for each. `dump` writes a line for each message
 /// of the input, and `refs` writes the parts of the reference that it is. `refs --at HOST:PORT` writes the reference of each object of the
 /// built-in setup at that address, and with `--config FILE` of each object of the configuration of this name. `idl --file FILE` lists what
 /// the IDL of the file declares. `call --ref TEXT --op NAME` calls the operation of the object that the reference is of, with the arguments
 /// of `--args JSON`, and writes its results as one line of JSON; `--priority N` is the caller's priority, `--idl FILE` a file of the
 /// interface, and `--interface ID` the interface where the reference doesn't say it. `load SEED COUNT` makes COUNT requests to the first
 /// object, runs them as `pipe` does, whole or with `--fragment N` in pieces, and writes one line of counts. It returns where each read and
-/// write returns, and `serve` where its runs end. The answers to `pipe` and `serve` have their runs, with the history, and that to `call`
-/// its connection.
+/// write returns, and `serve` where its runs end. The answers to `pipe`, `serve` and `names` have their runs, with the history, and that
+/// to `call` its connection.
 pub fn orb_main<N: Net, F: Files, I: Source, O: Sink, R: Wait + Threads + Sync>(
     rt: &R,
     alloc: Global,
@@ -188,7 +214,7 @@ pub fn orb_main<N: Net, F: Files, I: Source, O: Sink, R: Wait + Threads + Sync>(
     // the net did; 6, 7, 9 and 13 of `call` only as the bytes that it took, and their end, say, and 11 only where the words ask for no
     // call, before the net was asked; 8 and 13 of `dump`, 8 of `refs`, and 8, 13 and 15 of `audit`, exactly where the bytes that it took
     // say so, and of `pipe` what its history and its bytes say; 13 of `load` only where its run met a limit; 2 and 10 exactly where the
-    // files say so. Each run of `serve` is one legal history, whose lines are written.
+    // files say so. Each run of `serve`, and that of `names`, is one legal history, whose lines are written.
     ensures answers { Answers N.Acc.state N.In.state N.Out.state (command_of (map string_bytes words.now)) result
         (moment (F.state files.old) (I.state input.old) (O.state out.old))
         (moment (F.state files.new) (I.state input.new) (O.state out.new)) (N.state net.old) (N.state net.new) }

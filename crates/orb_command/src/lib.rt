@@ -8,6 +8,7 @@ mod command;
 mod dump;
 mod idl;
 mod load;
+mod names;
 mod note;
 mod pipe;
 mod refs;

@@ -30,6 +30,10 @@ pub enum Left<'a> {
     Server(usize),
     /// Runs of the server over one acceptor: for each what its first client was sent, and nothing where it had none.
     Sent(&'a [&'a [u8]]),
+    /// A run of the name service, whose first client was sent this.
+    Named(&'a [u8]),
+    /// No run of the name service.
+    Unnamed,
     /// The connection of a call, over which this was sent.
     Called(&'a [u8]),
     /// No connection of a call.
@@ -197,6 +201,17 @@ fn is_sent(told: &Told, want: &[&[u8]]) -> bool {
     told.acceptors.len() == 1 && are_first_sent(told.runs.as_slice(), want)
 }
 
+/// Whether there is a run of the name service over four acceptors, and this was sent to its first client.
+fn is_named(told: &Told, want: &[u8]) -> bool {
+    match &told.names {
+        Some(run) => match run.conns.get(0) {
+            Some(log) => told.acceptors.len() == 4 && same(log.sink.held(), want),
+            None => false,
+        },
+        None => false,
+    }
+}
+
 /// Whether this was sent over the connection of a call.
 fn is_called(told: &Told, want: &[u8]) -> bool {
     match &told.link {
@@ -216,6 +231,8 @@ fn is_left(told: &Told, want: Left<'_>) -> bool {
         Left::NoServer => told.runs.is_empty(),
         Left::Server(runs) => told.runs.len() == runs,
         Left::Sent(want) => is_sent(told, want),
+        Left::Named(want) => is_named(told, want),
+        Left::Unnamed => told.names.is_none(),
         Left::Called(want) => is_called(told, want),
         Left::NoCall => told.link.is_none(),
     }

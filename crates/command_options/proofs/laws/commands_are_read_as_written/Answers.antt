@@ -1,4 +1,4 @@
-use Rattle.command_options.proofs.Written.{pipe_reads, pipe_joined_reads, pipe_traced_reads, serve_reads, serve_joined_reads, serve_runs_reads, serve_runs_joined_reads, refs_reads, refs_joined_reads, idl_reads, idl_joined_reads, call_reads, call_joined_reads, load_reads, load_joined_reads}
+use Rattle.command_options.proofs.Written.{names_reads, names_joined_reads, pipe_reads, pipe_joined_reads, pipe_traced_reads, serve_reads, serve_joined_reads, serve_runs_reads, serve_runs_joined_reads, refs_reads, refs_joined_reads, idl_reads, idl_joined_reads, call_reads, call_joined_reads, load_reads, load_joined_reads}
 use Rattle.command_options.proofs.laws.commands_are_read_as_written.Goals as goal
 
 pub returns : goal.returns
@@ -10,6 +10,8 @@ returns c = record {
   serve_joined = λ file place. serve_joined_reads file place;
   serve_runs = λ file place number file_plain place_plain number_plain. serve_runs_reads file place number file_plain place_plain number_plain;
   serve_runs_joined = λ file place number. serve_runs_joined_reads file place number;
+  names = λ place place_plain. names_reads place place_plain;
+  names_joined = λ place. names_joined_reads place;
   refs = λ place file place_plain file_plain. refs_reads place file place_plain file_plain;
   refs_joined = λ place file. refs_joined_reads place file;
   idl = λ file file_plain. idl_reads file file_plain;

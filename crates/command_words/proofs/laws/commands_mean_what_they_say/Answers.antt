@@ -1,4 +1,4 @@
-use Rattle.command_words.proofs.Written.{pipe_means, pipe_joined_means, pipe_traced_means, serve_means, serve_joined_means, serve_runs_means, serve_runs_joined_means, refs_means, refs_joined_means, idl_means, idl_joined_means, call_means, call_joined_means, load_means, load_joined_means}
+use Rattle.command_words.proofs.Written.{names_means, names_joined_means, pipe_means, pipe_joined_means, pipe_traced_means, serve_means, serve_joined_means, serve_runs_means, serve_runs_joined_means, refs_means, refs_joined_means, idl_means, idl_joined_means, call_means, call_joined_means, load_means, load_joined_means}
 use Rattle.command_words.proofs.laws.commands_mean_what_they_say.Goals as goal
 
 pub returns : goal.returns
@@ -11,6 +11,8 @@ returns c = record {
   serve_runs = λ file place number file_plain place_plain number_plain file_clean place_clean number_clean.
       serve_runs_means file place number file_plain place_plain number_plain file_clean place_clean number_clean;
   serve_runs_joined = λ file place number file_clean place_clean number_clean. serve_runs_joined_means file place number file_clean place_clean number_clean;
+  names = λ place place_plain place_clean. names_means place place_plain place_clean;
+  names_joined = λ place place_clean. names_joined_means place place_clean;
   refs = λ place file place_plain file_plain place_clean file_clean. refs_means place file place_plain file_plain place_clean file_clean;
   refs_joined = λ place file place_clean file_clean. refs_joined_means place file place_clean file_clean;
   idl = λ file file_plain file_clean. idl_means file file_plain file_clean;

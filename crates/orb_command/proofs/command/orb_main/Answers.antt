@@ -25,7 +25,7 @@ returns-in-Err-clause-answers g c =
     wanting g.N.Acc.Acceptor.state g.N.In.Source.state g.N.Out.Sink.state _ c.reported.result c.plain.result
     (moment (g.F.Files.state c.args.files.now) (g.I.Source.state c.args.input.now) (g.O.Sink.state c.args.out.now)) (g.N.Net.state c.args.net.now)
     c.reported.ensures.note c.reported.ensures.status c.reported.ensures.piped
-    c.plain.ensures.reported c.plain.ensures.runs c.plain.ensures.acceptors c.plain.ensures.link
+    c.plain.ensures.reported c.plain.ensures.runs c.plain.ensures.names c.plain.ensures.acceptors c.plain.ensures.link
 
 pub returns-in-Err-clause-complete : goal.returns-in-Err-clause-complete
 returns-in-Err-clause-complete g c = λ well.
