@@ -1,5 +1,5 @@
 -- Whole messages under an id.
-use Rattle.std.proofs.Common.{◌≡◌, ◌≤◌, ◌<◌, ◌+◌, ◌^◌, ℕ, List, [], ◌∷◌, ◌++◌, length, refl, sym, ap, ◌∙◌, arith}
+use Rattle.std.proofs.Common.{◌≡◌, ◌≤◌, ◌<◌, ◌^◌, ℕ, [], ◌++◌, length, refl, ap, ◌∙◌, arith}
 use Rattle.orb_base.specs.declared.limits.TheConstants.{MAX_MESSAGE}
 use Rattle.orb_base.specs.declared.order.Order.TheVariants.{Big}
 use Rattle.cdr_core.specs.Field.{fields_end}
@@ -7,7 +7,6 @@ use Rattle.cdr_core.specs.Spelling.{fields_bytes}
 use Rattle.cdr_core.specs.Writing.{Page, page, written}
 use Rattle.cdr_core.proofs.CallerLemmas.{fields_end-is}
 use Rattle.giop_messages.specs.Message.{Request, request, cancel}
-use Rattle.giop_messages.specs.Lengths.{held}
 use Rattle.giop_messages.specs.Spelling.{all_fields, spelled}
 use Rattle.giop_messages.proofs.LengthLaws.{length-spelled_message, cancel_len}
 use Rattle.request_writer.specs.Naming.{with_id}

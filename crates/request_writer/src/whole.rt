@@ -1,5 +1,5 @@
 //! Whole messages of a client that are written under an id, as bytes.
-ghost use Rattle.std.specs.Prelude.{◌≡◌, ◌≤◌, ◌++◌, length, IfOk};
+ghost use Rattle.std.specs.Prelude.{◌≡◌, ◌≤◌, length, IfOk};
 ghost use Rattle.orb_base.specs.declared.limits.TheConstants.{MAX_MESSAGE};
 ghost use Rattle.orb_base.specs.declared.order.Order.TheVariants.{Big};
 ghost use Rattle.cdr_core.specs.Spelling.{fields_bytes};

@@ -1,7 +1,5 @@
 use Rattle.std.proofs.Common.{◌≡◌, ◌<◌, ◌^◌, ◌∙◌, ℕ, ap, sym, subst}
-use Rattle.orb_base.specs.declared.order.Order.TheVariants.{Big}
 use Rattle.cdr_core.specs.Field.{fields_end}
-use Rattle.cdr_core.specs.Spelling.{fields_bytes}
 use Rattle.cdr_core.specs.Writing.{Page}
 use Rattle.giop_messages.specs.Message as Spec
 use Rattle.giop_messages.specs.Spelling.{all_fields}
