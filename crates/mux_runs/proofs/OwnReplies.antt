@@ -1,5 +1,5 @@
 -- What came of a call, by the whole history.
-use Rattle.std.proofs.Common.{◌≡◌, ℕ, Bool, true, false, ◌==◌, ◌+◌, List, [], ◌∷◌, ◌++◌, Option, Some, None, inl, inr, if◌then◌else◌, refl, sym, ap, ◌∙◌, subst, eq-eqb}
+use Rattle.std.proofs.Common.{◌≡◌, ℕ, Bool, true, false, ◌==◌, ◌+◌, List, [], ◌∷◌, ◌++◌, Option, Some, inl, inr, if◌then◌else◌, refl, ap, ◌∙◌, subst, eq-eqb}
 use Rattle.std.proofs.lemmas.Bool.{or_left}
 use Rattle.giop_messages.specs.Message.{Reply}
 use Rattle.client_mux.specs.declared.why.Why.{Why}
@@ -14,7 +14,7 @@ use Rattle.client_mux.proofs.Losses.{gone_is_first}
 use Rattle.mux_sides.specs.Calling.{start_of, await_of, left_of, IsCall}
 use Rattle.mux_sides.specs.declared.calling.CallEnd.{CallEnd}
 use Rattle.mux_sides.specs.declared.calling.CallEnd.TheVariants as came
-use Rattle.mux_runs.specs.Runs.{CallIn, CallsIn, IsOwn, AreOwn}
+use Rattle.mux_runs.specs.Runs.{CallsIn, IsOwn, AreOwn}
 use Rattle.mux_runs.specs.declared.jobs.Asking.{Asking}
 
 -- an entry of a caller is one of the history

@@ -1,5 +1,5 @@
 -- All seats of a link came back, and its history has what each did.
-use Rattle.std.proofs.Common.{◌≡◌, ℕ, ◌+◌, ◌≤◌, List, [], ◌∷◌, ◌++◌, length, Some, refl, sym, ap, ◌∙◌, subst, inl, inr, arith}
+use Rattle.std.proofs.Common.{◌≡◌, ℕ, ◌+◌, List, [], ◌∷◌, ◌++◌, length, refl, sym, ap, ◌∙◌, subst, inl, inr, arith}
 use Rattle.std.proofs.lemmas.List.{length-append}
 use Rattle.orb_base.specs.Outside.{SourceState, SinkState}
 use Rattle.turn_cell.specs.Good.{entry}
@@ -7,17 +7,15 @@ use Rattle.turn_cell.specs.Seats.{CellView}
 use Rattle.client_mux.specs.declared.why.Why.{Why}
 use Rattle.client_mux.specs.declared.call.MuxCall.TheVariants.{Lost}
 use Rattle.client_mux.specs.declared.call.MuxReply.TheVariants as answer
-use Rattle.client_mux.specs.Machine.{Mux, History, opening, Opens}
+use Rattle.client_mux.specs.Machine.{Mux, History, opening}
 use Rattle.client_mux.specs.Callers.{of, writer, reader, arrivals, losses, finished}
 use Rattle.client_mux.specs.Exchange.{IsLegal, AreFit}
 use Rattle.shared_link.specs.Closings.{IsBack, AreBack, AreOf, IsHistory}
 use Rattle.shared_link.specs.Link.{Sitting}
 use Rattle.shared_link.specs.Roles.{CanSend, CanRead, CanLose}
 use Rattle.shared_link.specs.Turns.{IsFresh, AreFrom, IsOpen}
-use Rattle.mux_sides.specs.Calling.{left_of}
 use Rattle.mux_sides.specs.Replying.{AreArrived, ReadsSide}
 use Rattle.mux_sides.specs.Sending.{AreGiven, last_of, WritesSide}
-use Rattle.mux_sides.specs.declared.calling.CallEnd.{CallEnd}
 use Rattle.mux_sides.specs.declared.writing.WriterEnd.{WriterEnd}
 use Rattle.mux_runs.specs.Callers.{seats_of, ends_of, HaveCalled}
 use Rattle.mux_runs.specs.Opened.{IsReadyFor}

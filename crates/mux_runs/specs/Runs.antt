@@ -1,5 +1,5 @@
 -- A run of several callers over one link: own profile.
-use Rattle.std.specs.Prelude.{◌≡◌, ℕ, ◌+◌, true, List, [], ◌∷◌, ◌++◌, length, Some}
+use Rattle.std.specs.Prelude.{◌≡◌, ℕ, ◌+◌, true, List, [], ◌∷◌, ◌++◌, Some}
 use Rattle.orb_base.specs.Outside.{SourceState, SinkState}
 use Rattle.giop_messages.specs.Message.{Reply}
 use Rattle.turn_cell.specs.Good.{entry}
@@ -7,7 +7,7 @@ use Rattle.client_mux.specs.declared.why.Why.{Why}
 use Rattle.client_mux.specs.declared.call.MuxCall.TheVariants.{Lost}
 use Rattle.client_mux.specs.declared.call.MuxReply.TheVariants as answer
 use Rattle.client_mux.specs.Machine.{History, opening}
-use Rattle.client_mux.specs.Callers.{of, owns, writer, reader}
+use Rattle.client_mux.specs.Callers.{of, owns}
 use Rattle.client_mux.specs.Exchange.{IsLegal, AreFit, first_loss, reply_after_start}
 use Rattle.mux_sides.specs.Calling.{IsCall, left_of}
 use Rattle.mux_sides.specs.Replying.{HearsReplies, AreArrived}

@@ -1,5 +1,5 @@
 //! What callers of a link begin with, and what they leave.
-ghost use Rattle.std.specs.Prelude.{◌≡◌, ◌≤◌, [], length, map};
+ghost use Rattle.std.specs.Prelude.{◌≡◌, ◌≤◌, [], length};
 ghost use Rattle.std.specs.Vec.{vec_capacity};
 ghost use Rattle.shared_link.specs.Turns.{AreFrom};
 ghost use Rattle.mux_runs.specs.Callers as Spec;

@@ -1,12 +1,7 @@
 //! A run of several callers over one link.
-ghost use Rattle.std.specs.Prelude.{◌≡◌, ◌≤◌, ◌+◌, ◌++◌, ◌∷◌, [], length, IfOk, IfErr};
+ghost use Rattle.std.specs.Prelude.{◌≡◌, ◌≤◌, ◌+◌, [], length, IfOk, IfErr};
 ghost use Rattle.std.specs.Vec.{vec_capacity};
 ghost use Rattle.client_mux.specs.declared.limits.TheConstants.{MAX_CALLERS};
-ghost use Rattle.shared_link.specs.Closings.{AreBack, IsHistory};
-ghost use Rattle.shared_link.specs.Roles.{CanSend, CanRead, CanLose};
-ghost use Rattle.shared_link.specs.Turns.{AreFrom, IsFresh, IsOpen, MainAt};
-ghost use Rattle.mux_sides.specs.Replying.{ReadsSide};
-ghost use Rattle.mux_sides.specs.Sending.{WritesSide};
 ghost use Rattle.mux_runs.specs.Callers as Callers;
 ghost use Rattle.mux_runs.specs.Opened as Opened;
 ghost use Rattle.mux_runs.specs.Runs as Spec;

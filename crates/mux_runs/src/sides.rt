@@ -1,7 +1,7 @@
 //! The writer, the callers and the reader of a link, side by side.
 ghost use Rattle.std.specs.Prelude.{◌≡◌, ◌≤◌, [], length};
 ghost use Rattle.std.specs.Vec.{vec_capacity};
-ghost use Rattle.std.specs.Thread.{IsSync, IsSend};
+ghost use Rattle.std.specs.Thread.{IsSync};
 ghost use Rattle.shared_link.specs.Roles.{CanSend, CanRead, CanLose};
 ghost use Rattle.mux_sides.specs.Sending.{WritesSide};
 ghost use Rattle.mux_sides.specs.Replying.{ReadsSide};

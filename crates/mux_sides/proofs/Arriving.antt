@@ -1,5 +1,5 @@
 -- Replies that are said to have arrived, one after another.
-use Rattle.std.proofs.Common.{◌≡◌, ℕ, ◌+◌, ◌-◌, ◌≤◌, ◌<◌, List, [], ◌∷◌, ◌++◌, length, take, Option, Some, None, inl, inr, refl, sym, ap, subst, ◌∙◌, arith, append_assoc, append-nil, length-append}
+use Rattle.std.proofs.Common.{◌≡◌, ℕ, ◌+◌, ◌-◌, ◌≤◌, ◌<◌, List, [], ◌∷◌, ◌++◌, take, Option, Some, None, inr, refl, sym, ap, subst, ◌∙◌, arith, append_assoc, append-nil, length-append}
 use Rattle.std.specs.Prelude.{reverse}
 use Rattle.std.proofs.lemmas.List.{reverse-append}
 use Rattle.giop_messages.specs.Message.{Reply}
@@ -10,14 +10,13 @@ use Rattle.turn_cell.specs.Seats.{CellView}
 use Rattle.client_mux.specs.declared.limits.TheConstants.{MAX_ARRIVALS}
 use Rattle.client_mux.specs.declared.why.Why.{Why}
 use Rattle.client_mux.specs.declared.call.MuxCall.TheVariants.{Arrived}
-use Rattle.client_mux.specs.Machine.{Mux, One, History}
+use Rattle.client_mux.specs.Machine.{Mux, History}
 use Rattle.shared_link.specs.Link.{Sitting}
 use Rattle.shared_link.specs.Turns.{Makes}
 use Rattle.shared_link.specs.Replies.{placed_reply}
 use Rattle.shared_link.specs.Roles.{CanRead, CanLose}
 use Rattle.shared_link.specs.declared.answers.Placed.{Placed}
-use Rattle.mux_sides.specs.Entering.{Enters}
-use Rattle.mux_sides.specs.Replying.{first, means, Hearer, AreArrived, Arrives, Puts, FeedsAndPuts, Comes, ComesOut, IsOpen, TakesPiece}
+use Rattle.mux_sides.specs.Replying.{first, means, Hearer, AreArrived, Arrives, Puts, FeedsAndPuts, Comes, TakesPiece}
 use Rattle.mux_sides.proofs.Entering.{enters_none, enters_one, enters_then}
 
 pub arrives_one : (cell : CellView Mux) (r : Reply) (p : Placed) (count : ℕ) (old new : Sitting) → count < MAX_ARRIVALS → Makes cell (Arrived r.id r) (placed_reply p) old new
@@ -107,9 +106,6 @@ turned_all cell all left before count old now x none = record {
 }
 
 -- ---- a piece
-
-abbrev with_ending : CellView Mux → Hearer → Hearer → List ℕ → Option ReadEnd → Sitting × ℕ → Sitting × ℕ → Type 0
-with_ending cell h h' piece ending old new = FeedsAndPuts cell h h' piece ending old new
 
 puts_piece : (cell : CellView Mux) (h h' : Hearer) (piece : List ℕ) (replies items : List Reply) (ending : Option ReadEnd) (old new : Sitting × ℕ)
     → FeedsOn first means h h' piece replies ending → items ≡ replies → Puts cell items old.1 new.1 old.0 new.0 → FeedsAndPuts cell h h' piece ending old new

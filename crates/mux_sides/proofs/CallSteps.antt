@@ -1,16 +1,16 @@
 -- The calls of one caller, one after another.
-use Rattle.std.proofs.Common.{◌≡◌, ℕ, Bool, true, false, [], ◌∷◌, ◌++◌, inl, inr, refl, sym, ap, ◌∙◌, subst}
-use Rattle.giop_messages.specs.Message.{Request, Reply}
+use Rattle.std.proofs.Common.{ℕ, Bool, true, false, [], ◌∷◌, inl, inr, refl, sym, subst}
+use Rattle.giop_messages.specs.Message.{Request}
 use Rattle.turn_cell.specs.Seats.{CellView}
 use Rattle.client_mux.specs.declared.why.Why.{Why}
-use Rattle.client_mux.specs.declared.call.MuxCall.TheVariants.{Start, Await, Left}
+use Rattle.client_mux.specs.declared.call.MuxCall.TheVariants.{Start, Left}
 use Rattle.client_mux.specs.declared.call.MuxReply.{MuxReply}
 use Rattle.client_mux.specs.declared.call.MuxReply.TheVariants as reply
-use Rattle.client_mux.specs.Machine.{Mux, History}
+use Rattle.client_mux.specs.Machine.{Mux}
 use Rattle.shared_link.specs.Link.{Sitting}
 use Rattle.shared_link.specs.Turns.{Makes}
 use Rattle.mux_sides.specs.Entering.{Enters}
-use Rattle.mux_sides.specs.Calling.{start_of, await_of, left_of, Awaits, Follows, Called, MakesCall}
+use Rattle.mux_sides.specs.Calling.{start_of, await_of, left_of, Follows, Called, MakesCall}
 use Rattle.mux_sides.specs.declared.calling.CallEnd.{CallEnd}
 use Rattle.mux_sides.specs.declared.calling.CallEnd.TheVariants as came
 use Rattle.mux_sides.proofs.Entering.{enters_one, enters_then}

@@ -9,9 +9,8 @@ use Rattle.giop_frames.proofs.Grows.{nothing_said}
 use Rattle.giop_frames.specs.Messages as Frames
 use Rattle.giop_frames.specs.Stream.{Said, stream}
 use Rattle.giop_messages.specs.Message.{Reply}
-use Rattle.heard_messages.specs.Hearers.{IsGoing, IsNew, FeedsOn}
-use Rattle.heard_messages.specs.Hearing.{HeardBy, Hears, nothing}
-use Rattle.heard_messages.specs.Inputs.{HearsStream}
+use Rattle.heard_messages.specs.Hearers.{IsGoing, IsNew}
+use Rattle.heard_messages.specs.Hearing.{Hears, nothing}
 use Rattle.heard_messages.specs.ReadEnds.{input_end, read_end, decided, IsByBytes}
 use Rattle.heard_messages.specs.declared.read_end.ReadEnd.{ReadEnd}
 use Rattle.heard_messages.specs.declared.read_end.ReadEnd.TheVariants.{Ended, Cut, Broken, Spent, ReadFault}
@@ -26,12 +25,12 @@ use Rattle.client_mux.specs.declared.why.Why.{Why}
 use Rattle.client_mux.specs.declared.why.Why.TheVariants as why
 use Rattle.client_mux.specs.declared.call.MuxCall.TheVariants.{Lost}
 use Rattle.client_mux.specs.declared.call.MuxReply.TheVariants as answer
-use Rattle.client_mux.specs.Machine.{Mux, History}
+use Rattle.client_mux.specs.Machine.{Mux}
 use Rattle.shared_link.specs.Link.{Sitting}
 use Rattle.shared_link.specs.Turns.{Makes}
 use Rattle.shared_link.specs.Roles.{CanRead, CanLose}
 use Rattle.mux_sides.specs.Entering.{Enters}
-use Rattle.mux_sides.specs.Replying.{first, says, means, Hearer, Carry, why_of, Arrives, Puts, FeedsAndPuts, ComesOut, TakesPiece, TakesBytes, CarryAll, CarryMost, CarryBy, FaultsBy, HearsReplies, Reads, ReadsSide}
+use Rattle.mux_sides.specs.Replying.{first, says, means, Hearer, Carry, why_of, Arrives, Puts, FeedsAndPuts, TakesPiece, TakesBytes, CarryAll, CarryBy, FaultsBy, Reads, ReadsSide}
 use Rattle.mux_sides.proofs.Arriving.{arrives_none, arrives_then}
 use Rattle.mux_sides.proofs.Entering.{enters_one, enters_then}
 

@@ -1,6 +1,5 @@
 -- What is taken and written, one after another.
-use Rattle.std.proofs.Common.{◌≡◌, ℕ, Bool, true, false, List, [], ◌∷◌, ◌++◌, Option, Some, None, refl, sym, ap, ◌∙◌, subst, append-nil}
-use Rattle.std.specs.List.{flat_map}
+use Rattle.std.proofs.Common.{◌≡◌, ℕ, true, List, [], ◌∷◌, ◌++◌, Some, None, refl, sym, ap, ◌∙◌, subst, append-nil}
 use Rattle.std.proofs.lemmas.List.Concat.{flat_map-append}
 use Rattle.orb_base.specs.Outside.{SinkState}
 use Rattle.text_streams.specs.Streams.{WritesAll, WroteFrontOf}
@@ -10,7 +9,6 @@ use Rattle.turn_cell.specs.Good.{entry}
 use Rattle.turn_cell.specs.Seats.{CellView}
 use Rattle.client_mux.specs.declared.call.MuxCall.TheVariants.{Next}
 use Rattle.client_mux.specs.declared.call.MuxReply.{MuxReply}
-use Rattle.client_mux.specs.declared.call.MuxReply.TheVariants as reply
 use Rattle.client_mux.specs.Machine.{Mux, One, History}
 use Rattle.shared_link.specs.Link.{Sitting}
 use Rattle.shared_link.specs.Turns.{Makes}

@@ -9,7 +9,6 @@ use Rattle.turn_cell.specs.Good.{entry}
 use Rattle.client_mux.specs.declared.why.Why.{Why}
 use Rattle.client_mux.specs.declared.call.MuxCall.{MuxCall}
 use Rattle.client_mux.specs.declared.call.MuxCall.TheVariants.{Start, Cancel, Next, Arrived, Await, Lost, Left}
-use Rattle.client_mux.specs.declared.call.MuxReply.{MuxReply}
 use Rattle.client_mux.specs.declared.call.MuxReply.TheVariants as reply
 use Rattle.client_mux.specs.declared.called.Called.{Called}
 use Rattle.client_mux.specs.declared.called.Doing.{Doing}

@@ -22,7 +22,7 @@ use Rattle.client_mux.specs.declared.why.Why.{Why}
 use Rattle.client_mux.specs.declared.why.Why.TheVariants as why
 use Rattle.client_mux.specs.declared.call.MuxCall.TheVariants.{Arrived, Lost}
 use Rattle.client_mux.specs.declared.call.MuxReply.TheVariants as answer
-use Rattle.client_mux.specs.Machine.{Mux, One, History}
+use Rattle.client_mux.specs.Machine.{Mux, History}
 use Rattle.shared_link.specs.Link.{Sitting}
 use Rattle.shared_link.specs.Replies.{placed_reply}
 use Rattle.shared_link.specs.Roles.{CanRead, CanLose}

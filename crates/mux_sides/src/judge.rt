@@ -1,8 +1,7 @@
 //! What messages are to a client whose callers share a link.
 ghost use Rattle.std.specs.Prelude.{◌≡◌, IfOk};
 ghost use Rattle.std.proofs.Common.{sym, ◌∙◌};
-ghost use Rattle.cdr_core.specs.Lists.{listed, IsAtList, context_of};
-ghost use Rattle.giop_messages.specs.PartsView.{parts_message};
+ghost use Rattle.cdr_core.specs.Lists.{listed, context_of};
 ghost use Rattle.mux_sides.specs.Replying as Spec;
 
 use cdr_core::{Reader, take_list};

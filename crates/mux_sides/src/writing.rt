@@ -1,7 +1,6 @@
 //! The writer of a shared link.
 ghost use Rattle.std.specs.Prelude.{◌≡◌, IfOk};
 ghost use Rattle.client_mux.specs.declared.call.MuxCall.TheVariants.{Next};
-ghost use Rattle.text_streams.specs.Streams.{WritesAll};
 ghost use Rattle.shared_link.specs.Turns.{Makes};
 ghost use Rattle.shared_link.specs.Replies.{upcoming_reply};
 ghost use Rattle.shared_link.specs.Roles.{CanSend, CanLose};

@@ -1,5 +1,5 @@
 //! How a shared link is closed.
-ghost use Rattle.std.specs.Prelude.{◌≡◌, length};
+ghost use Rattle.std.specs.Prelude.{length};
 ghost use Rattle.turn_cell.specs.Calls.{IsOf, IsJoined};
 ghost use Rattle.shared_link.specs.Turns.{IsIn, MainAt};
 ghost use Rattle.shared_link.specs.Closings.{AreBack, AreIn, TakesIn, IsHistory};

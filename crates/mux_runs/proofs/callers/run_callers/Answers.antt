@@ -1,4 +1,3 @@
-use Rattle.std.proofs.Common.{rules}
 use Rattle.mux_runs.specs.Callers.{IsReady}
 use Rattle.mux_runs.proofs.CallerJobs.{jobs_own, done_own}
 use Rattle.mux_runs.proofs.callers.run_callers.Goals as goal

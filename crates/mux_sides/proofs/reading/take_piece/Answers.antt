@@ -1,4 +1,3 @@
-use Rattle.std.proofs.Common.{inl, refl}
 use Rattle.mux_sides.proofs.Arriving.{piece_taken}
 use Rattle.mux_sides.proofs.reading.take_piece.Goals as goal
 
