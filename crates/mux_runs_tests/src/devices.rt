@@ -44,7 +44,7 @@ pub struct Waiting<'a> {
 
 impl Waiting<'_> {
     /// The next piece, if there is one and it may be given.
-    fn next(&mut self) -> Option<&'static [u8]> {
+    fn next(&self) -> Option<&'static [u8]> {
         if self.given == 0 && !look(self.written, self.least) {
             return None;
         }
