@@ -17,33 +17,38 @@ use Rattle.names_server.specs.declared.names_end.NamesEnd.{NamesEnd}
 use Rattle.names_server.specs.declared.names_end.NamesEnd.TheVariants.{NoMemory}
 
 module _ {A I O : Type 0} (state : A → AcceptorState I O) (source : I → SourceState) (sink : O → SinkState) where
-  -- it gave acceptors
-  pub served_over : (at : Place) (served : NamesServed A I O) (answer : Result (Room A) NetFault) (acceptors : Room A) (net net' : NetState I O) (out out' : SinkState)
-      → answer ≡ Ok acceptors → Asks (record { host = at.host; port = at.port; slots = Some (NAMES_SLOTS, NAMES_PER_SLOT) }) net net'
-      → Listens state NAMES_SLOTS NAMES_PER_SLOT answer net net' → CountsNetFault answer net net'
-      → MakesRun state source sink served.end served.run acceptors.items served.acceptors.items out out'
+  -- the net was asked for so many links a slot
+  listened : (at : Place) (served : NamesServed A I O) (answer : Result (Room A) NetFault) (each : ℕ) (net net' : NetState I O) (out out' : SinkState)
+      → each ≡ NAMES_PER_SLOT → Asks (record { host = at.host; port = at.port; slots = Some (NAMES_SLOTS, each) }) net net'
+      → Listens state NAMES_SLOTS each answer net net' → CountsNetFault answer net net' → Comes state source sink served answer out out'
       → NamesAt state source sink at served net net' out out'
-  served_over at served answer acceptors net net' out out' ok asked listens faults ran = inl (record {
+  listened at served answer each net net' out out' is asked listens faults comes = inl (record {
     answer = answer;
-    asked = asked;
-    listens = listens;
+    asked = subst (λ (n : ℕ). Asks (record { host = at.host; port = at.port; slots = Some (NAMES_SLOTS, n) }) net net') is asked;
+    listens = subst (λ (n : ℕ). Listens state NAMES_SLOTS n answer net net') is listens;
     faults = faults;
-    comes = subst (λ (r : Result (Room A) NetFault). Comes state source sink served r out out') (sym ok) ran;
+    comes = comes;
   })
 
+  -- it gave acceptors
+  pub served_over : (at : Place) (served : NamesServed A I O) (answer : Result (Room A) NetFault) (acceptors : Room A) (each : ℕ) (net net' : NetState I O) (out out' : SinkState)
+      → answer ≡ Ok acceptors → each ≡ NAMES_PER_SLOT → Asks (record { host = at.host; port = at.port; slots = Some (NAMES_SLOTS, each) }) net net'
+      → Listens state NAMES_SLOTS each answer net net' → CountsNetFault answer net net'
+      → MakesRun state source sink served.end served.run acceptors.items served.acceptors.items out out'
+      → NamesAt state source sink at served net net' out out'
+  served_over at served answer acceptors each net net' out out' ok is asked listens faults ran =
+      listened at served answer each net net' out out' is asked listens faults
+      (subst (λ (r : Result (Room A) NetFault). Comes state source sink served r out out') (sym ok) ran)
+
   -- or none
-  pub unserved : (at : Place) (served : NamesServed A I O) (answer : Result (Room A) NetFault) (why : NetFault) (net net' : NetState I O) (out : SinkState)
-      → answer ≡ Err why → Asks (record { host = at.host; port = at.port; slots = Some (NAMES_SLOTS, NAMES_PER_SLOT) }) net net'
-      → Listens state NAMES_SLOTS NAMES_PER_SLOT answer net net' → CountsNetFault answer net net'
+  pub unserved : (at : Place) (served : NamesServed A I O) (answer : Result (Room A) NetFault) (why : NetFault) (each : ℕ) (net net' : NetState I O) (out : SinkState)
+      → answer ≡ Err why → each ≡ NAMES_PER_SLOT → Asks (record { host = at.host; port = at.port; slots = Some (NAMES_SLOTS, each) }) net net'
+      → Listens state NAMES_SLOTS each answer net net' → CountsNetFault answer net net'
       → served.end ≡ end_of why → served.run ≡ None → served.acceptors.items ≡ []
       → NamesAt state source sink at served net net' out out
-  unserved at served answer why net net' out failed asked listens faults end none empty = inl (record {
-    answer = answer;
-    asked = asked;
-    listens = listens;
-    faults = faults;
-    comes = subst (λ (r : Result (Room A) NetFault). Comes state source sink served r out out) (sym failed) (end, none, empty, refl);
-  })
+  unserved at served answer why each net net' out failed is asked listens faults end none empty =
+      listened at served answer each net net' out out is asked listens faults
+      (subst (λ (r : Result (Room A) NetFault). Comes state source sink served r out out) (sym failed) (end, none, empty, refl))
 
   -- the net wasn't asked
   pub unasked : (at : Place) (served : NamesServed A I O) (net : NetState I O) (out : SinkState) → served.end ≡ NoMemory → served.run ≡ None

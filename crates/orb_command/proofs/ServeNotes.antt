@@ -214,18 +214,18 @@ module _ {A I O : Type 0} (state : A → AcceptorState I O) (source : I → Sour
       (call_wanting source sink words (call_told answered) before.files net before.out told link)
       (ap (λ (r : Reported). r.status) same ∙ (status ∙ ap status_of (sym told))) (ap (λ (r : Reported). r.piped) same ∙ none) run unnamed empty
   wanting (Pipe words) reported answered before net note status none same run unnamed empty link =
-      plain_answers state source sink (Pipe words) reported answered before before net tt (wanting_answers (Pipe words) reported before note status none) same run empty link
+      plain_answers state source sink (Pipe words) reported answered before before net tt (wanting_answers (Pipe words) reported before note status none) same run unnamed empty link
   wanting (RefsAt place config) reported answered before net note status none same run unnamed empty link =
-      plain_answers state source sink (RefsAt place config) reported answered before before net tt (wanting_answers (RefsAt place config) reported before note status none) same run empty link
+      plain_answers state source sink (RefsAt place config) reported answered before before net tt (wanting_answers (RefsAt place config) reported before note status none) same run unnamed empty link
   wanting (Idl name) reported answered before net note status none same run unnamed empty link =
-      plain_answers state source sink (Idl name) reported answered before before net tt (wanting_answers (Idl name) reported before note status none) same run empty link
+      plain_answers state source sink (Idl name) reported answered before before net tt (wanting_answers (Idl name) reported before note status none) same run unnamed empty link
   wanting (Load words) reported answered before net note status none same run unnamed empty link =
-      plain_answers state source sink (Load words) reported answered before before net tt (wanting_answers (Load words) reported before note status none) same run empty link
+      plain_answers state source sink (Load words) reported answered before before net tt (wanting_answers (Load words) reported before note status none) same run unnamed empty link
   wanting Dump reported answered before net note status none same run unnamed empty link =
-      plain_answers state source sink Dump reported answered before before net tt (wanting_answers Dump reported before note status none) same run empty link
+      plain_answers state source sink Dump reported answered before before net tt (wanting_answers Dump reported before note status none) same run unnamed empty link
   wanting Audit reported answered before net note status none same run unnamed empty link =
-      plain_answers state source sink Audit reported answered before before net tt (wanting_answers Audit reported before note status none) same run empty link
+      plain_answers state source sink Audit reported answered before before net tt (wanting_answers Audit reported before note status none) same run unnamed empty link
   wanting Refs reported answered before net note status none same run unnamed empty link =
-      plain_answers state source sink Refs reported answered before before net tt (wanting_answers Refs reported before note status none) same run empty link
+      plain_answers state source sink Refs reported answered before before net tt (wanting_answers Refs reported before note status none) same run unnamed empty link
   wanting Unread reported answered before net note status none same run unnamed empty link =
-      plain_answers state source sink Unread reported answered before before net tt (wanting_answers Unread reported before note status none) same run empty link
+      plain_answers state source sink Unread reported answered before before net tt (wanting_answers Unread reported before note status none) same run unnamed empty link
