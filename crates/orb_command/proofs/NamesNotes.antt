@@ -25,7 +25,6 @@ use Rattle.orb_command.specs.Moment.{Moment}
 use Rattle.orb_command.specs.NamesAnswer.{note_of_end, NamesBy}
 use Rattle.orb_command.specs.declared.answered.Answered.{Answered}
 use Rattle.orb_command.specs.declared.names.NamesTold.{NamesTold}
-use Rattle.orb_command.specs.declared.note.Note.{Note}
 use Rattle.orb_command.specs.declared.note.Note.TheVariants.{Memory}
 
 -- what a name service that came out so did to the output's count of faults

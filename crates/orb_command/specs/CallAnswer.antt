@@ -1,5 +1,5 @@
 -- What the note of `orb call` means.
-use Rattle.std.specs.Prelude.{◌≡◌, Option}
+use Rattle.std.specs.Prelude.{◌≡◌}
 use Rattle.orb_base.specs.Filing.{FilesState}
 use Rattle.orb_base.specs.Outside.{SourceState, SinkState}
 use Rattle.orb_nets.specs.Nets.{NetState}
