@@ -25,6 +25,7 @@ asked_by jobs = map (λ (j : CallJob). j.asking) jobs
 abbrev pub seats_of : List CallDone → List Sitting
 seats_of done = map (λ (d : CallDone). d.seat) done
 
+-- what came of the callers' calls
 abbrev pub ends_of : List CallDone → List CallEnd
 ends_of done = map (λ (d : CallDone). d.end) done
 

@@ -15,9 +15,11 @@ use Rattle.mux_sides.specs.declared.calling.CallEnd.TheVariants as came
 abbrev pub start_of : ℕ → Request → MuxReply → One
 start_of by q r = entry by (Start by q) r
 
+-- an Await of this id by the caller, and what it was answered
 abbrev pub await_of : ℕ → ℕ → MuxReply → One
 await_of by id r = entry by (Await by id) r
 
+-- the leaving of the caller
 abbrev pub left_of : ℕ → One
 left_of by = entry by (Left by) reply.Noted
 

@@ -48,6 +48,7 @@ meaning error = Ends
 abbrev pub says : Unit {0} → ℕ → Order → ℕ → Message → Means (Unit {0}) Reply → Type 0
 says settled serial order size message x = x ≡ meaning message
 
+-- the same of the judge of a link, which keeps nothing
 abbrev pub means : LinkJudge → Unit {0} → ℕ → Order → ℕ → Message → Means (Unit {0}) Reply → Type 0
 means judge = says
 

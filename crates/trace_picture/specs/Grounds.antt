@@ -29,7 +29,7 @@ unfoldable pub hatch : ℕ → List ℕ
 hatch k =
     if k == 0 then codes "M0 0"
     else if k == 1 then codes "M0 6L6 0"
-    else if k == 2 then codes "M3 0v6"
+    else if k == 2 then codes "M 3 0v6"
     else if k == 3 then codes "M0 3H6"
     else codes "M0 0L6 6M0 6L6 0"
 

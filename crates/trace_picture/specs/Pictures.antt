@@ -24,23 +24,28 @@ abbrev pub is_bar : Shape → Bool
 is_bar (shape.Bar thread lane request start end) = true
 is_bar s = false
 
+-- a bar of a thread that is lent
 abbrev pub is_lent : Plot → Shape → Bool
 is_lent p (shape.Bar thread lane request start end) = not (home_of p thread == lane)
 is_lent p s = false
 
+-- a request that waits
 abbrev pub is_wait : Shape → Bool
 is_wait (shape.Wait lane request start end how) = true
 is_wait s = false
 
+-- a wait ended because the request was withdrawn
 abbrev pub is_removal : WaitEnd → Bool
 is_removal how.Removed = true
 is_removal how.Taken = false
 is_removal how.Open = false
 
+-- a request that waits and is withdrawn
 abbrev pub is_removed : Shape → Bool
 is_removed (shape.Wait lane request start end how) = is_removal how
 is_removed s = false
 
+-- a request that is refused
 abbrev pub is_full : Shape → Bool
 is_full (shape.Full lane at) = true
 is_full s = false
@@ -68,6 +73,7 @@ counts_line c =
     ++ decimal c.waits ++ codes ", withdrawn " ++ decimal c.removed ++ codes ", refused " ++ decimal c.full
     ++ codes "</text>\n<text x='10' y='62'>x is the number of the entry in the trace, and not time</text>\n"
 
+-- the line of what is counted of the shapes
 abbrev pub counts_text : Plot → List Shape → List ℕ
 counts_text p s = counts_line (counts_of p s)
 
@@ -82,6 +88,7 @@ note_text t =
 abbrev pub before : List TraceLine → ℕ → View → List TraceLine
 before lines legal v = take v.from (take legal lines)
 
+-- those in the picture
 abbrev pub range : List TraceLine → ℕ → View → List TraceLine
 range lines legal v = take (min v.entries MAX_DRAWN) (drop v.from (take legal lines))
 

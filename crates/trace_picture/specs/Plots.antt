@@ -58,9 +58,11 @@ homes_up_to homes l = count_by (λ h. nat_le h l) homes
 abbrev pub spacing : Plot → ℕ
 spacing p = SPACE / p.step
 
+-- the number at this place of the axis
 abbrev pub number_of : Plot → ℕ → ℕ
 number_of p i = p.first + spacing p * i
 
+-- how many places there are besides the first
 abbrev pub ticks : Plot → ℕ
 ticks p = p.count * p.step / SPACE
 
@@ -76,5 +78,6 @@ strip_y p l = bottom p - (ROW * homes_up_to p.homes l + STRIP * (l + 1))
 abbrev pub width : Plot → ℕ
 width p = max MIN_WIDTH (LEFT + row_width p)
 
+-- how high a picture is
 abbrev pub height : Plot → ℕ
 height p = bottom p + FOOT

@@ -58,6 +58,7 @@ abbrev pub waited : ℕ → WaitEnd → Option Waiting → Option Shape
 waited n how (Some w) = Some (wait_to n how w)
 waited n how None = None
 
+-- the bar of a request that a thread carries out, where there is such a request
 abbrev pub carried : ℕ → Option Running → Option Shape
 carried n (Some r) = Some (bar_to n r)
 carried n None = None

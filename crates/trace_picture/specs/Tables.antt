@@ -33,6 +33,7 @@ abbrev pub offers_to : ℕ → Action → Bool
 offers_to l (action.Offer request reply) = (request.lane == l) && is_heard reply
 offers_to l a = false
 
+-- a line offers a request of this lane, which was heard
 abbrev pub line_offers : ℕ → TraceLine → Bool
 line_offers l line = offers_to l line.action
 
@@ -67,6 +68,7 @@ taken_after start end how.Taken = end - start
 taken_after start end how.Removed = 0
 taken_after start end how.Open = 0
 
+-- how many entries a request of this lane waited, where the shape is such a wait
 abbrev pub waited_in : ℕ → Shape → ℕ
 waited_in l (shape.Wait lane request start end how) = if lane == l then taken_after start end how else 0
 waited_in l s = 0
@@ -88,6 +90,7 @@ others_text p s l =
     codes "kept " ++ decimal (count_by (counts p l Kept) s) ++ codes " full " ++ decimal (count_by (counts p l Full) s) ++ codes " removed "
     ++ decimal (count_by (counts p l Removed) s) ++ codes " longest " ++ decimal (longest l s)
 
+-- the name of a lane, and how many of its requests were heard
 abbrev pub name_text : Plot → List TraceLine → ℕ → List ℕ
 name_text p lines l =
     codes "lane " ++ decimal l ++ codes " priority " ++ decimal (slice_index p.priorities l) ++ codes " requests "

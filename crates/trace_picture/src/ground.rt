@@ -81,7 +81,7 @@ fn hatch(k: u8) -> &'static str
     } else if k == 1 {
         "M0 6L6 0"
     } else if k == 2 {
-        "M3 0v6"
+        "M 3 0v6"
     } else if k == 3 {
         "M0 3H6"
     } else {
