@@ -123,11 +123,11 @@ fn slots_serve_links_until_a_limit_is_met(rt: HostRuntime) {
 }
 
 /// Two slots of a link with one request each, in a hall where each waits for the other.
-fn run_meeting<R: Wait + Threads + Sync>(
-    rt: &R,
+fn run_meeting<'x, R: Wait + Threads + Sync>(
+    rt: &'x R,
     alloc: Global,
-    begun: &AtomicU64,
-    missed: &AtomicU64,
+    begun: &'x AtomicU64,
+    missed: &'x AtomicU64,
 ) -> Option<Left> {
     let setup = setup_of(alloc, PLAIN)?;
     let hall = Meeting {
