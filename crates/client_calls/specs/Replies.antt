@@ -44,13 +44,15 @@ system_at c =
     string_at c >>= λ id. number_at w32 id.1 >>= λ minor. number_at w32 minor.1 >>= λ completed.
     Ok (record { id = id.0; minor = minor.0; completed = completed.0 }, completed.1)
 
--- what a call comes to by results, by the id of an exception of an IDL file, and by a system exception
+-- what a call comes to where the body holds results
 abbrev pub giving : List Value → Outcome
 giving values = Ok values
 
+-- an exception of an IDL file, by its id
 abbrev pub telling_user : List ℕ → Outcome
 telling_user id = Err (User id)
 
+-- a system exception
 abbrev pub telling_system : SystemException → Outcome
 telling_system exception = Err (System exception)
 

@@ -32,6 +32,7 @@ abbrev pub IsThere : ℕ → HallCall → Type 0
 IsThere objects (Post notice) = Unit {0}
 IsThere objects (Invoke job) = job.target < objects
 
+-- so is each of the calls
 abbrev pub AreThere : ℕ → List HallCall → Type 0
 AreThere objects [] = Unit {0}
 AreThere objects (c ∷ cs) = IsThere objects c × AreThere objects cs

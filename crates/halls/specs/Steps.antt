@@ -52,13 +52,15 @@ text_in (noticed notice) = item_bytes (item.Noticed notice)
 text_in (invoked job outcome) = early_bytes job.due job ++ late_bytes job.due job outcome
 text_in (begun job) = early_bytes job.due job
 
--- the same of many steps
+-- the calls of many steps
 abbrev pub calls_of : List Step → List HallCall
 calls_of steps = map call_of steps
 
+-- what was answered in them, in order
 abbrev pub answers_of : List Step → List Answer
 answers_of steps = flat_map answers_in steps
 
+-- what was written in them, in order
 abbrev pub text_of : List Step → List ℕ
 text_of steps = flat_map text_in steps
 
@@ -68,6 +70,7 @@ IsWhole (noticed notice) = Unit {0}
 IsWhole (invoked job outcome) = Unit {0}
 IsWhole (begun job) = ⊥
 
+-- so did each of the steps
 abbrev pub AreWhole : List Step → Type 0
 AreWhole [] = Unit {0}
 AreWhole (s ∷ ss) = IsWhole s × AreWhole ss

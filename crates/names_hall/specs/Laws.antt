@@ -28,12 +28,12 @@ pub record IsAnswered (h : History) (seat : ℕ) (order : Order) (ask : NamesCal
   pub there : h ≡ before ++ entry seat ask (reply_after before ask) ∷ after
   pub comes : ComesTo (answer order (reply_after before ask)) outcome
 
--- what a client is told: what the map answers, or what the request has for an answer of its own, or NO_MEMORY
+-- what a client is answered: what the map answers, or what the request has for an answer of its own, or NO_MEMORY
 abbrev pub IsToldBy : History → ℕ → Order → Meaning → Outcome → Type 0
 IsToldBy h seat order (Asks ask) outcome = IsAnswered h seat order ask outcome ⊎ (outcome ≡ no_memory)
 IsToldBy h seat order (Tells own) outcome = ComesTo own outcome
 
--- each invocation of a slot is told so, where the history is legal and has the slot's entries
+-- each invocation of a slot is answered so, where the history is legal and has the slot's entries
 abbrev pub TellsTruly : Type 0
 TellsTruly = (h : History) (seat : ℕ) (done : List Answer) → IsLawful h → AreEntered seat done (of seat h)
     → Each (λ a. IsToldBy h seat a.job.order (meaning_of a.job) a.outcome) done

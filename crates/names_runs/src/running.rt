@@ -135,7 +135,7 @@ pub fn names_run<A: Acceptor + Send + Drop, R: Wait + Threads + Sync>(
     slots: &mut List<A>,
 ) -> Result<NamesRun<A::In, A::Out>, NoMemory>
     requires { length slots.old.items ≡ MAX_CALLERS }
-    // All calls of the map are one legal history, in which each was fit for its caller: what each is told is what the map answers after
+    // All calls of the map are one legal history, in which each was fit for its caller: what each is answered is what the map answers after
     // the calls before it.
     ensures lawful { IfOk result (λ run. IsLawful run.history.items) }
     ensures keys { IfOk result (λ run. run.keys ≡ keys_after run.history.items) }

@@ -46,6 +46,7 @@ pub record Wrote (asked : Asked) (bytes : List ℕ) (out out' : SinkState) : Typ
   pub has : HasRun bytes (run_of asked) run
   pub all : WroteAll asked run out out'
 
+-- the same, and what was written is a prefix of it
 pub record FellShort (asked : Asked) (bytes : List ℕ) (out out' : SinkState) : Type 0 where
   pub run : Trace
   pub has : HasRun bytes (run_of asked) run
