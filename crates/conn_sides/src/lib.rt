@@ -15,7 +15,7 @@ mod write_end;
 mod writing;
 
 pub use read_side_end::ReadSideEnd;
-pub use reading::read_side;
+pub use reading::{read_side, refuse_side};
 pub use working::work;
 pub use write_end::{LastCollect, WriteEnd};
 pub use writing::write_side;

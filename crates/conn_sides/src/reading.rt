@@ -1,10 +1,12 @@
 //! The reading side of a connection.
 ghost use Rattle.std.specs.Prelude.{◌≡◌};
+ghost use Rattle.orb_base.specs.Outside.{SourceState};
 ghost use Rattle.orb_base.specs.Pool.{IsWellFormed};
 ghost use Rattle.conn_engine.specs.Hearers.{IsNew};
 ghost use Rattle.lane_pool.specs.Pass.{conn_of};
 ghost use Rattle.lane_pool.specs.Turns.{Reads, Listens, HasEnded, heard_by};
 ghost use Rattle.conn_sides.specs.ReadSides as Spec;
+ghost use Rattle.conn_sides.specs.declared.read_side_end.ReadSideEnd.TheVariants as side_end;
 
 use crate::hearing::hear_piece;
 use crate::read_side_end::ReadSideEnd;
@@ -114,6 +116,25 @@ pub fn read_side<I: Source, R: Wait>(
     ensures ended { HasEnded pool.now.cell pass.new }
 {
     let end = hear_all(rt, alloc, source, setup, pool, pass);
+    pool.end(rt, pass, how_by(end));
+    end
+}
+
+/// Ends a connection of which nothing is read, as where memory ran out before its first read: it is closed by CloseConnection. Takes no
+/// memory. The call may wait.
+pub fn refuse_side<R: Wait>(
+    rt: &R,
+    setup: &Setup,
+    pool: &LanePool,
+    pass: &mut ReaderPass,
+) -> ReadSideEnd
+    requires listens { Listens pool.now.cell pass.old }
+    // Whatever source the connection has, nothing of it was read.
+    ensures side { (from : SourceState) → Spec.ReadsSide pool.now.cell setup.now result pass.old pass.new from from }
+    ensures ended { HasEnded pool.now.cell pass.new }
+    ensures refused { result ≡ side_end.NoMemory }
+{
+    let end = ReadSideEnd::NoMemory;
     pool.end(rt, pass, how_by(end));
     end
 }

@@ -123,8 +123,8 @@ fn run_prepared<A: Acceptor + Send + Drop, R: Wait + Threads + Sync>(
 }
 
 /// Runs a name service over four acceptors: each slot serves the links of its acceptor, one after another, over one map that all share,
-/// which opens empty. It comes back once every slot has left; the acceptors are in their places then. Where a thread can't be made, its
-/// part is done after the others', and the run may wait for ever. NoMemory comes before any thread runs, and leaves the acceptors.
+/// which opens empty. It comes back once every slot has left; the acceptors are in their places then. A slot whose thread can't be
+/// made serves after the others. NoMemory comes before any thread runs, and leaves the acceptors.
 ///
 /// All memory but that of the connections and of their requests is taken at the start: the room of the map, of its 65,536 calls, and of
 /// what the connections leave, `per_slot` for each slot.

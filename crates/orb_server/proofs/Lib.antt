@@ -8,3 +8,4 @@ pub mod Admitting
 pub mod Closing
 pub mod AtRest
 pub mod Replied
+pub mod Kept

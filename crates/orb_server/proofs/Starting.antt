@@ -85,6 +85,23 @@ module _ {A I O : Type 0} (setup : SetupData) (cell : CellView State) where
       → AreJobs setup cell 0 all
   jobs_more k js all a s are e i is = subst (AreJobs setup cell 0) (sym is) (jobs_grow k js a s are e i)
 
+module _ {A I O : Type 0} (setup : SetupData) (cell : CellView State) where
+  cut_jobs : (slot : ℕ) (xs : List (PoolJob A I O)) (x : PoolJob A I O) → AreJobs setup cell slot (xs ++ x ∷ []) → AreJobs setup cell slot xs × Rests cell x.place
+  cut_jobs slot [] x a = (tt, a.0.rests)
+  cut_jobs slot (y ∷ ys) x a = let r = cut_jobs (slot + 1) ys x a.1 in ((a.0, r.0), r.1)
+
+  pub jobs_front : (all xs : List (PoolJob A I O)) (x : PoolJob A I O) → AreJobs setup cell 0 all → all ≡ xs ++ x ∷ [] → AreJobs setup cell 0 xs
+  jobs_front all xs x a e = (cut_jobs 0 xs x (subst (AreJobs setup cell 0) e a)).0
+
+  pub last_rests : (all xs : List (PoolJob A I O)) (x : PoolJob A I O) → AreJobs setup cell 0 all → all ≡ xs ++ x ∷ [] → Rests cell x.place
+  last_rests all xs x a e = (cut_jobs 0 xs x (subst (AreJobs setup cell 0) e a)).1
+
+pub given_none : {A I O : Type 0} (js : List (PoolJob A I O)) (given : List A) → js ≡ [] → given ≡ [] → given ≡ acceptors_of js
+given_none js given e f = f ∙ sym (ap acceptors_of e)
+
+pub given_more : {A I O : Type 0} (all js : List (PoolJob A I O)) (j : PoolJob A I O) (given every : List A) → all ≡ js ++ j ∷ [] → given ≡ acceptors_of js → every ≡ given ++ j.acceptor ∷ [] → every ≡ acceptors_of all
+given_more all js j given every e g f = f ∙ (ap (λ (z : List _). z ++ j.acceptor ∷ []) g ∙ (sym (map-append (λ (x : PoolJob _ _ _). x.acceptor) js (j ∷ [])) ∙ sym (ap acceptors_of e)))
+
 pub same_lengths : {X Y : Type 0} (all xs : List X) (x : X) (every ys : List Y) (y : Y) → all ≡ xs ++ x ∷ [] → every ≡ ys ++ y ∷ [] → length all ≡ length every → length xs ≡ length ys
 same_lengths all xs x every ys y e f n =
     let a : length all ≡ length xs + 1 = ap length e ∙ length-append xs (x ∷ []) in

@@ -1,5 +1,5 @@
 -- What all slots and all workers of a run begin with, and what they leave: own profile.
-use Rattle.std.specs.Prelude.{◌≡◌, ◌≤◌, ℕ, ◌+◌, List, [], ◌∷◌, ◌++◌, map}
+use Rattle.std.specs.Prelude.{◌≡◌, ◌≤◌, ℕ, ◌+◌, List, [], ◌∷◌, ◌++◌, length, map}
 use Rattle.std.specs.Vec.{vec_capacity}
 use Rattle.orb_base.specs.JobRecord.{JobRecord}
 use Rattle.orb_base.specs.Links.{AcceptorState}
@@ -20,6 +20,7 @@ use Rattle.conn_sides.specs.Working.{Worked, take_entry}
 use Rattle.orb_server.specs.Slots.{leaving, ComesOut}
 use Rattle.orb_server.specs.Jobs.{PoolJob, PoolDone}
 use Rattle.orb_server.specs.declared.job.SlotStart.{SlotStart}
+use Rattle.orb_server.specs.declared.staff.Crew.{Crew}
 
 -- the pool was opened by the setup, whose own pool is well formed
 pub record IsPoolOf (setup : SetupData) (cell : CellView State) : Type 0 where
@@ -102,3 +103,12 @@ module _ (setup : SetupData) (outcome : List ℕ → JobRecord → Outcome) (cel
   abbrev pub HaveWorked : ℕ → ℕ → List Pass → Type 0
   HaveWorked first who [] = Unit {0}
   HaveWorked first who (p ∷ ps) = HasWorked (first + who) who p × HaveWorked first (who + 1) ps
+
+-- what the threads of a run begin with: workers by which nothing was called, what each slot begins with, and room for what all leave
+pub record IsCrew {A I O : Type 0} (setup : SetupData) (cell : CellView State) (crew : Crew A I O) : Type 0 where
+  pub workers : AreIdle cell (setup.slots + 1) 0 crew.workers.items
+  pub jobs : AreJobs setup cell 0 crew.jobs.items
+  pub opened : IsPoolOf setup cell
+  pub worked : (crew.worked.items ≡ []) × (length crew.workers.items ≤ vec_capacity crew.worked)
+  pub done : (crew.done.items ≡ []) × (length crew.jobs.items ≤ vec_capacity crew.done)
+  pub unserved : (crew.unserved.items ≡ []) × (length crew.jobs.items ≤ vec_capacity crew.unserved)

@@ -2,10 +2,10 @@
 //! pool, have a thread of their own where one can be made. All call one lane machine, and what a run leaves is told of its one history.
 //! Own profile, over CORBA 3.0.3, section 15.4, and Real-time CORBA 1.2, Threadpools.
 //!
-//! The workers and the slots are each a list of jobs that run side by side, by `side_by_side::run_all`, and a slot is that of
-//! `link_slots::run_slot`; in each slot the writing side runs beside the reading side. A thread that can't be made has its part done
-//! after the others'; nothing is said of progress then, and a slot may wait for ever for a worker that hasn't begun. All memory of a
-//! run but that of its reading sides and of its requests is taken before the first thread.
+//! The slots are a list of jobs that run side by side, by `side_by_side::run_all`, and a slot is that of `link_slots::run_slot`. Workers
+//! and writing sides are threads of a scope, which says where one can't be made: without a worker no slot serves, and the run answers out
+//! of memory; without a writing side the connection is closed unread. A slot without a thread serves after the others. All memory of a run
+//! but that of its reading sides and of its requests is taken before the first thread.
 //!
 //! | What `serve_run` promises | Clause |
 //! |---|---|

@@ -25,6 +25,7 @@ pub struct Prepared<A, I, O> {
     pub worked: Vec<WorkerPass>,
     pub jobs: Vec<PoolJob<A, I, O>>,
     pub done: Vec<PoolDone<A, I, O>>,
+    pub unserved: Vec<A>,
     pub parts: Parts<A, I, O>,
 }
 
@@ -118,6 +119,7 @@ pub fn prepare<A: Drop, I: Drop, O: Drop>(
     ensures worked { IfOk result (λ p. (p.worked.items ≡ []) × (length (pool_threads 0 setup.now.pool.lanes) ≤ vec_capacity p.worked)) }
     ensures jobs { IfOk result (λ p. (p.jobs.items ≡ []) × (setup.now.slots ≤ vec_capacity p.jobs)) }
     ensures done { IfOk result (λ p. (p.done.items ≡ []) × (setup.now.slots ≤ vec_capacity p.done)) }
+    ensures unserved { IfOk result (λ p. (p.unserved.items ≡ []) × (setup.now.slots ≤ vec_capacity p.unserved)) }
     ensures empty { IfOk result (λ p. (p.parts.passes.items ≡ []) × (p.parts.acceptors.items ≡ []) × (p.parts.conns.items ≡ [])
         × (p.parts.ends.items ≡ [])) }
     ensures room { IfOk result (λ p. (setup.now.slots ≤ vec_capacity p.parts.passes) × (setup.now.slots ≤ vec_capacity p.parts.acceptors)
@@ -145,6 +147,9 @@ pub fn prepare<A: Drop, I: Drop, O: Drop>(
     let Ok(done) = Vec::with_capacity(alloc, count) else {
         return Err(NoMemory);
     };
+    let Ok(unserved) = Vec::with_capacity(alloc, count) else {
+        return Err(NoMemory);
+    };
     let parts = no_parts(alloc, count, conns)?;
     Ok(Prepared {
         pool,
@@ -154,6 +159,7 @@ pub fn prepare<A: Drop, I: Drop, O: Drop>(
         worked,
         jobs,
         done,
+        unserved,
         parts,
     })
 }

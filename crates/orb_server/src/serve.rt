@@ -1,5 +1,5 @@
 //! A run of the server.
-ghost use Rattle.std.specs.Prelude.{◌≡◌, ◌+◌, ◌*◌, ◌≤◌, [], length, IfOk, OnErr};
+ghost use Rattle.std.specs.Prelude.{◌≡◌, ◌+◌, ◌*◌, ◌≤◌, [], length, IfOk, IfErr, OnErr};
 ghost use Rattle.std.specs.Vec.{vec_capacity};
 ghost use Rattle.thread_borrowing.specs.ThreadList.{pool_threads};
 ghost use Rattle.lane_pool.specs.Passes.{MainAt};
@@ -69,7 +69,8 @@ fn close_run<A: Acceptor + Drop, S: Serving>(
     (run, acceptors)
 }
 
-/// Runs all workers and slots over these acceptors, and closes the pool.
+/// Runs all workers and slots over these acceptors, and closes the pool. Where the thread of a worker can't be made no slot serves, and the
+/// acceptors come back as they were.
 fn run_prepared<
     A: Acceptor + Send + Drop,
     S: Serving + Sync,
@@ -83,7 +84,7 @@ fn run_prepared<
     gate: &G,
     acceptors: Vec<A>,
     prepared: Prepared<A, A::In, A::Out>,
-) -> (Run<A::In, A::Out>, Vec<A>)
+) -> Result<(Run<A::In, A::Out>, Vec<A>), Vec<A>>
     requires slots { length acceptors.items ≡ setup.now.slots }
     requires opened { IsPoolOf setup.now prepared.pool.cell }
     requires root { MainAt prepared.pool.cell (setup.now.slots + length (pool_threads 0 setup.now.pool.lanes)) prepared.root }
@@ -93,18 +94,20 @@ fn run_prepared<
     requires worked { (prepared.worked.items ≡ []) × (length (pool_threads 0 setup.now.pool.lanes) ≤ vec_capacity prepared.worked) }
     requires jobs { (prepared.jobs.items ≡ []) × (setup.now.slots ≤ vec_capacity prepared.jobs) }
     requires done { (prepared.done.items ≡ []) × (setup.now.slots ≤ vec_capacity prepared.done) }
+    requires unserved { (prepared.unserved.items ≡ []) × (setup.now.slots ≤ vec_capacity prepared.unserved) }
     requires empty { (prepared.parts.passes.items ≡ []) × (prepared.parts.acceptors.items ≡ []) × (prepared.parts.conns.items ≡ [])
         × (prepared.parts.ends.items ≡ []) }
     requires room { (setup.now.slots ≤ vec_capacity prepared.parts.passes) × (setup.now.slots ≤ vec_capacity prepared.parts.acceptors)
         × (setup.now.slots * setup.now.per_slot ≤ vec_capacity prepared.parts.conns)
         × (setup.now.slots ≤ vec_capacity prepared.parts.ends) }
-    ensures lawful { IsLawful setup.now result.0.history.items }
-    ensures slots { AllSlotsRan A.state A.In.state A.Out.state setup.now result.0.history.items acceptors.items result.1.items
-        result.0.conns.items result.0.slots.items }
-    ensures workers { WorkersRan setup.now (S.outcome servants.now) result.0.history.items }
-    ensures once { RunsOnce (opening_of setup.now) result.0.history.items }
-    ensures lanes { RunsInLanes (opening_of setup.now) result.0.history.items }
-    ensures admitted { RunsAdmitted [] result.0.history.items }
+    ensures lawful { IfOk result (λ r. IsLawful setup.now r.0.history.items) }
+    ensures slots { IfOk result (λ r. AllSlotsRan A.state A.In.state A.Out.state setup.now r.0.history.items acceptors.items r.1.items
+        r.0.conns.items r.0.slots.items) }
+    ensures workers { IfOk result (λ r. WorkersRan setup.now (S.outcome servants.now) r.0.history.items) }
+    ensures once { IfOk result (λ r. RunsOnce (opening_of setup.now) r.0.history.items) }
+    ensures lanes { IfOk result (λ r. RunsInLanes (opening_of setup.now) r.0.history.items) }
+    ensures admitted { IfOk result (λ r. RunsAdmitted [] r.0.history.items) }
+    ensures unserved { IfErr result (λ v. v.items ≡ acceptors.items) }
 {
     let Prepared {
         pool,
@@ -114,6 +117,7 @@ fn run_prepared<
         worked,
         jobs,
         done,
+        unserved,
         parts,
     } = prepared;
     let jobs = give_acceptors(setup, &pool, starts, acceptors, jobs);
@@ -122,14 +126,16 @@ fn run_prepared<
         worked,
         jobs,
         done,
+        unserved,
     };
-    let staff = run_staff(rt, alloc, setup, &pool, servants, gate, crew);
-    close_run(pool, root, setup, servants, staff, parts)
+    let staff = run_staff(rt, alloc, setup, &pool, servants, gate, crew)?;
+    Ok(close_run(pool, root, setup, servants, staff, parts))
 }
 
 /// Runs the server of a setup: each slot serves the links of its acceptor, one after another, by two threads each, and one thread works
-/// for each of the pool. It comes back once every slot has left; the acceptors are in their places then. Where a thread can't be made,
-/// its part is done after the others', and the run may wait for ever. NoMemory comes before any thread runs, and leaves the acceptors.
+/// for each of the pool. It comes back once every slot has left; the acceptors are in their places then. NoMemory comes before any link
+/// is accepted, also where the thread of a worker can't be made, and leaves the acceptors. Where that of a writing side can't be made, its
+/// connection is closed unread; where that of a slot can't, the slot serves after the others.
 ///
 /// It costs what its connections cost; two threads a slot and one for each thread of the pool; and room for the log of each connection that
 /// may come, `slots` times `per_slot`, which is taken at the start.
@@ -161,7 +167,12 @@ pub fn serve_run<
 {
     let prepared = prepare(alloc, setup)?;
     let acceptors = mem::replace(slots, List::new(alloc)).into_vec();
-    let (run, acceptors) = run_prepared(rt, alloc, setup, servants, gate, acceptors, prepared);
+    let (run, acceptors) = match run_prepared(
+        rt, alloc, setup, servants, gate, acceptors, prepared,
+    ) {
+        Ok((run, acceptors)) => (Ok(run), acceptors),
+        Err(acceptors) => (Err(NoMemory), acceptors),
+    };
     *slots = List::from_vec(acceptors);
-    Ok(run)
+    run
 }

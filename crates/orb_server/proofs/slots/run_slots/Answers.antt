@@ -1,14 +1,8 @@
-use Rattle.std.proofs.Common.{rules, ℕ}
-use denote.Param.Send.{Quiet, Quiet-if}
-use denote.Exit.{Kept, if_kept, unseen}
-use mir.Syntax.{of_param}
+use Rattle.std.proofs.Common.{rules}
 use Rattle.orb_server.specs.Threads.{IsJob}
 use Rattle.orb_server.proofs.Forking.{jobs_own, done_own}
+use Rattle.orb_server.proofs.Kept.{kept_quiet}
 use Rattle.orb_server.proofs.slots.run_slots.Goals as goal
-
--- what a closure has of a type parameter is seen at no exit, so that nothing is left there
-kept_quiet : {D : Type 0} (n : ℕ) (k : Kept) → Quiet {D = D} (if_kept (k (of_param n)) unseen unseen)
-kept_quiet {D} n k = Quiet-if {D = D} (k (of_param n)) unseen unseen (λ x w. tt) (λ x w. tt)
 
 pub run_all-requires-clause-jobs : goal.run_all-requires-clause-jobs
 run_all-requires-clause-jobs g c κs within = λ k d l. (let b = c.type_bounds in (
