@@ -2,6 +2,8 @@
 #![tactic(auto)]
 
 #[cfg(test)]
+mod many_tests;
+#[cfg(test)]
 mod messages;
 #[cfg(test)]
 mod run_tests;

@@ -7,6 +7,8 @@ pub const SETUP: &[u8] =
 /// What follows the id of a request of an operation, up to its body at place 56: a reply is due after it, and no context is there.
 pub const BIND: &[u8] = b"\x03\0\0\0\0\0\0\0\0\0\0\x0bNameService\0\0\0\0\x05bind\0\0\0\0\0\0\0\0";
 
+pub const REBIND: &[u8] = b"\x03\0\0\0\0\0\0\0\0\0\0\x0bNameService\0\0\0\0\x07rebind\0\0\0\0\0\0";
+
 pub const RESOLVE: &[u8] = b"\x03\0\0\0\0\0\0\0\0\0\0\x0bNameService\0\0\0\0\x08resolve\0\0\0\0\0";
 
 pub const UNBIND: &[u8] = b"\x03\0\0\0\0\0\0\0\0\0\0\x0bNameService\0\0\0\0\x07unbind\0\0\0\0\0\0";

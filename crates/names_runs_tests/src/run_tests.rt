@@ -187,14 +187,20 @@ fn setup_of(alloc: Global) -> Option<Setup> {
     }
 }
 
-/// These parts, one after another.
-fn joined(alloc: Global, parts: &[&[u8]]) -> Option<Octets> {
-    let mut bytes = Octets::new(alloc);
+/// Puts these parts after the bytes, in order.
+pub(crate) fn put(bytes: &mut Octets, parts: &[&[u8]]) -> Option<()> {
     for part in parts {
         if bytes.append(part).is_err() {
             return None;
         }
     }
+    Some(())
+}
+
+/// These parts, one after another.
+fn joined(alloc: Global, parts: &[&[u8]]) -> Option<Octets> {
+    let mut bytes = Octets::new(alloc);
+    put(&mut bytes, parts)?;
     Some(bytes)
 }
 
@@ -220,14 +226,15 @@ fn add_slot(alloc: Global, slots: &mut List<MemAcceptor>, input: &[&[u8]]) -> Op
         .ok()
 }
 
-fn run_row<R: Wait + Threads + Sync>(
+/// A run over links of these inputs, one for each of the four slots.
+fn run_of<R: Wait + Threads + Sync>(
     rt: &R,
     alloc: Global,
-    row: &Row,
+    inputs: &[&[&[u8]]],
 ) -> Option<NamesRun<MemSource, MemSink>> {
     let setup = setup_of(alloc)?;
     let mut slots = List::new(alloc);
-    for input in &row.inputs {
+    for input in inputs {
         add_slot(alloc, &mut slots, input)?;
     }
     if slots.len() != 4 {
@@ -264,16 +271,25 @@ fn has_line(alloc: Global, run: &NamesRun<MemSource, MemSink>, line: &[u8]) -> b
     write_line(alloc, &mut out, run) == WroteLine::Whole && out.held() == line
 }
 
+/// Whether a run over these inputs writes these outputs, and has this line.
+pub(crate) fn comes_out<R: Wait + Threads + Sync>(
+    rt: &R,
+    alloc: Global,
+    inputs: &[&[&[u8]]],
+    outputs: &[&[&[u8]]],
+    line: &[u8],
+) -> bool {
+    match run_of(rt, alloc, inputs) {
+        Some(run) => wrote_all(alloc, &run, outputs) && has_line(alloc, &run, line),
+        None => false,
+    }
+}
+
 /// Whether each row comes out so.
 fn all_come_out<R: Wait + Threads + Sync>(rt: &R, alloc: Global, rows: &[Row]) -> bool {
     for row in rows {
-        match run_row(rt, alloc, row) {
-            Some(run) => {
-                if !wrote_all(alloc, &run, row.outputs) || !has_line(alloc, &run, row.line) {
-                    return false;
-                }
-            }
-            None => return false,
+        if !comes_out(rt, alloc, row.inputs.as_slice(), row.outputs, row.line) {
+            return false;
         }
     }
     true
