@@ -1,10 +1,14 @@
-//! Tests of `lane_audit`, `fit_audit`, `trace_reading`, `trace_runs`, `trace_audit`.
+//! Tests of `lane_audit`, `fit_audit`, `trace_reading`, `trace_runs`, `trace_audit`, and of the lane machine beside them.
 #![tactic(auto)]
 
 #[cfg(test)]
 mod fit_audit_tests;
 #[cfg(test)]
 mod lane_audit_tests;
+#[cfg(test)]
+mod lane_machine_tests;
+#[cfg(test)]
+mod replay;
 #[cfg(test)]
 mod trace_audit_tests;
 #[cfg(test)]

@@ -6,7 +6,7 @@ use trace_audit::*;
 
 /// The lines of a run with every kind of line and of reply: two slots of two connections, two lanes of a thread each, a thread that is
 /// lent, two requests that wait, of which one is withdrawn, and a run that closes after its eighth call.
-const EVERY: &[&[u8]] = &[
+pub(crate) const EVERY: &[&[u8]] = &[
     b"pool 1 1 1 2 1000 8 67108864 2 2",
     b"lane 10 1 0",
     b"lane 20 1 0",
@@ -47,7 +47,7 @@ const EVERY: &[&[u8]] = &[
 
 /// What comes of a run of which one line is another.
 #[derive(Clone, Copy)]
-enum Comes {
+pub(crate) enum Comes {
     /// That line is at fault.
     Fault,
     /// The line of this number is at fault.
@@ -61,7 +61,7 @@ enum Comes {
 }
 
 /// Lines that are in the place of another one, with the number of that, from 0, and what comes of it.
-const CHANGES: &[(usize, &[u8], Comes)] = &[
+pub(crate) const CHANGES: &[(usize, &[u8], Comes)] = &[
     // Lends without lanes.
     (0, b"pool 0 1 1 2 1000 8 67108864 2 2", Comes::Fault),
     // Nothing is lent.
@@ -161,7 +161,12 @@ fn put_line(text: &mut Octets, line: &[u8]) -> Result<(), NoMemory> {
 }
 
 /// The text of the run with another line in the place of one, and the offset of the line of a number.
-fn changed(alloc: Global, at: usize, other: &[u8], of: usize) -> Result<(Octets, usize), NoMemory> {
+pub(crate) fn changed(
+    alloc: Global,
+    at: usize,
+    other: &[u8],
+    of: usize,
+) -> Result<(Octets, usize), NoMemory> {
     let mut text = Octets::new(alloc);
     let mut offset = 0;
     for (i, line) in EVERY.iter().enumerate() {
