@@ -1,5 +1,5 @@
-// A client that calls `ping` of a server by plain sockets, and a bare exchange of the same bytes (the floor). GIOP 1.2, a thread a
-// connection, TCP_NODELAY. To be run by hand, by `examples/bench/served`.
+// A client that calls `ping` of a server, or a name service, by plain sockets, and a bare exchange of the same bytes (the floor). GIOP
+// 1.2, a thread a connection, TCP_NODELAY. To be run by hand, by `examples/bench/served` and `examples/bench/named`.
 //   served floor CONNS COUNT ASKED ANSWERED         COUNT exchanges a connection of so many bytes, with a server of its own
 //   served current PORT CONNS COUNT WINDOW PRIORITY [FLOOD]   COUNT calls of `current` a connection, at most WINDOW unanswered; FLOOD
 //                                                   further connections call without pause at priority 0 until the others have ended
@@ -7,6 +7,10 @@
 //   served blocks PORT COUNT BLOCKS                 COUNT calls of `current` on one connection, told in so many parts
 //   served kept PORT COUNT KEPT PRIORITY            first KEPT oneway calls of `slow` at priority 0, on connections of 60 each that are then
 //                                                   closed, and then COUNT calls of `current` on one connection
+//   served fill PORT KEYS                           binds so many keys, k0000 and so on, to texts of 200 bytes
+//   served resolve PORT CONNS COUNT KEY             COUNT calls of `resolve` a connection
+//   served bind PORT COUNT KEY                      binds and unbinds a key COUNT times, and tells the binds
+//   served cosnaming PORT CONNS COUNT NAME          COUNT calls of CosNaming's `resolve` of a name of one component, with an empty kind
 // Prints p50 and p99 of a call in microseconds, and calls a second.
 #include <algorithm>
 #include <arpa/inet.h>
@@ -74,8 +78,20 @@ static void put_long(string &to, uint32_t n) {
     to.append((const char *)&n, 4); // the host is little-endian, as the flags say
 }
 
-// A request of `ping`, with the service context of a priority, or without one below 0; to `slow` it is a oneway one.
-static string request(uint32_t id, const string &operation, int priority, const string *text, const string &key = "ping") {
+// A text after others, from a place on that is a multiple of 8.
+static void put_text(string &to, const string &text) {
+    put_long(to, text.size() + 1);
+    to += text + '\0';
+}
+
+static string spelled(const vector<string> &texts) {
+    string all;
+    for (auto &text : texts) put_text(all, text);
+    return all;
+}
+
+// A request of an object, with the service context of a priority, or without one below 0; to `slow` it is a oneway one.
+static string request(uint32_t id, const string &operation, int priority, const string &arguments, const string &key) {
     string body;
     put_long(body, id);
     body += string(key == "slow" ? "\0\0\0\0\0\0\0\0" : "\3\0\0\0\0\0\0\0", 8);
@@ -89,10 +105,9 @@ static string request(uint32_t id, const string &operation, int priority, const 
         put_long(body, 4);
         body += string({1, 0, (char)(priority & 255), (char)(priority >> 8)});
     }
-    if (text) {
+    if (!arguments.empty()) {
         body.resize((body.size() + 12 + 7) / 8 * 8 - 12);
-        put_long(body, text->size() + 1);
-        body += *text + '\0';
+        body += arguments;
     }
     string whole("GIOP\1\2\1\0", 8);
     put_long(whole, body.size());
@@ -115,7 +130,8 @@ static uint32_t reply(int socket, vector<char> &room) {
 
 using Times = vector<double>;
 
-static Times call(uint16_t port, int count, int window, const string &operation, int priority, const string *text, const atomic<bool> *stop) {
+static Times call(uint16_t port, int count, int window, const string &operation, int priority, const string &arguments = "", const atomic<bool> *stop = nullptr,
+                  const string &key = "ping") {
     int socket = connected(port);
     vector<char> room;
     Times began(count), took;
@@ -123,7 +139,7 @@ static Times call(uint16_t port, int count, int window, const string &operation,
     took.reserve(count);
     while (had < count && !(stop && *stop && had == sent)) {
         while (sent < count && sent - had < window && !(stop && *stop)) {
-            string bytes = request(sent, operation, priority, text);
+            string bytes = request(sent, operation, priority, arguments, key);
             began[sent++] = now();
             send_all(socket, bytes);
         }
@@ -200,9 +216,9 @@ static void current(uint16_t port, int conns, int count, int window, int priorit
     vector<thread> threads;
     atomic<size_t> flooded{0};
     for (int i = 0; i < flood; i++)
-        threads.emplace_back([&] { flooded += call(port, 1 << 16, 1, "current", 0, nullptr, &stop).size(); });
+        threads.emplace_back([&] { flooded += call(port, 1 << 16, 1, "current", 0, "", &stop).size(); });
     if (flood) this_thread::sleep_for(chrono::milliseconds(100));
-    on_each(flood ? "flooded" : "current", conns, [=] { return call(port, count, window, "current", priority, nullptr, nullptr); });
+    on_each(flood ? "flooded" : "current", conns, [=] { return call(port, count, window, "current", priority); });
     stop = true;
     for (auto &t : threads) t.join();
     if (flood) printf("           %zu calls of the flood\n", flooded.load());
@@ -212,7 +228,7 @@ static void keep(uint16_t port, int kept) {
     for (int sent = 0; sent < kept;) {
         int socket = connected(port);
         string all;
-        for (int i = 0; i < 60 && sent < kept; i++, sent++) all += request(i, "work", 0, nullptr, "slow");
+        for (int i = 0; i < 60 && sent < kept; i++, sent++) all += request(i, "work", 0, "", "slow");
         send_all(socket, all);
         shutdown(socket, SHUT_WR);
         char end;
@@ -221,20 +237,63 @@ static void keep(uint16_t port, int kept) {
     }
 }
 
+static const string names = "NameService";
+
+static void fill(uint16_t port, int keys) {
+    int socket = connected(port);
+    vector<char> room;
+    for (int i = 0; i < keys; i++) {
+        char key[16];
+        snprintf(key, sizeof key, "k%04d", i);
+        send_all(socket, request(i, "bind", -1, spelled({key, string(200, 'i')}), names));
+        reply(socket, room);
+    }
+    close(socket);
+}
+
+static void binds(uint16_t port, int count, const string &key) {
+    int socket = connected(port);
+    vector<char> room;
+    Times took;
+    for (int i = 0; i < count; i++) {
+        double start = now();
+        send_all(socket, request(2 * i, "bind", -1, spelled({key, string(200, 'i')}), names));
+        reply(socket, room);
+        took.push_back(now() - start);
+        send_all(socket, request(2 * i + 1, "unbind", -1, spelled({key}), names));
+        reply(socket, room);
+    }
+    close(socket);
+    double seconds = 0;
+    for (double one : took) seconds += one;
+    tell("bind", took, seconds);
+}
+
 int main(int n, char **words) {
     auto number = [&](int i) { return i < n ? atoi(words[i]) : 0; };
     string what = n > 1 ? words[1] : "";
     if (what == "floor") floor_of(number(2), number(3), number(4), number(5));
     else if (what == "current") current(number(2), number(3), number(4), number(5), number(6), number(7));
     else if (what == "echo") {
-        string text(number(5), 'e');
-        on_each("echo", number(3), [&] { return call(number(2), number(4), 1, "echo", -1, &text, nullptr); });
+        string text = spelled({string(number(5), 'e')});
+        on_each("echo", number(3), [&] { return call(number(2), number(4), 1, "echo", -1, text); });
     } else if (what == "kept") {
         keep(number(2), number(4));
         current(number(2), 1, number(3), 1, number(5), 0);
+    } else if (what == "fill") fill(number(2), number(3));
+    else if (what == "bind") binds(number(2), number(3), words[4]);
+    else if (what == "resolve") {
+        string key = spelled({words[5]});
+        on_each("resolve", number(3), [&] { return call(number(2), number(4), 1, "resolve", -1, key, nullptr, names); });
+    } else if (what == "cosnaming") {
+        string name;
+        put_long(name, 1);
+        put_text(name, words[5]);
+        put_text(name, "");
+        on_each("cosnaming", number(3), [&] { return call(number(2), number(4), 1, "resolve", -1, name, nullptr, names); });
     } else if (what == "blocks") {
         double start = now();
-        Times took = call(number(2), number(3), 1, "current", -1, nullptr, nullptr);
+        Times took = call(number(2), number(3), 1, "current", -1);
         double seconds = now() - start;
         int blocks = max(1, number(4));
         size_t each = took.size() / blocks;
