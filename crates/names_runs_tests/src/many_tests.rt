@@ -141,11 +141,22 @@ fn fills_up<R: Wait + Threads + Sync>(rt: &R, alloc: Global) -> bool {
     let Some(output) = filled(alloc) else {
         return false;
     };
+    let nothing = Octets::new(alloc);
     comes_out(
         rt,
         alloc,
-        &[&[input.as_slice()], &[], &[], &[]],
-        &[&[output.as_slice()], &[], &[], &[]],
+        &[
+            &[input.as_slice()],
+            &[nothing.as_slice()],
+            &[nothing.as_slice()],
+            &[nothing.as_slice()],
+        ],
+        &[
+            &[output.as_slice()],
+            &[nothing.as_slice()],
+            &[nothing.as_slice()],
+            &[nothing.as_slice()],
+        ],
         b"names 1024 calls 1027 connections 4\n".as_slice(),
     )
 }
