@@ -55,16 +55,19 @@ is_reserved id = str_eq_ignore_ascii_case (take 8 id) (codes "IDL:Orb/") || str_
 abbrev pub ping_id : Name
 ping_id = codes "IDL:Orb/Ping:1.0"
 
--- the ids of the interface of the name service and of its exceptions
+-- the id of the interface of the name service
 abbrev pub names_id : Name
 names_id = codes "IDL:Orb/Names:1.0"
 
+-- the id of its exception: no text is kept under the key
 abbrev pub not_found_id : Name
 not_found_id = codes "IDL:Orb/NotFound:1.0"
 
+-- the id of its exception: a text is kept under the key already
 abbrev pub already_bound_id : Name
 already_bound_id = codes "IDL:Orb/AlreadyBound:1.0"
 
+-- the id of its exception: as many keys are bound as may be
 abbrev pub no_room_id : Name
 no_room_id = codes "IDL:Orb/NoRoom:1.0"
 
