@@ -4,7 +4,8 @@ use Rattle.std.specs.Prelude.{slice_get}
 use Rattle.std.proofs.lemmas.Bool.{cases_eq, cases_Bool, both_ways, eqb-true}
 use Rattle.std.proofs.lemmas.List.{length-append}
 use Rattle.std.proofs.lemmas.Option.{none-some, same_Some}
-use Rattle.giop_messages.specs.Message.{Request, Reply}
+use Rattle.giop_messages.specs.Message.{Request}
+use Rattle.client_mux.specs.declared.heard_reply.HeardReply.{HeardReply}
 use Rattle.client_mux.specs.declared.why.Why.{Why}
 use Rattle.client_mux.specs.declared.call.MuxReply.TheVariants as reply
 use Rattle.client_mux.specs.declared.call.MuxCall.{MuxCall}
@@ -21,11 +22,11 @@ use Rattle.client_mux.proofs.Either.{or_else, or_none}
 use Rattle.flat_seats.proofs.Own.{push_grow, push_own, push_back}
 use Rattle.flat_seats.proofs.Along.{along_legal, legal_prefix, sound_at, answered_at}
 
-came_here : (b : Bool) (r : Reply) (o c : Option Reply) → (if b then Some r else or_else o c) ≡ or_else (if b then Some r else o) c
+came_here : (b : Bool) (r : HeardReply) (o c : Option HeardReply) → (if b then Some r else or_else o c) ≡ or_else (if b then Some r else o) c
 came_here true r o c = refl
 came_here false r o c = refl
 
-came_else : (id : ℕ) (call : MuxCall) (o b : Option Reply) → came_or id call (or_else o b) ≡ or_else (came_or id call o) b
+came_else : (id : ℕ) (call : MuxCall) (o b : Option HeardReply) → came_or id call (or_else o b) ≡ or_else (came_or id call o) b
 came_else id (Arrived i r) o b = came_here (i == id) r o b
 came_else id (Start by r) o b = refl
 came_else id (Cancel by i) o b = refl
@@ -49,7 +50,7 @@ after_push id (d ∷ ds) e q = at (starts_as id d.call d.reply) q (after_push id
 
 pub after_new : (id : ℕ) (h : History) (e : One) → begun id h ≡ false → reply_after_start id (h ++ e ∷ []) ≡ None
 after_new id [] e q = at (starts_as id e.call e.reply) where
-  at : (b : Bool) → ◌≡◌ {A = Option Reply} (if b then None else None) None
+  at : (b : Bool) → ◌≡◌ {A = Option HeardReply} (if b then None else None) None
   at true = refl
   at false = refl
 after_new id (d ∷ ds) e q = at (starts_as id d.call d.reply) q (after_new id ds e) where
@@ -58,11 +59,11 @@ after_new id (d ∷ ds) e q = at (starts_as id d.call d.reply) q (after_new id d
   at false q later = later q
 
 -- and it stays
-stays_if : (b : Bool) (v r : Reply) (a o : Option Reply) → (a ≡ Some r → o ≡ Some r) → (if b then Some v else a) ≡ Some r → (if b then Some v else o) ≡ Some r
+stays_if : (b : Bool) (v r : HeardReply) (a o : Option HeardReply) → (a ≡ Some r → o ≡ Some r) → (if b then Some v else a) ≡ Some r → (if b then Some v else o) ≡ Some r
 stays_if true v r a o f q = q
 stays_if false v r a o f q = f q
 
-came_stays : (id : ℕ) (r : Reply) (call : MuxCall) (a o : Option Reply) → (a ≡ Some r → o ≡ Some r) → came_or id call a ≡ Some r → came_or id call o ≡ Some r
+came_stays : (id : ℕ) (r : HeardReply) (call : MuxCall) (a o : Option HeardReply) → (a ≡ Some r → o ≡ Some r) → came_or id call a ≡ Some r → came_or id call o ≡ Some r
 came_stays id r (Arrived i v) a o f q = stays_if (i == id) v r a o f q
 came_stays id r (Start by v) a o f q = f q
 came_stays id r (Cancel by i) a o f q = f q
@@ -71,11 +72,11 @@ came_stays id r (Await by i) a o f q = f q
 came_stays id r (Lost why) a o f q = f q
 came_stays id r (Left by) a o f q = f q
 
-first_stays : (id : ℕ) (r : Reply) (h more : History) → first_arrived id h ≡ Some r → first_arrived id (h ++ more) ≡ Some r
+first_stays : (id : ℕ) (r : HeardReply) (h more : History) → first_arrived id h ≡ Some r → first_arrived id (h ++ more) ≡ Some r
 first_stays id r [] more q = absurd (none-some r q)
 first_stays id r (d ∷ ds) more q = came_stays id r d.call (first_arrived id ds) (first_arrived id (ds ++ more)) (first_stays id r ds more) q
 
-pub after_stays : (id : ℕ) (r : Reply) (h more : History) → reply_after_start id h ≡ Some r → reply_after_start id (h ++ more) ≡ Some r
+pub after_stays : (id : ℕ) (r : HeardReply) (h more : History) → reply_after_start id h ≡ Some r → reply_after_start id (h ++ more) ≡ Some r
 after_stays id r [] more q = absurd (none-some r q)
 after_stays id r (d ∷ ds) more q = at (starts_as id d.call d.reply) q (after_stays id r ds more) where
   at : (b : Bool) → (if b then first_arrived id ds else reply_after_start id ds) ≡ Some r → (reply_after_start id ds ≡ Some r → reply_after_start id (ds ++ more) ≡ Some r)
@@ -84,7 +85,7 @@ after_stays id r (d ∷ ds) more q = at (starts_as id d.call d.reply) q (after_s
   at false q later = later q
 
 -- what a call does, by what arrived
-abbrev FitsReply : Doing → Option Reply → Type 0
+abbrev FitsReply : Doing → Option HeardReply → Type 0
 FitsReply Waiting o = o ≡ None
 FitsReply (Answered r) o = o ≡ Some r
 FitsReply Dropped o = Unit {0}
@@ -96,7 +97,7 @@ record Heard (h : History) (calls : List Called) : Type 0 where
   each : (id : ℕ) (c : Called) → call_at calls id ≡ Some c → IsHeard h id c.doing
   fresh : (id : ℕ) → length calls < id → begun id h ≡ false
 
-fits_quiet : (d : Doing) (o : Option Reply) → FitsReply d o → FitsReply d (or_else o None)
+fits_quiet : (d : Doing) (o : Option HeardReply) → FitsReply d o → FitsReply d (or_else o None)
 fits_quiet d o f = subst (FitsReply d) (sym (or_none o)) f
 
 -- no reply of this id arrives
@@ -106,9 +107,9 @@ heard_stays h e id d q k = (
   subst (FitsReply d) (sym (after_push id h e k.0 ∙ (ap (or_else (reply_after_start id h)) q ∙ or_none (reply_after_start id h)))) k.1,
 )
 
-fits_done : (d : Doing) (o b : Option Reply) (waits : d ≡ Waiting → ⊥) → FitsReply d o → FitsReply d (or_else o b)
+fits_done : (d : Doing) (o b : Option HeardReply) (waits : d ≡ Waiting → ⊥) → FitsReply d o → FitsReply d (or_else o b)
 fits_done Waiting o b w f = absurd (w refl)
-fits_done (Answered r) o b w f = ap (λ (z : Option Reply). or_else z b) f
+fits_done (Answered r) o b w f = ap (λ (z : Option HeardReply). or_else z b) f
 fits_done Dropped o b w f = tt
 
 -- or the call waits no more
@@ -119,10 +120,10 @@ heard_done h e id d w k = (
 )
 
 -- or it is its first
-heard_first : (h : History) (e : One) (id : ℕ) (r : Reply) → came_or id e.call None ≡ Some r → IsHeard h id Waiting → IsHeard (h ++ e ∷ []) id (Answered r)
+heard_first : (h : History) (e : One) (id : ℕ) (r : HeardReply) → came_or id e.call None ≡ Some r → IsHeard h id Waiting → IsHeard (h ++ e ∷ []) id (Answered r)
 heard_first h e id r q k = (
   push_grow (λ (y : One). starts_as id y.call y.reply) h e k.0,
-  after_push id h e k.0 ∙ (ap (λ (z : Option Reply). or_else z (came_or id e.call None)) k.1 ∙ q),
+  after_push id h e k.0 ∙ (ap (λ (z : Option HeardReply). or_else z (came_or id e.call None)) k.1 ∙ q),
 )
 
 fresh_step : (h : History) (e : One) (long long' : ℕ) → long ≤ long' → ((k : ℕ) → starts_as k e.call e.reply ≡ true → k ≤ long') → ((id : ℕ) → long < id → begun id h ≡ false)
@@ -199,20 +200,20 @@ await_step h m e by id (Some c) g p known = sets h e m.calls id c (record c { aw
     (heard_stays h e id c.doing (ap (λ (z : MuxCall). came_or id z None) p) (known.each id c g)) known
 await_step h m e by id None g p known = keeps h e m.calls (λ k. ap (λ (z : MuxCall). came_or k z None) p) (λ k. ap (λ (z : MuxCall). starts_as k z e.reply) p) known
 
-others : (e : One) (id : ℕ) (r : Reply) → e.call ≡ Arrived id r → (k : ℕ) → (k ≡ id → ⊥) → came_or k e.call None ≡ None
+others : (e : One) (id : ℕ) (r : HeardReply) → e.call ≡ Arrived id r → (k : ℕ) → (k ≡ id → ⊥) → came_or k e.call None ≡ None
 others e id r p k d = ap (λ (z : MuxCall). came_or k z None) p ∙ ap (λ (b : Bool). if b then Some r else None) (ne_eqb id k (λ q. d (sym q)))
 
-match_step : (h : History) (m : Mux) (e : One) (id : ℕ) (r : Reply) (c : Called) (d : Doing) → c.doing ≡ d → call_at m.calls id ≡ Some c → e.call ≡ Arrived id r → Heard h m.calls → Heard (h ++ e ∷ []) (matched m id r c d).0.calls
+match_step : (h : History) (m : Mux) (e : One) (id : ℕ) (r : HeardReply) (c : Called) (d : Doing) → c.doing ≡ d → call_at m.calls id ≡ Some c → e.call ≡ Arrived id r → Heard h m.calls → Heard (h ++ e ∷ []) (matched m id r c d).0.calls
 match_step h m e id r c Waiting w g p known = sets h e m.calls id c (record c { doing = Answered r }) g (others e id r p) (λ k. ap (λ (z : MuxCall). starts_as k z e.reply) p)
     (heard_first h e id r (ap (λ (z : MuxCall). came_or id z None) p ∙ ap (λ (b : Bool). if b then Some r else None) (eq-eqb id id refl)) (subst (IsHeard h id) w (known.each id c g))) known
 match_step h m e id r c (Answered v) w g p known = hears h e m.calls id (λ z f q. absurd (let s : z.doing ≡ c.doing = ap (λ (y : Called). y.doing) (same_Some z c (sym f ∙ g)) in answered v (sym w ∙ (sym s ∙ q)))) (others e id r p) (λ k. ap (λ (z : MuxCall). starts_as k z e.reply) p) known where
-  answered : (v : Reply) → Answered v ≡ Waiting → ⊥
+  answered : (v : HeardReply) → Answered v ≡ Waiting → ⊥
   answered v q = cc
 match_step h m e id r c Dropped w g p known = hears h e m.calls id (λ z f q. absurd (let s : z.doing ≡ c.doing = ap (λ (y : Called). y.doing) (same_Some z c (sym f ∙ g)) in dropped (sym w ∙ (sym s ∙ q)))) (others e id r p) (λ k. ap (λ (z : MuxCall). starts_as k z e.reply) p) known where
   dropped : Dropped ≡ Waiting → ⊥
   dropped q = cc
 
-arrive_step : (h : History) (m : Mux) (e : One) (id : ℕ) (r : Reply) (o : Option Called) → call_at m.calls id ≡ o → e.call ≡ Arrived id r → Heard h m.calls → Heard (h ++ e ∷ []) (arrived m id r o).0.calls
+arrive_step : (h : History) (m : Mux) (e : One) (id : ℕ) (r : HeardReply) (o : Option Called) → call_at m.calls id ≡ o → e.call ≡ Arrived id r → Heard h m.calls → Heard (h ++ e ∷ []) (arrived m id r o).0.calls
 arrive_step h m e id r (Some c) g p known = match_step h m e id r c c.doing refl g p known
 arrive_step h m e id r None g p known = hears h e m.calls id (λ z f q. none-some z (sym g ∙ f)) (others e id r p) (λ k. ap (λ (z : MuxCall). starts_as k z e.reply) p) known
 
@@ -237,24 +238,24 @@ no_calls = record {
 heard : (x : Mux) (h : History) → Opens x → IsLegal x h → Heard h (replay x h).calls
 heard x h o l = along_legal is_ready IsSound step (λ (h : History) (m : Mux). Heard h m.calls) (λ h m e k r s w. heard_step h m e e.call refl w k) [] h x (subst (Heard []) (sym o.uncalled) no_calls) l
 
-reply_is : (a b : Reply) → reply.Reply a ≡ reply.Reply b → a ≡ b
+reply_is : (a b : HeardReply) → reply.Reply a ≡ reply.Reply b → a ≡ b
 reply_is a b e = cc
 
-gone_not : (lost : Option Why) (r : Reply) → gone lost ≡ reply.Reply r → ⊥
+gone_not : (lost : Option Why) (r : HeardReply) → gone lost ≡ reply.Reply r → ⊥
 gone_not (Some w) r e = cc
 gone_not None r e = cc
 
-outcome_is : (lost : Option Why) (d : Doing) (r : Reply) → outcome lost d ≡ reply.Reply r → d ≡ Answered r
+outcome_is : (lost : Option Why) (d : Doing) (r : HeardReply) → outcome lost d ≡ reply.Reply r → d ≡ Answered r
 outcome_is lost (Answered v) r e = ap Answered (reply_is v r e)
 outcome_is lost Waiting r e = absurd (gone_not lost r e)
 outcome_is lost Dropped r e = absurd (gone_not lost r e)
 
-await_gets : (h : History) (m : Mux) (id : ℕ) (r : Reply) (o : Option Called) → call_at m.calls id ≡ o → (awaited m id o).1 ≡ reply.Reply r → Heard h m.calls → reply_after_start id h ≡ Some r
+await_gets : (h : History) (m : Mux) (id : ℕ) (r : HeardReply) (o : Option Called) → call_at m.calls id ≡ o → (awaited m id o).1 ≡ reply.Reply r → Heard h m.calls → reply_after_start id h ≡ Some r
 await_gets h m id r (Some c) g e known = (subst (IsHeard h id) (outcome_is m.lost c.doing r e) (known.each id c g)).1
 await_gets h m id r None g e known = absurd (gone_not m.lost r e)
 
 -- who is outcome a reply is outcome the first that arrived after the Start
-pub own_reply : (x : Mux) (before after : History) (e : One) (by id : ℕ) (r : Reply) → Opens x → IsLegal x (before ++ e ∷ after) → e.call ≡ Await by id → e.reply ≡ reply.Reply r → reply_after_start id before ≡ Some r
+pub own_reply : (x : Mux) (before after : History) (e : One) (by id : ℕ) (r : HeardReply) → Opens x → IsLegal x (before ++ e ∷ after) → e.call ≡ Await by id → e.reply ≡ reply.Reply r → reply_after_start id before ≡ Some r
 own_reply x before after e by id r o l c w = let m = replay x before in
     await_gets before m id r (call_at m.calls id) refl (ap (λ (z : MuxCall). (step m z).1) (sym c) ∙ (sym (answered_at is_ready IsSound step x before after e l) ∙ w)) (heard x before o (legal_prefix is_ready IsSound step x before (e ∷ after) l))
 
@@ -271,12 +272,12 @@ gone_has_none x before after e by id why o l c w = let m = replay x before in
     ap (λ (z : Option Called). (awaited m id z).1) (sym s.1) ∙ (ap (λ (z : MuxCall). (step m z).1) (sym c) ∙ (sym (answered_at is_ready IsSound step x before after e l) ∙ w)) in
     (subst (IsHeard before id) (gone_waits m.lost s.0.doing why s.4 q) ((heard x before o (legal_prefix is_ready IsSound step x before (e ∷ after) l)).each id s.0 s.1)).1
 
-match_stray : (h : History) (m : Mux) (id : ℕ) (r : Reply) (o : Option Called) → call_at m.calls id ≡ o → begun id h ≡ false → Heard h m.calls → (arrived m id r o).1 ≡ reply.Stray
+match_stray : (h : History) (m : Mux) (id : ℕ) (r : HeardReply) (o : Option Called) → call_at m.calls id ≡ o → begun id h ≡ false → Heard h m.calls → (arrived m id r o).1 ≡ reply.Stray
 match_stray h m id r (Some c) g b known = absurd (both_ways (begun id h) b (known.each id c g).0)
 match_stray h m id r None g b known = refl
 
 -- what arrives before the Start is stray
-pub early_is_stray : (x : Mux) (before after : History) (e : One) (id : ℕ) (r : Reply) → Opens x → IsLegal x (before ++ e ∷ after) → e.call ≡ Arrived id r → begun id before ≡ false → e.reply ≡ reply.Stray
+pub early_is_stray : (x : Mux) (before after : History) (e : One) (id : ℕ) (r : HeardReply) → Opens x → IsLegal x (before ++ e ∷ after) → e.call ≡ Arrived id r → begun id before ≡ false → e.reply ≡ reply.Stray
 early_is_stray x before after e id r o l c b = let m = replay x before in
     answered_at is_ready IsSound step x before after e l ∙ (ap (λ (z : MuxCall). (step m z).1) c ∙ match_stray before m id r (call_at m.calls id) refl b (heard x before o (legal_prefix is_ready IsSound step x before (e ∷ after) l)))
 

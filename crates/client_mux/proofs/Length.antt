@@ -7,7 +7,8 @@ use Rattle.std.proofs.lemmas.List.{length-append}
 use Rattle.std.proofs.lemmas.List.Sums.{sum_by_push}
 use Rattle.std.proofs.lemmas.Option.{slice_get_within}
 use Rattle.turn_cell.specs.History as history
-use Rattle.giop_messages.specs.Message.{Request, Reply}
+use Rattle.giop_messages.specs.Message.{Request}
+use Rattle.client_mux.specs.declared.heard_reply.HeardReply.{HeardReply}
 use Rattle.client_mux.specs.declared.why.Why.{Why}
 use Rattle.client_mux.specs.declared.call.MuxReply.{MuxReply}
 use Rattle.client_mux.specs.declared.call.MuxReply.TheVariants as reply
@@ -75,12 +76,12 @@ next_sent h m e None (Some s) g p w k = let l = slice_get_within m.sends m.sent 
 next_sent h m e None None g p w k = rests h m m e (by_both gives e Next reply.Finish p w) (by_both queues e Next reply.Finish p w) refl refl k
 next_sent h m e (Some why) o g p w k = rests h m m e (by_both gives e Next reply.Finish p w) (by_both queues e Next reply.Finish p w) refl refl k
 
-match_sends : (m : Mux) (id : ℕ) (r : Reply) (c : Called) (d : Doing) → ((matched m id r c d).0.sent ≡ m.sent) × ((matched m id r c d).0.sends ≡ m.sends)
+match_sends : (m : Mux) (id : ℕ) (r : HeardReply) (c : Called) (d : Doing) → ((matched m id r c d).0.sent ≡ m.sent) × ((matched m id r c d).0.sends ≡ m.sends)
 match_sends m id r c Waiting = (refl, refl)
 match_sends m id r c (Answered v) = (refl, refl)
 match_sends m id r c Dropped = (refl, refl)
 
-arrive_sends : (m : Mux) (id : ℕ) (r : Reply) (o : Option Called) → ((arrived m id r o).0.sent ≡ m.sent) × ((arrived m id r o).0.sends ≡ m.sends)
+arrive_sends : (m : Mux) (id : ℕ) (r : HeardReply) (o : Option Called) → ((arrived m id r o).0.sent ≡ m.sent) × ((arrived m id r o).0.sends ≡ m.sends)
 arrive_sends m id r (Some c) = match_sends m id r c c.doing
 arrive_sends m id r None = (refl, refl)
 

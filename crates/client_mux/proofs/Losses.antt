@@ -1,7 +1,8 @@
 -- Who finds the link lost gets the cause of the first loss.
 use Rattle.std.proofs.Common.{◌≡◌, ℕ, [], ◌∷◌, ◌++◌, Option, Some, None, sym, refl, ap, ◌∙◌}
 use Rattle.std.specs.Prelude.{slice_get}
-use Rattle.giop_messages.specs.Message.{Request, Reply}
+use Rattle.giop_messages.specs.Message.{Request}
+use Rattle.client_mux.specs.declared.heard_reply.HeardReply.{HeardReply}
 use Rattle.client_mux.specs.declared.why.Why.{Why}
 use Rattle.client_mux.specs.declared.call.MuxReply.TheVariants as reply
 use Rattle.client_mux.specs.declared.call.MuxCall.{MuxCall}
@@ -47,12 +48,12 @@ next_lost m None (Some s) = refl
 next_lost m None None = refl
 next_lost m (Some why) o = refl
 
-match_lost : (m : Mux) (id : ℕ) (r : Reply) (c : Called) (d : Doing) → (matched m id r c d).0.lost ≡ m.lost
+match_lost : (m : Mux) (id : ℕ) (r : HeardReply) (c : Called) (d : Doing) → (matched m id r c d).0.lost ≡ m.lost
 match_lost m id r c Waiting = refl
 match_lost m id r c (Answered v) = refl
 match_lost m id r c Dropped = refl
 
-arrive_lost : (m : Mux) (id : ℕ) (r : Reply) (o : Option Called) → (arrived m id r o).0.lost ≡ m.lost
+arrive_lost : (m : Mux) (id : ℕ) (r : HeardReply) (o : Option Called) → (arrived m id r o).0.lost ≡ m.lost
 arrive_lost m id r (Some c) = match_lost m id r c c.doing
 arrive_lost m id r None = refl
 
@@ -115,12 +116,12 @@ next_gone m None (Some s) why e = send_gone s why e
 next_gone m None None why e = cc
 next_gone m (Some w) o why e = cc
 
-match_gone : (m : Mux) (id : ℕ) (r : Reply) (c : Called) (d : Doing) (why : Why) → (matched m id r c d).1 ≡ reply.Gone why → ⊥
+match_gone : (m : Mux) (id : ℕ) (r : HeardReply) (c : Called) (d : Doing) (why : Why) → (matched m id r c d).1 ≡ reply.Gone why → ⊥
 match_gone m id r c Waiting why e = cc
 match_gone m id r c (Answered v) why e = cc
 match_gone m id r c Dropped why e = cc
 
-arrive_gone : (m : Mux) (id : ℕ) (r : Reply) (o : Option Called) (why : Why) → (arrived m id r o).1 ≡ reply.Gone why → ⊥
+arrive_gone : (m : Mux) (id : ℕ) (r : HeardReply) (o : Option Called) (why : Why) → (arrived m id r o).1 ≡ reply.Gone why → ⊥
 arrive_gone m id r (Some c) why e = match_gone m id r c c.doing why e
 arrive_gone m id r None why e = cc
 

@@ -4,7 +4,8 @@ use Rattle.std.specs.Prelude.{slice_get}
 use Rattle.std.specs.List.{sum_by}
 use Rattle.std.proofs.lemmas.List.{length-append}
 use Rattle.std.proofs.lemmas.List.Sums.{sum_by_push}
-use Rattle.giop_messages.specs.Message.{Request, Reply}
+use Rattle.giop_messages.specs.Message.{Request}
+use Rattle.client_mux.specs.declared.heard_reply.HeardReply.{HeardReply}
 use Rattle.client_mux.specs.declared.why.Why.{Why}
 use Rattle.client_mux.specs.declared.call.MuxReply.TheVariants as reply
 use Rattle.client_mux.specs.declared.call.MuxCall.{MuxCall}
@@ -35,12 +36,12 @@ cancel_calls : (m : Mux) (id : ℕ) (o : Option Called) → length (cancelled m 
 cancel_calls m id (Some c) = stop_calls m id c c.doing
 cancel_calls m id None = refl
 
-match_calls : (m : Mux) (id : ℕ) (r : Reply) (c : Called) (d : Doing) → length (matched m id r c d).0.calls ≡ length m.calls
+match_calls : (m : Mux) (id : ℕ) (r : HeardReply) (c : Called) (d : Doing) → length (matched m id r c d).0.calls ≡ length m.calls
 match_calls m id r c Waiting = length_set m.calls id (record c { doing = Answered r })
 match_calls m id r c (Answered v) = refl
 match_calls m id r c Dropped = refl
 
-arrive_calls : (m : Mux) (id : ℕ) (r : Reply) (o : Option Called) → length (arrived m id r o).0.calls ≡ length m.calls
+arrive_calls : (m : Mux) (id : ℕ) (r : HeardReply) (o : Option Called) → length (arrived m id r o).0.calls ≡ length m.calls
 arrive_calls m id r (Some c) = match_calls m id r c c.doing
 arrive_calls m id r None = refl
 

@@ -1,7 +1,7 @@
 -- What a history of the link says of the replies to calls and of the loss.
 use Rattle.std.specs.Prelude.{ℕ, ◌==◌, Bool, [], ◌∷◌, Option, Some, None, if◌then◌else◌}
 use Rattle.std.specs.List.{list_any}
-use Rattle.giop_messages.specs.Message.{Reply}
+use Rattle.client_mux.specs.declared.heard_reply.HeardReply.{HeardReply}
 use Rattle.turn_cell.specs.History as history
 use Rattle.client_mux.specs.declared.why.Why.{Why}
 use Rattle.client_mux.specs.declared.call.MuxCall.{MuxCall}
@@ -36,16 +36,16 @@ first_loss [] = None
 first_loss (e ∷ es) = loss_or e.call (first_loss es)
 
 -- the reply of this id that arrives, or else this
-abbrev pub came_or : ℕ → MuxCall → Option Reply → Option Reply
+abbrev pub came_or : ℕ → MuxCall → Option HeardReply → Option HeardReply
 came_or id (Arrived i r) o = if i == id then Some r else o
 came_or id call o = o
 
 -- the first reply of this id
-abbrev pub first_arrived : ℕ → History → Option Reply
+abbrev pub first_arrived : ℕ → History → Option HeardReply
 first_arrived id [] = None
 first_arrived id (e ∷ es) = came_or id e.call (first_arrived id es)
 
 -- the first reply of this id after its Start
-abbrev pub reply_after_start : ℕ → History → Option Reply
+abbrev pub reply_after_start : ℕ → History → Option HeardReply
 reply_after_start id [] = None
 reply_after_start id (e ∷ es) = if starts_as id e.call e.reply then first_arrived id es else reply_after_start id es

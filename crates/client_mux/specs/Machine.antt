@@ -1,7 +1,8 @@
 -- The machine of a link that several callers share: own profile.
 use Rattle.std.specs.Prelude.{◌≡◌, ◌≢◌, ◌≤◌, ◌+◌, ℕ, zero, suc, ◌==◌, ◌||◌, nat_lt, not, Bool, true, false, List, [], ◌∷◌, ◌++◌, length, Option, Some, None, is_some, slice_get, slice_set, Result, Ok, Err}
 use Rattle.std.specs.List.{list_any}
-use Rattle.giop_messages.specs.Message.{Request, Reply}
+use Rattle.giop_messages.specs.Message.{Request}
+use Rattle.client_mux.specs.declared.heard_reply.HeardReply.{HeardReply}
 use Rattle.turn_cell.specs.declared.entry.Entry.{Entry}
 use Rattle.client_mux.specs.declared.why.Why.{Why}
 use Rattle.client_mux.specs.declared.call.MuxCall.{MuxCall}
@@ -91,13 +92,13 @@ given m None None = (m, reply.Finish)
 given m (Some why) o = (m, reply.Finish)
 
 -- Arrived: a call of this id that waits has this reply
-abbrev pub matched : Mux → ℕ → Reply → Called → Doing → Mux × MuxReply
+abbrev pub matched : Mux → ℕ → HeardReply → Called → Doing → Mux × MuxReply
 matched m id r c Waiting = (put m id (record c { doing = Answered r }), reply.Matched)
 matched m id r c (Answered _) = (m, reply.Stray)
 matched m id r c Dropped = (m, reply.Stray)
 
 -- the same of a call that may not be there
-abbrev pub arrived : Mux → ℕ → Reply → Option Called → Mux × MuxReply
+abbrev pub arrived : Mux → ℕ → HeardReply → Option Called → Mux × MuxReply
 arrived m id r (Some c) = matched m id r c c.doing
 arrived m id r None = (m, reply.Stray)
 

@@ -6,7 +6,8 @@ use Rattle.std.proofs.lemmas.Bool.{cases_eq, cases_Bool, both_ways, eqb-true, an
 use Rattle.std.proofs.lemmas.List.{length-append}
 use Rattle.std.proofs.lemmas.Option.{none-some, same_Some}
 use Rattle.turn_cell.specs.History as history
-use Rattle.giop_messages.specs.Message.{Request, Reply}
+use Rattle.giop_messages.specs.Message.{Request}
+use Rattle.client_mux.specs.declared.heard_reply.HeardReply.{HeardReply}
 use Rattle.client_mux.specs.declared.why.Why.{Why}
 use Rattle.client_mux.specs.declared.call.MuxReply.{MuxReply}
 use Rattle.client_mux.specs.declared.call.MuxReply.TheVariants as reply
@@ -172,10 +173,10 @@ await_own h m e by id (Some c) g p f known = let w = known.owned e.caller id f i
 await_own h m e by id None g p f known = let w = known.owned e.caller id f in absurd (none-some w.0 (sym g ∙ w.1))
 
 -- a call that has its reply
-arrive_keeps : (h : History) (m : Mux) (e : One) (id : ℕ) (r : Reply) → e.call ≡ Arrived id r → CallsKnown h m.calls → CallsKnown (h ++ e ∷ []) m.calls
+arrive_keeps : (h : History) (m : Mux) (e : One) (id : ℕ) (r : HeardReply) → e.call ≡ Arrived id r → CallsKnown h m.calls → CallsKnown (h ++ e ∷ []) m.calls
 arrive_keeps h m e id r p known = keeps h e m.calls (no_cancel e (Arrived id r) p (λ k. refl)) (no_await e (Arrived id r) p (λ k. refl)) (λ i. ap (λ (z : MuxCall). starts_as i z e.reply) p) known
 
-match_step : (h : History) (m : Mux) (e : One) (id : ℕ) (r : Reply) (c : Called) (d : Doing) → call_at m.calls id ≡ Some c → e.call ≡ Arrived id r
+match_step : (h : History) (m : Mux) (e : One) (id : ℕ) (r : HeardReply) (c : Called) (d : Doing) → call_at m.calls id ≡ Some c → e.call ≡ Arrived id r
     → CallsKnown h m.calls → CallsKnown (h ++ e ∷ []) (matched m id r c d).0.calls
 match_step h m e id r c Waiting g p known = sets h e m.calls id c (record c { doing = Answered r }) g refl
     (λ i d. (ap (cancels i) p, ap (awaits i) p)) (λ i. ap (λ (z : MuxCall). starts_as i z e.reply) p)
@@ -183,7 +184,7 @@ match_step h m e id r c Waiting g p known = sets h e m.calls id c (record c { do
 match_step h m e id r c (Answered v) g p known = arrive_keeps h m e id r p known
 match_step h m e id r c Dropped g p known = arrive_keeps h m e id r p known
 
-arrive_step : (h : History) (m : Mux) (e : One) (id : ℕ) (r : Reply) (o : Option Called) → call_at m.calls id ≡ o → e.call ≡ Arrived id r
+arrive_step : (h : History) (m : Mux) (e : One) (id : ℕ) (r : HeardReply) (o : Option Called) → call_at m.calls id ≡ o → e.call ≡ Arrived id r
     → CallsKnown h m.calls → CallsKnown (h ++ e ∷ []) (arrived m id r o).0.calls
 arrive_step h m e id r (Some c) g p known = match_step h m e id r c c.doing g p known
 arrive_step h m e id r None g p known = arrive_keeps h m e id r p known
@@ -229,12 +230,12 @@ next_left m None (Some s) = refl
 next_left m None None = refl
 next_left m (Some why) o = refl
 
-pub match_left : (m : Mux) (id : ℕ) (r : Reply) (c : Called) (d : Doing) → (matched m id r c d).0.left ≡ m.left
+pub match_left : (m : Mux) (id : ℕ) (r : HeardReply) (c : Called) (d : Doing) → (matched m id r c d).0.left ≡ m.left
 match_left m id r c Waiting = refl
 match_left m id r c (Answered v) = refl
 match_left m id r c Dropped = refl
 
-pub arrive_left : (m : Mux) (id : ℕ) (r : Reply) (o : Option Called) → (arrived m id r o).0.left ≡ m.left
+pub arrive_left : (m : Mux) (id : ℕ) (r : HeardReply) (o : Option Called) → (arrived m id r o).0.left ≡ m.left
 arrive_left m id r (Some c) = match_left m id r c c.doing
 arrive_left m id r None = refl
 

@@ -1,7 +1,8 @@
 //! The calls of the link machine and their replies.
 
 use crate::why::Why;
-use giop_messages::{Reply, Request};
+use crate::heard_reply::HeardReply;
+use giop_messages::Request;
 use orb_base::Arc;
 
 /// A call of the link machine. Callers are named by the numbers of their seats.
@@ -14,7 +15,7 @@ pub enum MuxCall {
     /// The writer asks what to send.
     Next,
     /// A reply of this id was read.
-    Arrived { id: u32, reply: Arc<Reply> },
+    Arrived { id: u32, reply: Arc<HeardReply> },
     /// A caller waits for the reply of a call.
     Await { by: u32, id: u32 },
     /// The link is lost.
@@ -45,7 +46,7 @@ pub enum MuxReply {
     /// No call of the reply's id waits.
     Stray,
     /// The call's reply.
-    Reply(Arc<Reply>),
+    Reply(Arc<HeardReply>),
     /// It was noted.
     Noted,
 }

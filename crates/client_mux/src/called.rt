@@ -1,6 +1,7 @@
 //! What the link machine keeps of its calls.
 
-use giop_messages::{Reply, Request};
+use crate::heard_reply::HeardReply;
+use giop_messages::Request;
 use orb_base::Arc;
 
 /// Where a call is.
@@ -9,7 +10,7 @@ pub enum Doing {
     /// No reply came yet.
     Waiting,
     /// Its reply came.
-    Answered(Arc<Reply>),
+    Answered(Arc<HeardReply>),
     /// It was cancelled before its reply came.
     Dropped,
 }

@@ -1,7 +1,8 @@
 //! Laws of the link machine, over whole histories from an opening on. The bodies are empty: each contract is a law of the
 //! definitions.
 ghost use Rattle.std.specs.Prelude.{◌≡◌, ◌<◌, ◌≤◌, ◌∷◌, ◌++◌, ℕ, true, false, Some, None, length};
-ghost use Rattle.giop_messages.specs.Message.{Request, Reply};
+ghost use Rattle.giop_messages.specs.Message.{Request};
+ghost use Rattle.client_mux.specs.declared.heard_reply.HeardReply.{HeardReply};
 ghost use Rattle.turn_cell.specs.Numbers.{Injects, NotFirst};
 ghost use Rattle.client_mux.specs.declared.limits.TheConstants.{MAX_CALLERS, MAX_CALLS, MAX_SENDS, MAX_ENTRIES};
 ghost use Rattle.client_mux.specs.declared.why.Why.{Why};
@@ -38,13 +39,13 @@ pub fn entries_suffice()
 /// gone has no reply there. What arrived of an id before its Start is stray. No id is given twice, and none is two callers' own.
 #[tactic(auto, using(crate::proofs::FirstReply::own_reply, crate::proofs::FirstReply::gone_has_none, crate::proofs::FirstReply::after_stays, crate::proofs::FirstReply::early_is_stray, crate::proofs::FirstReply::new_id, crate::specs::SeatLaws::one_owner))]
 pub fn own_reply_is_first()
-    ensures first { (x : Mux) (before after : History) (e : One) (by id : ℕ) (r : Reply) → Opens x → IsLegal x (before ++ e ∷ after)
+    ensures first { (x : Mux) (before after : History) (e : One) (by id : ℕ) (r : HeardReply) → Opens x → IsLegal x (before ++ e ∷ after)
         → e.call ≡ call.Await by id → e.reply ≡ reply.Reply r → reply_after_start id before ≡ Some r }
-    ensures stays { (id : ℕ) (r : Reply) (before more : History) → reply_after_start id before ≡ Some r
+    ensures stays { (id : ℕ) (r : HeardReply) (before more : History) → reply_after_start id before ≡ Some r
         → reply_after_start id (before ++ more) ≡ Some r }
     ensures none { (x : Mux) (before after : History) (e : One) (by id : ℕ) (why : Why) → Opens x → IsLegal x (before ++ e ∷ after)
         → e.call ≡ call.Await by id → e.reply ≡ reply.Gone why → reply_after_start id before ≡ None }
-    ensures stray { (x : Mux) (before after : History) (e : One) (id : ℕ) (r : Reply) → Opens x → IsLegal x (before ++ e ∷ after)
+    ensures stray { (x : Mux) (before after : History) (e : One) (id : ℕ) (r : HeardReply) → Opens x → IsLegal x (before ++ e ∷ after)
         → e.call ≡ call.Arrived id r → begun id before ≡ false → e.reply ≡ reply.Stray }
     ensures new { (x : Mux) (before after : History) (e : One) (by : ℕ) (q : Request) (id : ℕ) → Opens x
         → IsLegal x (before ++ e ∷ after) → e.call ≡ call.Start by q → e.reply ≡ reply.Id id → begun id before ≡ false }

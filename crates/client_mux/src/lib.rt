@@ -5,6 +5,7 @@
 
 mod call;
 mod called;
+mod heard_reply;
 mod laws;
 pub mod limits;
 mod mux_cell;
@@ -12,6 +13,7 @@ mod why;
 
 pub use call::{MuxCall, MuxReply};
 pub use called::{Called, Doing, Sending};
+pub use heard_reply::HeardReply;
 pub use laws::{
     entries_suffice, first_loss_counts, fit_is_sound, own_reply_is_first, rooms_suffice,
     seats_are_one_tree,

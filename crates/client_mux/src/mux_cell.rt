@@ -8,7 +8,8 @@ use crate::called::{Called, Doing, Sending};
 use crate::limits::{MAX_CALLERS, MAX_CALLS, MAX_SEATS, MAX_SENDS};
 use crate::why::Why;
 use flat_seats::flat_heir;
-use giop_messages::{Reply, Request};
+use crate::heard_reply::HeardReply;
+use giop_messages::Request;
 use orb_base::{Arc, NoMemory};
 use std::alloc::Global;
 use std::marker::Model;
@@ -229,7 +230,7 @@ impl MuxCell {
     }
 
     /// A reply was read.
-    fn arrive(&mut self, id: u32, reply: &Arc<Reply>) -> Result<(MuxReply, MuxReply), NoMemory>
+    fn arrive(&mut self, id: u32, reply: &Arc<HeardReply>) -> Result<(MuxReply, MuxReply), NoMemory>
         ensures { Steps self.old (arrived self.old id reply.now (call_at self.old.calls id)) self.new result }
     {
         match self.place_of(id) {
@@ -243,7 +244,7 @@ impl MuxCell {
         &mut self,
         id: u32,
         at: usize,
-        reply: &Arc<Reply>,
+        reply: &Arc<HeardReply>,
     ) -> Result<(MuxReply, MuxReply), NoMemory>
         requires id { id ≡ at + 1 }
         requires within { at < length self.old.calls }

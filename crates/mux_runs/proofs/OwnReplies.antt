@@ -1,7 +1,7 @@
 -- What came of a call, by the whole history.
 use Rattle.std.proofs.Common.{◌≡◌, ℕ, Bool, true, false, ◌==◌, ◌+◌, List, [], ◌∷◌, ◌++◌, Option, Some, inl, inr, if◌then◌else◌, refl, ap, ◌∙◌, subst, eq-eqb}
 use Rattle.std.proofs.lemmas.Bool.{or_left}
-use Rattle.giop_messages.specs.Message.{Reply}
+use Rattle.client_mux.specs.declared.heard_reply.HeardReply.{HeardReply}
 use Rattle.client_mux.specs.declared.why.Why.{Why}
 use Rattle.client_mux.specs.declared.call.MuxCall.{MuxCall}
 use Rattle.client_mux.specs.declared.call.MuxCall.TheVariants.{Start, Cancel, Next, Arrived, Await, Lost, Left}
@@ -61,7 +61,7 @@ loss_stays [] more why e = absurd (cc)
 loss_stays (d ∷ ds) more why e = loss_by d.call (first_loss ds) (first_loss (ds ++ more)) why (loss_stays ds more why) e
 
 module _ (x : Mux) (h : History) (o : Opens x) (l : IsLegal x h) where
-  got : (by id : ℕ) (r : Reply) → At h (await_of by id (reply.Reply r)) → reply_after_start id h ≡ Some r
+  got : (by id : ℕ) (r : HeardReply) → At h (await_of by id (reply.Reply r)) → reply_after_start id h ≡ Some r
   got by id r a =
       let e : One = await_of by id (reply.Reply r) in
       ap (reply_after_start id) a.parts

@@ -1,7 +1,7 @@
 -- A run of several callers over one link: own profile.
 use Rattle.std.specs.Prelude.{◌≡◌, ℕ, ◌+◌, true, List, [], ◌∷◌, ◌++◌, Some}
 use Rattle.orb_base.specs.Outside.{SourceState, SinkState}
-use Rattle.giop_messages.specs.Message.{Reply}
+use Rattle.client_mux.specs.declared.heard_reply.HeardReply.{HeardReply}
 use Rattle.turn_cell.specs.Good.{entry}
 use Rattle.client_mux.specs.declared.why.Why.{Why}
 use Rattle.client_mux.specs.declared.call.MuxCall.TheVariants.{Lost}
@@ -40,7 +40,7 @@ pub record SentIn (h : History) (number : ℕ) (end : WriterEnd) (from to : Sink
 
 -- the entries of the reader are the replies of the bytes that it read, in order, and at last why the link is lost
 pub record HeardIn (h : History) (number : ℕ) (why : Why) (from to : SourceState) : Type 0 where
-  pub replies : List Reply
+  pub replies : List HeardReply
   pub hears : HearsReplies why replies from to
   pub entries : History
   pub arrived : AreArrived number replies entries

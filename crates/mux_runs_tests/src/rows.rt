@@ -74,7 +74,7 @@ fn told(ends: &[CallEnd]) -> Option<(usize, Option<Why>)> {
     for end in ends {
         match end {
             CallEnd::Reply(reply) => {
-                let reply = reply.get();
+                let reply = &reply.get().reply;
                 let body = reply.body.as_slice();
                 if body.len() != 1 || u32::from(body[0]) != reply.id || reply.id > 9 {
                     return None;

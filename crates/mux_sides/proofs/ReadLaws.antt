@@ -8,7 +8,7 @@ use Rattle.orb_base.specs.declared.limits.TheConstants.{MAX_MESSAGE}
 use Rattle.giop_frames.proofs.Grows.{nothing_said}
 use Rattle.giop_frames.specs.Messages as Frames
 use Rattle.giop_frames.specs.Stream.{Said, stream}
-use Rattle.giop_messages.specs.Message.{Reply}
+use Rattle.client_mux.specs.declared.heard_reply.HeardReply.{HeardReply}
 use Rattle.heard_messages.specs.Hearers.{IsGoing, IsNew}
 use Rattle.heard_messages.specs.Hearing.{Hears, nothing}
 use Rattle.heard_messages.specs.ReadEnds.{input_end, read_end, decided, IsByBytes}
@@ -125,7 +125,7 @@ rose_later : (before mid after : ℕ) → mid ≡ before → Rose mid after → 
 rose_later before mid after same rose = subst (λ (n : ℕ). Rose n after) same rose
 
 -- all replies, by why the link is lost
-carry_by : (end : ReadEnd) (came : Why) (earlier bytes : List ℕ) (ended : Bool) (replies : List Reply) → came ≡ why_of end → CarryAll (why_of end) bytes ended replies
+carry_by : (end : ReadEnd) (came : Why) (earlier bytes : List ℕ) (ended : Bool) (replies : List HeardReply) → came ≡ why_of end → CarryAll (why_of end) bytes ended replies
     → CarryBy came earlier bytes ended replies
 carry_by end came earlier bytes ended replies is all = subst (λ (w : Why). CarryBy w earlier bytes ended replies) (sym is) (go end all) where
   go : (e : ReadEnd) → CarryAll (why_of e) bytes ended replies → CarryBy (why_of e) earlier bytes ended replies
@@ -154,18 +154,18 @@ read_start cell h from a new reads loses = record {
   gave = subst (λ (b : List ℕ). Gave b from from) (sym new.none_fed) (gave_start from);
   taken_is = sym (ap length new.none_fed);
   few = omega (arith, ap length new.none_fed);
-  arrives = subst (λ (rs : List Reply). Arrives cell rs 0 0 a a) (sym new.none_given) (arrives_none cell 0 a (omega arith) reads loses);
+  arrives = subst (λ (rs : List HeardReply). Arrives cell rs 0 0 a a) (sym new.none_given) (arrives_none cell 0 a (omega arith) reads loses);
   below = omega arith;
   reads = refl;
   no_end = refl;
 }
 
 -- where not as many arrived as may, all of a piece did
-all_put : (cell : CellView Mux) (all : List Reply) (before after : ℕ) (old new : Sitting) → after < MAX_ARRIVALS → Puts cell all before after old new → Arrives cell all before after old new
+all_put : (cell : CellView Mux) (all : List HeardReply) (before after : ℕ) (old new : Sitting) → after < MAX_ARRIVALS → Puts cell all before after old new → Arrives cell all before after old new
 all_put cell all before after old new less x =
-    subst (λ (rs : List Reply). Arrives cell rs before after old new) (sym (x.parts ∙ ap (λ (z : List Reply). x.put ++ z) (x.whole less) ∙ append-nil x.put)) x.arrives
+    subst (λ (rs : List HeardReply). Arrives cell rs before after old new) (sym (x.parts ∙ ap (λ (z : List HeardReply). x.put ++ z) (x.whole less) ∙ append-nil x.put)) x.arrives
 
-count_of : (cell : CellView Mux) (rs : List Reply) (count : ℕ) (old new : Sitting) → Arrives cell rs 0 count old new → count ≡ length rs
+count_of : (cell : CellView Mux) (rs : List HeardReply) (count : ℕ) (old new : Sitting) → Arrives cell rs 0 count old new → count ≡ length rs
 count_of cell rs count old new x = let c = x.counted in omega arith
 
 pub read_more : (cell : CellView Mux) (h h' : Hearer) (taken taken' : ℕ) (from mid to : SourceState) (old : Sitting) (now new : Sitting × ℕ) (piece : List ℕ)
@@ -178,7 +178,7 @@ read_more cell h h' taken taken' from mid to old now new piece x got one =
       gave = subst (λ (b : List ℕ). Gave b from to) (sym fed) got.gave;
       taken_is = got.count_is ∙ sym (ap length fed);
       few = omega (arith, got.few, ap length fed);
-      arrives = subst (λ (rs : List Reply). Arrives cell rs 0 new.1 old new.0) (sym one.0.feeds.calls_are)
+      arrives = subst (λ (rs : List HeardReply). Arrives cell rs 0 new.1 old new.0) (sym one.0.feeds.calls_are)
           (arrives_then cell h.calls one.0.replies 0 now.1 new.1 old now.0 new.0 x.arrives (all_put cell one.0.replies now.1 new.1 now.0 new.0 one.1 one.0.puts));
       below = one.1;
       reads = got.reads;
@@ -194,11 +194,11 @@ module _ (cell : CellView Mux) (h h' : Hearer) (taken taken' : ℕ) (from mid to
     (x : ReadSoFar cell h taken now.1 from mid old now.0) (got : TookOn h.framer.fed piece taken' from to) where
   ended_with : (came : Why) (end : ReadEnd) → came ≡ why_of end → new.1 < MAX_ARRIVALS → FeedsAndPuts cell h h' piece (Some end) now new → Reads cell came old new.0 from to
   ended_with came end is less one =
-      let all : List Reply = h.calls ++ one.replies in
+      let all : List HeardReply = h.calls ++ one.replies in
       let arrives : Arrives cell all 0 new.1 old new.0 =
       arrives_then cell h.calls one.replies 0 now.1 new.1 old now.0 new.0 x.arrives (all_put cell one.replies now.1 new.1 now.0 new.0 less one.puts) in
       let count = count_of cell all new.1 old new.0 arrives in
-      let heard : Carry h'.framer.fed all (Some end) = subst (λ (rs : List Reply). Carry h'.framer.fed rs (Some end)) one.feeds.calls_are one.feeds.heard in
+      let heard : Carry h'.framer.fed all (Some end) = subst (λ (rs : List HeardReply). Carry h'.framer.fed rs (Some end)) one.feeds.calls_are one.feeds.heard in
       record {
         replies = all;
         count = new.1;
@@ -218,11 +218,11 @@ module _ (cell : CellView Mux) (h h' : Hearer) (taken taken' : ℕ) (from mid to
 
   full_with : (ending : Option ReadEnd) → MAX_ARRIVALS ≤ new.1 → FeedsAndPuts cell h h' piece ending now new → Reads cell why.Limit old new.0 from to
   full_with ending full one =
-      let all : List Reply = h.calls ++ one.puts.put in
+      let all : List HeardReply = h.calls ++ one.puts.put in
       let arrives : Arrives cell all 0 new.1 old new.0 = arrives_then cell h.calls one.puts.put 0 now.1 new.1 old now.0 new.0 x.arrives one.puts.arrives in
       let count = count_of cell all new.1 old new.0 arrives in
       let parts : h'.calls ≡ all ++ one.puts.rest =
-      one.feeds.calls_are ∙ ap (λ (z : List Reply). h.calls ++ z) one.puts.parts ∙ sym (append_assoc h.calls one.puts.put one.puts.rest) in
+      one.feeds.calls_are ∙ ap (λ (z : List HeardReply). h.calls ++ z) one.puts.parts ∙ sym (append_assoc h.calls one.puts.put one.puts.rest) in
       record {
         replies = all;
         count = new.1;
@@ -234,7 +234,7 @@ module _ (cell : CellView Mux) (h h' : Hearer) (taken taken' : ℕ) (from mid to
           carry = inr (
             refl,
             (let c = count in let f = arrives.few in omega arith),
-            (one.puts.rest, ending, subst (λ (rs : List Reply). Carry h'.framer.fed rs ending) parts one.feeds.heard),
+            (one.puts.rest, ending, subst (λ (rs : List HeardReply). Carry h'.framer.fed rs ending) parts one.feeds.heard),
           );
           faults = got.reads;
           before = h.calls;

@@ -2,7 +2,8 @@
 use Rattle.std.proofs.Common.{◌≡◌, ℕ, List, [], ◌∷◌, ◌++◌, Option, Some, None, inl, inr, refl, sym, ap, ◌∙◌, subst}
 use Rattle.std.specs.Prelude.{slice_get}
 use Rattle.std.proofs.lemmas.Option.{none-some}
-use Rattle.giop_messages.specs.Message.{Request, Reply}
+use Rattle.giop_messages.specs.Message.{Request}
+use Rattle.client_mux.specs.declared.heard_reply.HeardReply.{HeardReply}
 use Rattle.turn_cell.specs.History as history
 use Rattle.turn_cell.specs.Seats.{CellView}
 use Rattle.turn_cell.specs.Good.{entry}
@@ -55,12 +56,12 @@ give_short m None (Some s) a = a
 give_short m None None a = a
 give_short m (Some why) o a = a
 
-match_short : (m : Mux) (id : ℕ) (r : Reply) (c : Called) (d : Doing) → AreShort m.sends → AreShort (matched m id r c d).0.sends
+match_short : (m : Mux) (id : ℕ) (r : HeardReply) (c : Called) (d : Doing) → AreShort m.sends → AreShort (matched m id r c d).0.sends
 match_short m id r c Waiting a = a
 match_short m id r c (Answered v) a = a
 match_short m id r c Dropped a = a
 
-arrive_short : (m : Mux) (id : ℕ) (r : Reply) (o : Option Called) → AreShort m.sends → AreShort (arrived m id r o).0.sends
+arrive_short : (m : Mux) (id : ℕ) (r : HeardReply) (o : Option Called) → AreShort m.sends → AreShort (arrived m id r o).0.sends
 arrive_short m id r (Some c) a = match_short m id r c c.doing a
 arrive_short m id r None a = a
 

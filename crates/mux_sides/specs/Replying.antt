@@ -3,7 +3,8 @@
 use Rattle.std.specs.Prelude.{◌≡◌, ◌⊎◌, ◌≤◌, ◌<◌, ◌+◌, ℕ, Bool, false, List, [], ◌∷◌, ◌++◌, length, Option, Some, None}
 use Rattle.orb_base.specs.Outside.{SourceState, Rose}
 use Rattle.orb_base.specs.declared.order.Order.{Order}
-use Rattle.giop_messages.specs.Message.{Reply, Message, request, reply, cancel, locate, located, close, error}
+use Rattle.giop_messages.specs.Message.{Message, request, reply, cancel, locate, located, close, error}
+use Rattle.client_mux.specs.declared.heard_reply.HeardReply.{HeardReply}
 use Rattle.giop_messages.specs.declared.refused.Fault.TheVariants.{WrongWay}
 use Rattle.heard_messages.specs.Hearers as Hearers
 use Rattle.heard_messages.specs.Hearers.{FeedsOn}
@@ -34,30 +35,30 @@ use Rattle.mux_sides.specs.declared.judge.LinkJudge.{LinkJudge}
 abbrev pub first : LinkJudge → Unit {0}
 first judge = tt
 
--- a message: each reply goes to the link, answers to LocateRequests are passed over, and requests come the wrong way
-abbrev pub meaning : Message → Means (Unit {0}) Reply
-meaning (reply r) = Goes tt (Some r)
-meaning (located l) = Goes tt None
-meaning (request r) = Breaks WrongWay
-meaning (cancel id) = Breaks WrongWay
-meaning (locate l) = Breaks WrongWay
-meaning close = Ends
-meaning error = Ends
+-- a message of this byte order: each reply goes to the link with the order, answers to LocateRequests are passed over, and requests come the wrong way
+abbrev pub meaning : Order → Message → Means (Unit {0}) HeardReply
+meaning order (reply r) = Goes tt (Some (record { order = order; reply = r }))
+meaning order (located l) = Goes tt None
+meaning order (request r) = Breaks WrongWay
+meaning order (cancel id) = Breaks WrongWay
+meaning order (locate l) = Breaks WrongWay
+meaning order close = Ends
+meaning order error = Ends
 
 -- the same as a judge says it
-abbrev pub says : Unit {0} → ℕ → Order → ℕ → Message → Means (Unit {0}) Reply → Type 0
-says settled serial order size message x = x ≡ meaning message
+abbrev pub says : Unit {0} → ℕ → Order → ℕ → Message → Means (Unit {0}) HeardReply → Type 0
+says settled serial order size message x = x ≡ meaning order message
 
 -- the same of the judge of a link, which keeps nothing
-abbrev pub means : LinkJudge → Unit {0} → ℕ → Order → ℕ → Message → Means (Unit {0}) Reply → Type 0
+abbrev pub means : LinkJudge → Unit {0} → ℕ → Order → ℕ → Message → Means (Unit {0}) HeardReply → Type 0
 means judge = says
 
 -- the reading side of a link
 abbrev pub Hearer : Type 0
-Hearer = Hearers.Hearer LinkJudge (Unit {0}) Reply
+Hearer = Hearers.Hearer LinkJudge (Unit {0}) HeardReply
 
 -- the bytes carry these replies, and end the reading so, if they do
-abbrev pub Carry : List ℕ → List Reply → Option ReadEnd → Type 0
+abbrev pub Carry : List ℕ → List HeardReply → Option ReadEnd → Type 0
 Carry bytes replies ending = HeardBy says tt bytes replies ending
 
 -- why the link is lost where the reading came out so
@@ -69,14 +70,14 @@ why_of end.Spent = why.Limit
 why_of end.ReadFault = why.ReadFault
 
 -- the entries are the Arrived of these replies, in order, each with its own id, however they were answered
-abbrev pub AreArrived : ℕ → List Reply → History → Type 0
+abbrev pub AreArrived : ℕ → List HeardReply → History → Type 0
 AreArrived number [] [] = Unit {0}
 AreArrived number [] (e ∷ es) = ⊥
 AreArrived number (r ∷ rs) [] = ⊥
-AreArrived number (r ∷ rs) (e ∷ es) = ((p : Placed) × (e ≡ entry number (Arrived r.id r) (placed_reply p))) × AreArrived number rs es
+AreArrived number (r ∷ rs) (e ∷ es) = ((p : Placed) × (e ≡ entry number (Arrived r.reply.id r) (placed_reply p))) × AreArrived number rs es
 
 -- by the reader's seat these replies were said to have arrived, after so many others, and now they are so many
-pub record Arrives (cell : CellView Mux) (replies : List Reply) (before after : ℕ) (old new : Sitting) : Type 0 where
+pub record Arrives (cell : CellView Mux) (replies : List HeardReply) (before after : ℕ) (old new : Sitting) : Type 0 where
   pub entries : History
   pub arrived : AreArrived old.number replies entries
   pub entered : Enters entries old new
@@ -86,16 +87,16 @@ pub record Arrives (cell : CellView Mux) (replies : List Reply) (before after : 
   pub loses : CanLose cell new
 
 -- of these replies so many as there was room for were said to have arrived
-pub record Puts (cell : CellView Mux) (all : List Reply) (before after : ℕ) (old new : Sitting) : Type 0 where
-  pub put : List Reply
-  pub rest : List Reply
+pub record Puts (cell : CellView Mux) (all : List HeardReply) (before after : ℕ) (old new : Sitting) : Type 0 where
+  pub put : List HeardReply
+  pub rest : List HeardReply
   pub parts : all ≡ put ++ rest
   pub arrives : Arrives cell put before after old new
   pub whole : after < MAX_ARRIVALS → rest ≡ []
 
 -- one piece more was heard, with this ending, and of its replies so many as there was room for were said to have arrived
 pub record FeedsAndPuts (cell : CellView Mux) (h h' : Hearer) (piece : List ℕ) (ending : Option ReadEnd) (old new : Sitting × ℕ) : Type 0 where
-  pub replies : List Reply
+  pub replies : List HeardReply
   pub feeds : FeedsOn first means h h' piece replies ending
   pub puts : Puts cell replies old.1 new.1 old.0 new.0
 
@@ -130,17 +131,17 @@ pub record TakesBytes (old new : SourceState) (earlier bytes : List ℕ) (ended 
   pub met : MeetsEnd ended old new
 
 -- these are all replies of the bytes up to what ended the reading, fewer than may come, and the link is lost for that
-abbrev pub CarryAll : Why → List ℕ → Bool → List Reply → Type 0
+abbrev pub CarryAll : Why → List ℕ → Bool → List HeardReply → Type 0
 CarryAll came bytes ended replies =
     (e : ReadEnd) × (came ≡ why_of e) × HearsStream says tt bytes ended replies e × (length replies < MAX_ARRIVALS)
 
 -- as many replies came as may come, and whatever is after them isn't looked at
-abbrev pub CarryMost : List ℕ → Bool → List Reply → Type 0
+abbrev pub CarryMost : List ℕ → Bool → List HeardReply → Type 0
 CarryMost bytes ended replies =
-    (ended ≡ false) × (length replies ≡ MAX_ARRIVALS) × ((later : List Reply) × (ending : Option ReadEnd) × Carry bytes (replies ++ later) ending)
+    (ended ≡ false) × (length replies ≡ MAX_ARRIVALS) × ((later : List HeardReply) × (ending : Option ReadEnd) × Carry bytes (replies ++ later) ending)
 
 -- the replies, by why the link is lost; out of memory they are those of the earlier bytes
-abbrev pub CarryBy : Why → List ℕ → List ℕ → Bool → List Reply → Type 0
+abbrev pub CarryBy : Why → List ℕ → List ℕ → Bool → List HeardReply → Type 0
 CarryBy why.Closed earlier bytes ended replies = CarryAll why.Closed bytes ended replies
 CarryBy (why.Refused offset fault) earlier bytes ended replies = CarryAll (why.Refused offset fault) bytes ended replies
 CarryBy why.Limit earlier bytes ended replies = CarryAll why.Limit bytes ended replies ⊎ CarryMost bytes ended replies
@@ -159,19 +160,19 @@ FaultsBy why.NoMemory old new = new.faults ≡ old.faults
 
 -- some bytes were taken, which carry these replies up to what the link is lost for; it was right to read on after the earlier bytes, since
 -- nothing in them ended the reading
-pub record HearsReplies (came : Why) (replies : List Reply) (old new : SourceState) : Type 0 where
+pub record HearsReplies (came : Why) (replies : List HeardReply) (old new : SourceState) : Type 0 where
   pub earlier : List ℕ
   pub bytes : List ℕ
   pub ended : Bool
   pub takes : TakesBytes old new earlier bytes ended
   pub carry : CarryBy came earlier bytes ended replies
   pub faults : FaultsBy came old new
-  pub before : List Reply
+  pub before : List HeardReply
   pub went_on : Carry earlier before None × (length before < MAX_ARRIVALS)
 
 -- the same, and these replies were said to have arrived, in order
 pub record Reads (cell : CellView Mux) (came : Why) (old new : Sitting) (from to : SourceState) : Type 0 where
-  pub replies : List Reply
+  pub replies : List HeardReply
   pub count : ℕ
   pub hears : HearsReplies came replies from to
   pub arrives : Arrives cell replies 0 count old new
@@ -179,7 +180,7 @@ pub record Reads (cell : CellView Mux) (came : Why) (old new : Sitting) (from to
 -- the reader of a link: by its seat the replies of the bytes that it read were said to have arrived, in order, and at last why the link is
 -- lost
 pub record ReadsSide (came : Why) (old new : Sitting) (from to : SourceState) : Type 0 where
-  pub replies : List Reply
+  pub replies : List HeardReply
   pub hears : HearsReplies came replies from to
   pub entries : History
   pub arrived : AreArrived old.number replies entries

@@ -5,7 +5,8 @@ ghost use Rattle.shared_link.specs.Roles.{CanCall, CanAwait};
 ghost use Rattle.mux_sides.specs.Calling as Spec;
 
 use client_mux::Why;
-use giop_messages::{Reply, Request};
+use client_mux::HeardReply;
+use giop_messages::Request;
 use orb_base::Arc;
 use shared_link::{MuxSeat, Shared, Started, Waited};
 use std::sync::Wait;
@@ -14,7 +15,7 @@ use std::sync::Wait;
 #[derive(Debug, Drop)]
 pub enum CallEnd {
     /// Its reply: the first of its own id after its start.
-    Reply(Arc<Reply>),
+    Reply(Arc<HeardReply>),
     /// The link is lost, for this cause, and there is no reply.
     Gone(Why),
     /// It was started, and no reply is due.

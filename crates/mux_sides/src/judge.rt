@@ -5,6 +5,7 @@ ghost use Rattle.cdr_core.specs.Lists.{listed, context_of};
 ghost use Rattle.mux_sides.specs.Replying as Spec;
 
 use cdr_core::{Reader, take_list};
+use client_mux::HeardReply;
 use giop_messages::{Fault, Parts, Reply};
 use heard_messages::{Judge, Means};
 use orb_base::{Arc, Context, List, NoMemory, Octets, Order};
@@ -26,15 +27,16 @@ fn contexts(alloc: Global, list: &Reader<'_>) -> Result<List<Context>, NoMemory>
     }
 }
 
-/// A reply of its own, shared.
+/// A reply of its own with its byte order, shared.
 fn copied(
     alloc: Global,
+    order: Order,
     id: u32,
     status: u32,
     list: &Reader<'_>,
     body: &[u8],
-) -> Result<Arc<Reply>, NoMemory>
-    ensures { IfOk result (λ r. r ≡ record { id = id; status = status; contexts = listed context_of list.now; body = body.now }) }
+) -> Result<Arc<HeardReply>, NoMemory>
+    ensures { IfOk result (λ r. r ≡ record { order = order; reply = record { id = id; status = status; contexts = listed context_of list.now; body = body.now } }) }
 {
     let contexts = contexts(alloc, list)?;
     let body = Octets::from_vec(Vec::from_slice(alloc, body)?);
@@ -44,7 +46,7 @@ fn copied(
         contexts,
         body,
     };
-    match Arc::new(alloc, reply) {
+    match Arc::new(alloc, HeardReply { order, reply }) {
         Ok(reply) => Ok(reply),
         Err(_) => Err(NoMemory),
     }
@@ -53,7 +55,7 @@ fn copied(
 impl Judge for LinkJudge {
     type Bound = ();
 
-    type Call = Arc<Reply>;
+    type Call = Arc<HeardReply>;
 
     ghost first = { λ judge. Spec.first judge };
 
@@ -68,10 +70,10 @@ impl Judge for LinkJudge {
         alloc: Global,
         _bound: &(),
         _serial: u32,
-        _order: Order,
+        order: Order,
         _size: u32,
         parts: Parts<'_>,
-    ) -> Result<Means<(), Arc<Reply>>, NoMemory> {
+    ) -> Result<Means<(), Arc<HeardReply>>, NoMemory> {
         match parts {
             Parts::Reply {
                 id,
@@ -79,7 +81,7 @@ impl Judge for LinkJudge {
                 contexts,
                 body,
             } => {
-                let reply = copied(alloc, id, status, &contexts, body)?;
+                let reply = copied(alloc, order, id, status, &contexts, body)?;
                 Ok(Means::Goes {
                     bound: (),
                     call: Some(reply),

@@ -8,7 +8,7 @@ ghost use Rattle.mux_sides.specs.Replying as Spec;
 use crate::judge::LinkJudge;
 use client_mux::Why;
 use client_mux::limits::MAX_ARRIVALS;
-use giop_messages::Reply;
+use client_mux::HeardReply;
 use heard_messages::{Hearing, MAX_TAKEN, READ_LEN, ReadEnd};
 use orb_base::{Arc, Got, NoMemory, Source};
 use shared_link::{MuxSeat, Shared};
@@ -17,13 +17,13 @@ use std::sync::Wait;
 
 /// Says that one reply arrived, after so many others.
 #[tactic(auto, using(shared_link::proofs::RoleLaws::fit_arrived, shared_link::proofs::RoleLaws::after_arrived, shared_link::proofs::RoleLaws::lose_later, crate::proofs::Arriving::arrives_one))]
-fn put_one<R: Wait>(rt: &R, shared: &Shared, seat: &mut MuxSeat, count: usize, reply: Arc<Reply>)
+fn put_one<R: Wait>(rt: &R, shared: &Shared, seat: &mut MuxSeat, count: usize, reply: Arc<HeardReply>)
     requires reads { CanRead shared.now.cell count seat.old }
     requires loses { CanLose shared.now.cell seat.old }
     requires few { count < MAX_ARRIVALS }
     ensures { Spec.Arrives shared.now.cell (reply ∷ []) count (count + 1) seat.old seat.new }
 {
-    let id = reply.get().id;
+    let id = reply.get().reply.id;
     shared.put_arrived(rt, seat, id, reply);
 }
 
@@ -34,7 +34,7 @@ fn put_turned<R: Wait>(
     shared: &Shared,
     seat: &mut MuxSeat,
     before: usize,
-    turned: Vec<Arc<Reply>>,
+    turned: Vec<Arc<HeardReply>>,
 ) -> usize
     requires reads { CanRead shared.now.cell before seat.old }
     requires loses { CanLose shared.now.cell seat.old }
@@ -62,7 +62,7 @@ fn put_all<R: Wait>(
     shared: &Shared,
     seat: &mut MuxSeat,
     before: usize,
-    replies: Vec<Arc<Reply>>,
+    replies: Vec<Arc<HeardReply>>,
 ) -> usize
     requires reads { CanRead shared.now.cell before seat.old }
     requires loses { CanLose shared.now.cell seat.old }

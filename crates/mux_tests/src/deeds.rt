@@ -120,15 +120,16 @@ pub fn request(alloc: Global) -> Option<Arc<Request>>
     Arc::new(alloc, request).ok()
 }
 
-/// An empty reply of an id.
-pub fn reply(alloc: Global, id: u32) -> Option<Arc<Reply>> {
+/// An empty reply of an id, in a message that is big endian.
+pub fn reply(alloc: Global, id: u32) -> Option<Arc<HeardReply>> {
     let reply = Reply {
         id,
         status: 0,
         contexts: List::new(alloc),
         body: List::new(alloc),
     };
-    Arc::new(alloc, reply).ok()
+    let order = Order::Big;
+    Arc::new(alloc, HeardReply { order, reply }).ok()
 }
 
 /// Starts a caller's first call.
@@ -196,7 +197,7 @@ pub fn outcome<R: Wait>(rt: &R, shared: &Shared, seat: &mut MuxSeat, id: u32) ->
     ensures { CanCall shared.now.cell 1 seat.new }
 {
     match shared.wait(rt, seat, id) {
-        Waited::Reply(reply) => Ok(reply.get().id),
+        Waited::Reply(reply) => Ok(reply.get().reply.id),
         Waited::Gone(why) => Err(why),
     }
 }
@@ -215,7 +216,7 @@ pub fn place<R: Wait>(
     rt: &R,
     shared: &Shared,
     seat: &mut MuxSeat,
-    reply: Arc<Reply>,
+    reply: Arc<HeardReply>,
     nth: u32,
 ) -> Placed
     requires reads { CanRead shared.now.cell nth seat.old }

@@ -1,7 +1,8 @@
 -- Which replies each call can get.
 use Rattle.std.proofs.Common.{◌≡◌, ℕ, true, not, ◌||◌, [], ◌∷◌, ◌++◌, Option, Some, None, refl, sym, ap, ◌∙◌, subst}
 use Rattle.std.specs.Prelude.{is_some, slice_get}
-use Rattle.giop_messages.specs.Message.{Request, Reply}
+use Rattle.giop_messages.specs.Message.{Request}
+use Rattle.client_mux.specs.declared.heard_reply.HeardReply.{HeardReply}
 use Rattle.turn_cell.specs.Seats.{CellView}
 use Rattle.turn_cell.specs.Good.{entry}
 use Rattle.flat_seats.proofs.Along.{ready_at, sound_at, answered_at}
@@ -49,12 +50,12 @@ next_kinds m None (Some s) = send_kinds s
 next_kinds m None None = refl
 next_kinds m (Some why) o = refl
 
-match_kinds : (m : Mux) (id : ℕ) (r : Reply) (c : Called) (d : Doing) → is_placed (matched m id r c d).1 ≡ true
+match_kinds : (m : Mux) (id : ℕ) (r : HeardReply) (c : Called) (d : Doing) → is_placed (matched m id r c d).1 ≡ true
 match_kinds m id r c Waiting = refl
 match_kinds m id r c (Answered v) = refl
 match_kinds m id r c Dropped = refl
 
-arrive_kinds : (m : Mux) (id : ℕ) (r : Reply) (o : Option Called) → is_placed (arrived m id r o).1 ≡ true
+arrive_kinds : (m : Mux) (id : ℕ) (r : HeardReply) (o : Option Called) → is_placed (arrived m id r o).1 ≡ true
 arrive_kinds m id r (Some c) = match_kinds m id r c c.doing
 arrive_kinds m id r None = refl
 
@@ -73,7 +74,7 @@ cancel_is by id r a = let m = a.0 in ap is_stopped a.3 ∙ cancel_kinds m id (ca
 pub next_is : (r : MuxReply) → IsAnswer Next r → is_upcoming r ≡ true
 next_is r a = let m = a.0 in ap is_upcoming a.3 ∙ next_kinds m m.lost (slice_get m.sends m.sent)
 
-pub arrived_is : (id : ℕ) (v : Reply) (r : MuxReply) → IsAnswer (Arrived id v) r → is_placed r ≡ true
+pub arrived_is : (id : ℕ) (v : HeardReply) (r : MuxReply) → IsAnswer (Arrived id v) r → is_placed r ≡ true
 arrived_is id v r a = let m = a.0 in ap is_placed a.3 ∙ arrive_kinds m id v (call_at m.calls id)
 
 pub await_is : (by id : ℕ) (r : MuxReply) → IsAnswer (Await by id) r → is_waited r ≡ true

@@ -1,7 +1,8 @@
 -- What a seat has seen says the same as the answer.
 use Rattle.std.proofs.Common.{◌≡◌, ℕ, [], ◌∷◌, ◌++◌, Option, Some, None, inl, inr, refl, ap, ◌∙◌, subst, eq-eqb}
 use Rattle.std.proofs.lemmas.Bool.{cases_Bool}
-use Rattle.giop_messages.specs.Message.{Request, Reply}
+use Rattle.giop_messages.specs.Message.{Request}
+use Rattle.client_mux.specs.declared.heard_reply.HeardReply.{HeardReply}
 use Rattle.turn_cell.specs.Seats.{CellView}
 use Rattle.turn_cell.specs.Good.{entry}
 use Rattle.flat_seats.proofs.Own.{push_own}
@@ -46,7 +47,7 @@ start_begins cell by q (started.Gone why) old new c = gone_seen cell (Start by q
 -- an Await brings no reply
 await_none : (id : ℕ) (before : History) (n by k : ℕ) (r : MuxReply) → reply_after_start id before ≡ None → reply_after_start id (before ++ entry n (Await by k) r ∷ []) ≡ None
 await_none id before n by k r q = let e : One = entry n (Await by k) r in elim (cases_Bool (begun id before)) [
-  | inl t ↦ after_push id before e t ∙ ap (λ (z : Option Reply). or_else z None) q
+  | inl t ↦ after_push id before e t ∙ ap (λ (z : Option HeardReply). or_else z None) q
   | inr f ↦ after_new id before e f
 ]
 

@@ -3,7 +3,8 @@ use Rattle.std.proofs.Common.{◌≡◌, ◌⊎◌, ◌<◌, ◌+◌, ℕ, Bool,
 use Rattle.std.specs.Prelude.{IfSome}
 use Rattle.std.specs.List.{list_any, count_by}
 use Rattle.std.proofs.lemmas.Bool.{or_left}
-use Rattle.giop_messages.specs.Message.{Request, Reply}
+use Rattle.giop_messages.specs.Message.{Request}
+use Rattle.client_mux.specs.declared.heard_reply.HeardReply.{HeardReply}
 use Rattle.turn_cell.specs.Seats.{CellView}
 use Rattle.turn_cell.specs.Good.{entry}
 use Rattle.flat_seats.proofs.Own.{push_grow, push_quiet, count_push}
@@ -34,7 +35,7 @@ fit_left cell k seat d = (refl, (d.caller, d.stays))
 pub fit_next : (cell : CellView Mux) (seat : Sitting) → CanSend cell seat → MayMake cell Next seat
 fit_next cell seat d = (refl, (d.number_is, d.unfinished))
 
-pub fit_arrived : (cell : CellView Mux) (k id : ℕ) (r : Reply) (seat : Sitting) → CanRead cell k seat → k < MAX_ARRIVALS → MayMake cell (Arrived id r) seat
+pub fit_arrived : (cell : CellView Mux) (k id : ℕ) (r : HeardReply) (seat : Sitting) → CanRead cell k seat → k < MAX_ARRIVALS → MayMake cell (Arrived id r) seat
 fit_arrived cell k id r seat d few = (refl, (d.number_is, (let a = d.arrivals_are in omega arith)))
 
 pub fit_lost : (cell : CellView Mux) (why : Why) (seat : Sitting) → CanLose cell seat → MayMake cell (Lost why) seat
@@ -118,7 +119,7 @@ after_next cell r old new quiet d m =
     }
 
 -- the reader's
-pub after_arrived : (cell : CellView Mux) (k id : ℕ) (v : Reply) (r : MuxReply) (old new : Sitting) → CanRead cell k old → Makes cell (Arrived id v) r old new → CanRead cell (k + 1) new
+pub after_arrived : (cell : CellView Mux) (k id : ℕ) (v : HeardReply) (r : MuxReply) (old new : Sitting) → CanRead cell k old → Makes cell (Arrived id v) r old new → CanRead cell (k + 1) new
 after_arrived cell k id v r old new d m =
     let a : arrivals new.mine ≡ arrivals old.mine + 1 = counted (λ c z. is_arrived c) cell (Arrived id v) r old new m in let s = d.arrivals_are in record {
       in_cell = made_in cell (Arrived id v) r old new m d.in_cell;

@@ -3,7 +3,8 @@ ghost use Rattle.std.specs.Prelude.{◌≡◌, true};
 ghost use Rattle.shared_link.specs.Replies.{started_reply, stopped_reply, waited_reply, upcoming_reply, placed_reply, is_started, is_stopped, is_waited, is_upcoming, is_placed};
 
 use client_mux::{MuxReply, Why};
-use giop_messages::{Reply, Request};
+use client_mux::HeardReply;
+use giop_messages::Request;
 use orb_base::Arc;
 
 /// What became of a call that is started.
@@ -28,7 +29,7 @@ pub enum Stopped {
 #[derive(Debug, Drop)]
 pub enum Waited {
     /// Its reply.
-    Reply(Arc<Reply>),
+    Reply(Arc<HeardReply>),
     /// The link is lost, for this cause.
     Gone(Why),
 }

@@ -1,6 +1,7 @@
 //! Laws of the seats of a shared link. The bodies are empty: each contract is a law of the definitions.
 ghost use Rattle.std.specs.Prelude.{◌≡◌, ◌<◌, ◌+◌, ℕ, [], false};
-ghost use Rattle.giop_messages.specs.Message.{Request, Reply};
+ghost use Rattle.giop_messages.specs.Message.{Request};
+ghost use Rattle.client_mux.specs.declared.heard_reply.HeardReply.{HeardReply};
 ghost use Rattle.turn_cell.specs.Seats.{CellView};
 ghost use Rattle.client_mux.specs.declared.limits.TheConstants.{MAX_STARTS, MAX_ARRIVALS};
 ghost use Rattle.client_mux.specs.declared.why.Why.{Why};
@@ -25,7 +26,7 @@ pub fn roles_are_fit()
         → MayMake cell (call.Await seat.number id) seat }
     ensures leave { (cell : CellView Mux) (k : ℕ) (seat : Sitting) → CanCall cell k seat → MayMake cell (call.Left seat.number) seat }
     ensures next { (cell : CellView Mux) (seat : Sitting) → CanSend cell seat → MayMake cell call.Next seat }
-    ensures arrived { (cell : CellView Mux) (k id : ℕ) (r : Reply) (seat : Sitting) → CanRead cell k seat → k < MAX_ARRIVALS
+    ensures arrived { (cell : CellView Mux) (k id : ℕ) (r : HeardReply) (seat : Sitting) → CanRead cell k seat → k < MAX_ARRIVALS
         → MayMake cell (call.Arrived id r) seat }
     ensures lost { (cell : CellView Mux) (why : Why) (seat : Sitting) → CanLose cell seat → MayMake cell (call.Lost why) seat }
 {}
@@ -45,7 +46,7 @@ pub fn roles_go_on()
         → Makes cell (call.Cancel by k) reply.TooLate old new → CanAwait id new }
     ensures next { (cell : CellView Mux) (r : MuxReply) (old new : Sitting) → finishes call.Next r ≡ false → CanSend cell old
         → Makes cell call.Next r old new → CanSend cell new }
-    ensures arrived { (cell : CellView Mux) (k id : ℕ) (v : Reply) (r : MuxReply) (old new : Sitting) → CanRead cell k old
+    ensures arrived { (cell : CellView Mux) (k id : ℕ) (v : HeardReply) (r : MuxReply) (old new : Sitting) → CanRead cell k old
         → Makes cell (call.Arrived id v) r old new → CanRead cell (k + 1) new }
     ensures lost { (cell : CellView Mux) (k : ℕ) (why : Why) (r : MuxReply) (old new : Sitting) → CanRead cell k old
         → Makes cell (call.Lost why) r old new → CanRead cell k new }

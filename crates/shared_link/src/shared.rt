@@ -14,7 +14,8 @@ use crate::answers::{
 };
 use crate::mux_seat::MuxSeat;
 use client_mux::{MuxCall, MuxCell, MuxReply, Why};
-use giop_messages::{Reply, Request};
+use client_mux::HeardReply;
+use giop_messages::Request;
 use orb_base::Arc;
 use std::marker::Model;
 use std::sync::Wait;
@@ -104,7 +105,7 @@ impl Shared {
         rt: &R,
         seat: &mut MuxSeat,
         id: u32,
-        reply: Arc<Reply>,
+        reply: Arc<HeardReply>,
     ) -> Placed
         requires cell { IsIn self.now.cell seat.old }
         requires fit { MayMake self.now.cell (Arrived id reply) seat.old }
