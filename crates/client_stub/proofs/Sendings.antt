@@ -1,6 +1,6 @@
 -- The arguments, spelled one after another, and how long the requests are.
 use Rattle.std.proofs.Common.{◌≡◌, ℕ, ◌≤◌, ◌^◌, Bool, true, false, List, [], ◌∷◌, ◌++◌, map, length, Option, Some, None, option_map, refl, sym, ap, subst, ◌∙◌, append_assoc, append-nil, arith}
-use Rattle.std.specs.Prelude.{is_some, IfSome, Ok, ◌||◌}
+use Rattle.std.specs.Prelude.{is_some, IfSome, IfOk, Result, Ok, Err, ◌||◌}
 use Rattle.orb_base.specs.Span.{Span}
 use Rattle.orb_base.specs.Tagged.{Context}
 use Rattle.orb_base.specs.declared.limits.TheConstants.{MAX_MESSAGE}
@@ -22,12 +22,12 @@ use Rattle.idl_types.specs.declared.param.Param.{Param}
 use Rattle.service_contexts.specs.Layout.{band_fields}
 use Rattle.service_contexts.specs.declared.contexts.TheConstants.{RANGE_CONTEXT}
 use Rattle.giop_messages.specs.Lengths.{held}
-use Rattle.giop_messages.specs.Message.{Message, key, request_of}
+use Rattle.giop_messages.specs.Message.{Message, Request, request, key, request_of}
 use Rattle.giop_messages.specs.Spelling.{spelled}
 use Rattle.value_json.specs.Operations.{goes_in, kinds_in}
 use Rattle.client_stub.specs.Asking.{Asked, call_body, argument_fields, fields_of_all}
 use Rattle.client_stub.specs.Requests.{call_of, bind_of, bind_operation, flags_of, contexts_with, sent, may_bind, longer, IsRequestLen}
-use Rattle.client_stub.specs.Sending.{IsSendable, Spelled}
+use Rattle.client_stub.specs.Sending.{IsCall, IsSendable, Spelled, call_bytes}
 use Rattle.client_stub.proofs.Lengths.{left_fit, left_fields, first_fits}
 
 behind_nothing : (a : Option (List Field)) → behind [] a ≡ a
@@ -166,3 +166,16 @@ pub bind_fits : (asked : Asked) (id : ℕ) (band : Span) (m : Message) → IsSen
 bind_fits asked id band m h has same =
     is_short m (bind_of id asked.remote.key band) same
     (bind_is_short asked id band h (may_by (is_some asked.remote.bands) (is_some asked.band) (ap (λ (o : Option Span). is_some o) has)))
+
+-- ---- requests
+
+pub call_made : {E : Type 0} (asked : Asked) (id : ℕ) (body : List ℕ) (m : Message) (made : Result Request E) → call_body asked ≡ Some body → m ≡ call_of id asked body
+    → IfOk made (λ r. request r ≡ m) → IfOk made (IsCall id asked)
+call_made asked id body m (Ok r) has same is = record { body = body; has_body = has; is = is ∙ same }
+call_made asked id body m (Err e) has same is = tt
+
+pub call_short : (asked : Asked) (id : ℕ) (r : Request) → IsSendable asked → IsCall id asked r → length (spelled Big (request r)) ≤ MAX_MESSAGE
+call_short asked id r h c = call_fits asked id c.body (request r) h c.has_body c.is
+
+pub call_spelled : (asked : Asked) (id : ℕ) (r : Request) (bytes : List ℕ) → IsCall id asked r → bytes ≡ spelled Big (request r) → call_bytes id asked ≡ Some bytes
+call_spelled asked id r bytes c is = ap (option_map (λ body. spelled Big (call_of id asked body))) c.has_body ∙ ap (λ (m : Message). Some (spelled Big m)) (sym c.is) ∙ ap Some (sym is)

@@ -5,9 +5,16 @@ use Rattle.orb_base.specs.declared.limits.TheConstants.{MAX_MESSAGE}
 use Rattle.orb_base.specs.declared.order.Order.TheVariants.{Big}
 use Rattle.cdr_core.specs.Field.{Field}
 use Rattle.cdr_core.specs.Writing.{Page, written}
+use Rattle.giop_messages.specs.Message.{Request, request}
 use Rattle.giop_messages.specs.Spelling.{spelled}
 use Rattle.client_stub.specs.Asking.{Asked, call_body}
 use Rattle.client_stub.specs.Requests.{call_of, bind_of, IsRequestLen}
+
+-- a request is the call of an id
+pub record IsCall (id : ℕ) (asked : Asked) (r : Request) : Type 0 where
+  pub body : List ℕ
+  pub has_body : call_body asked ≡ Some body
+  pub is : request r ≡ call_of id asked body
 
 -- the bytes of the call of an id; None where the arguments have no body
 abbrev pub call_bytes : ℕ → Asked → Option (List ℕ)

@@ -16,4 +16,4 @@ pub use choosing::{NoBand, band_for};
 pub use length::{BIND_OPERATION, request_len};
 pub use meaning::remote_of;
 pub use remote::Remote;
-pub use requests::{bind_request, call_request};
+pub use requests::{bind_request, call_of, call_request};

@@ -4,7 +4,7 @@ ghost use Rattle.orb_base.specs.declared.limits.TheConstants.{MAX_MESSAGE};
 ghost use Rattle.orb_base.specs.declared.order.Order.TheVariants.{Big};
 ghost use Rattle.cdr_values.specs.Values.{values_view};
 ghost use Rattle.idl_types.specs.Views.{param_of};
-ghost use Rattle.giop_messages.specs.Message.{key, request_of};
+ghost use Rattle.giop_messages.specs.Message as Said;
 ghost use Rattle.giop_messages.specs.Spelling.{spelled};
 ghost use Rattle.value_json.specs.Operations.{are_of, kinds_in};
 ghost use Rattle.client_stub.specs.Asking.{fields_of_all, arguments_fit, call_body, asked_of};
@@ -90,7 +90,7 @@ fn flags_of(oneway: bool) -> u8
     if oneway { 0 } else { 3 }
 }
 
-/// The bytes of a request.
+/// A request by its parts.
 fn request(
     alloc: Global,
     id: u32,
@@ -99,31 +99,37 @@ fn request(
     operation: Text,
     contexts: List<Context>,
     body: Octets,
-) -> Result<Octets, NoMemory>
-    requires short { length (spelled Big (request_of id flags (key object.now) operation contexts.items body.items)) ≤ MAX_MESSAGE }
-    ensures { IfOk result (λ bytes. bytes.items
-        ≡ spelled Big (request_of id flags (key object.now) operation contexts.items body.items)) }
+) -> Result<Request, NoMemory>
+    ensures { IfOk result (λ r. Said.request r
+        ≡ Said.request_of id flags (Said.key object.now) operation contexts.items body.items) }
 {
     let mut copy = Octets::new(alloc);
     copy.append(object)?;
-    let message = Message::Request(Request {
+    Ok(Request {
         id,
         flags,
         target: Target::Key(copy),
         operation,
         contexts,
         body,
-    });
+    })
+}
+
+/// The bytes of a request.
+fn bytes_of(alloc: Global, request: Request) -> Result<Octets, NoMemory>
+    requires short { length (spelled Big (Said.request request)) ≤ MAX_MESSAGE }
+    ensures { IfOk result (λ bytes. bytes.items ≡ spelled Big (Said.request request)) }
+{
+    let message = Message::Request(request);
     let mut writer = Writer::new(alloc, Order::Big, 0);
     write_message(Order::Big, &message, &mut writer)?;
     Ok(writer.finish())
 }
 
-/// The bytes of a call under an id, big endian, with the priority that it carries. Memory and work grow with the arguments.
-pub fn call_request(alloc: Global, asked: &Asked, id: u32) -> Result<Octets, NoMemory>
+/// The request of a call under an id, with the priority that it carries. Memory and work grow with the arguments.
+pub fn call_of(alloc: Global, asked: &Asked, id: u32) -> Result<Request, NoMemory>
     requires fits { IsTrue (arguments_fit (asked_of asked.now)) }
-    requires short { Spec.IsSendable (asked_of asked.now) }
-    ensures { IfOk result (λ bytes. Spec.call_bytes id (asked_of asked.now) ≡ Some bytes.items) }
+    ensures { IfOk result (Spec.IsCall id (asked_of asked.now)) }
 {
     let remote = asked.remote;
     let operation = asked.operation;
@@ -142,6 +148,16 @@ pub fn call_request(alloc: Global, asked: &Asked, id: u32) -> Result<Octets, NoM
     )
 }
 
+/// The bytes of a call under an id, big endian, with the priority that it carries. Memory and work grow with the arguments.
+pub fn call_request(alloc: Global, asked: &Asked, id: u32) -> Result<Octets, NoMemory>
+    requires fits { IsTrue (arguments_fit (asked_of asked.now)) }
+    requires short { Spec.IsSendable (asked_of asked.now) }
+    ensures { IfOk result (λ bytes. Spec.call_bytes id (asked_of asked.now) ≡ Some bytes.items) }
+{
+    let request = call_of(alloc, asked, id)?;
+    bytes_of(alloc, request)
+}
+
 /// The bytes of the request under an id that binds the band of a call before it, big endian. Memory and work grow with the
 /// object's key.
 pub fn bind_request(alloc: Global, asked: &Asked, id: u32, band: Band) -> Result<Octets, NoMemory>
@@ -154,7 +170,7 @@ pub fn bind_request(alloc: Global, asked: &Asked, id: u32, band: Band) -> Result
     let Ok(name) = Text::new(alloc, BIND_OPERATION) else {
         return Err(NoMemory);
     };
-    request(
+    let request = request(
         alloc,
         id,
         3,
@@ -162,5 +178,6 @@ pub fn bind_request(alloc: Global, asked: &Asked, id: u32, band: Band) -> Result
         name,
         contexts,
         Octets::new(alloc),
-    )
+    )?;
+    bytes_of(alloc, request)
 }

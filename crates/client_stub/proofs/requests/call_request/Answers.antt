@@ -1,17 +1,6 @@
-use Rattle.std.proofs.Common.{ap, ◌∙◌}
 use Rattle.client_stub.specs.Asking.{asked_of}
-use Rattle.client_stub.specs.Remotes.{Remote}
-use Rattle.client_stub.specs.Requests.{contexts_with, sent}
-use Rattle.client_stub.proofs.Sendings.{call_same, call_fits}
+use Rattle.client_stub.proofs.Sendings.{call_short}
 use Rattle.client_stub.proofs.requests.call_request.Goals as goal
 
-pub request-requires : goal.request-requires
-request-requires c =
-    let asked = asked_of c.args.asked.now in
-    let keyed = c.as_slice.ensures ∙ ap (λ (r : Remote). r.key) c.remote.view_is in
-    let told = c.in_ok-contexts.ensures ∙ ap contexts_with (c.sent.ensures ∙ ap (λ (r : Remote). sent r.model asked.priority) c.remote.view_is) in
-    record {
-      short = call_fits asked c.args.id c.in_ok-body.body.items _ c.requires.short c.in_ok-body.ensures
-          (call_same asked c.args.id c.flags_of-flags.result c.as_slice.result.now c.in_ok-name.name c.in_ok-contexts.contexts.items c.in_ok-body.body.items c.flags_of-flags.ensures keyed
-          c.in_ok-name.ensures told);
-    }
+pub bytes_of-requires : goal.bytes_of-requires
+bytes_of-requires c = record { short = call_short (asked_of c.args.asked.now) c.args.id c.in_ok-request.request c.requires.short c.in_ok-request.ensures }
