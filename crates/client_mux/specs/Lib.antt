@@ -5,3 +5,4 @@ pub mod Counting
 pub mod CallPlaces
 pub mod SeatHeirs
 pub mod SeatLaws
+pub mod Counts

@@ -5,6 +5,7 @@
 
 mod call;
 mod called;
+mod caller_count;
 mod heard_reply;
 mod laws;
 pub mod limits;
@@ -13,6 +14,7 @@ mod why;
 
 pub use call::{MuxCall, MuxReply};
 pub use called::{Called, Doing, Sending};
+pub use caller_count::CallerCount;
 pub use heard_reply::HeardReply;
 pub use laws::{
     entries_suffice, first_loss_counts, fit_is_sound, own_reply_is_first, rooms_suffice,
