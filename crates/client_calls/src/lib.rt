@@ -20,6 +20,6 @@ mod waiting;
 pub use call_fault::CallFault;
 pub use calling::call;
 pub use laws::bytes_and_end_give_one_result;
-pub use meaning::{SYSTEM_EXCEPTION, USER_EXCEPTION, meaning_of};
+pub use meaning::{SYSTEM_EXCEPTION, USER_EXCEPTION, meaning_by_status, meaning_of};
 pub use sendable::is_sendable;
 pub use system_exception::SystemException;

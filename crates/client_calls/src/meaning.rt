@@ -71,9 +71,10 @@ fn system(alloc: Global, order: Order, body: &[u8]) -> Result<List<IdlValue>, Ca
     }
 }
 
-/// What a reply of this status with this body means.
+/// What a reply of this status and byte order with this body means to a call of the operation, as `meaning_of` has it. The body is that
+/// of the reply, which begins at a multiple of 8 of its message. Work and memory grow with the bytes read.
 #[tactic(auto, using(crate::proofs::Meanings::elsewhere_means))]
-fn by_status(
+pub fn meaning_by_status(
     alloc: Global,
     operation: &Operation,
     status: u32,
@@ -104,7 +105,7 @@ pub fn meaning_of(
 ) -> Result<List<IdlValue>, CallFault>
     ensures { Spec.Means (Spec.seen result) (Spec.meaning_of (operation_of operation.now) answer.now) }
 {
-    by_status(
+    meaning_by_status(
         alloc,
         operation,
         answer.status,

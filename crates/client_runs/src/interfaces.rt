@@ -70,7 +70,7 @@ fn known_by<F: Files>(alloc: Global, files: &mut F, name: &Text) -> Result<Repos
 
 /// What a call knows: what the file of IDL of this name declares, a text of at most 1,048,576 bytes, and the built-in module; without a
 /// name that module alone. Work and memory grow with the text and what it declares.
-pub(crate) fn known<F: Files>(
+pub fn known<F: Files>(
     alloc: Global,
     files: &mut F,
     idl: Option<&Text>,

@@ -20,4 +20,7 @@ pub use argument_text::ArgumentText;
 pub use call_end::{CallEnd, FileFault, LocalFault};
 pub use call_words::CallWords;
 pub use called::Called;
-pub use run::call_run;
+pub use interfaces::known;
+pub use lines::write_line;
+pub use plan::{Plan, plan_of};
+pub use run::{call_run, end_of};

@@ -22,7 +22,7 @@ fn line_of(alloc: Global, operation: &Operation, values: &[IdlValue]) -> Result<
 }
 
 /// Writes the line of the results of an operation. Nothing is written where memory runs out for it.
-pub(crate) fn write_line<O: Sink>(
+pub fn write_line<O: Sink>(
     alloc: Global,
     out: &mut O,
     operation: &Operation,

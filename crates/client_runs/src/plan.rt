@@ -20,7 +20,7 @@ use std::alloc::Global;
 
 /// What a call is made of.
 #[derive(Drop)]
-pub(crate) struct Plan<'r> {
+pub struct Plan<'r> {
     pub remote: Remote,
     pub operation: &'r Operation,
     pub arguments: List<IdlValue>,
@@ -30,7 +30,7 @@ pub(crate) struct Plan<'r> {
 
 impl<'r> Plan<'r> {
     /// The call.
-    pub(crate) fn asked(&self) -> Asked<'_>
+    pub fn asked(&self) -> Asked<'_>
         ensures { asked_of result ≡ asked_in self.now }
     {
         Asked {
@@ -131,7 +131,7 @@ fn judged(plan: Plan<'_>) -> Result<Plan<'_>, CallEnd>
 /// The call that the words ask for, by the interfaces that are known: its reference is read first, and then its interface, its operation,
 /// its arguments and the length of its requests, and its band are looked for, each with its own fault.
 #[tactic(auto, using(crate::proofs::Planned::unbound_fault, crate::proofs::Planned::unbound_found))]
-pub(crate) fn plan_of<'r>(
+pub fn plan_of<'r>(
     alloc: Global,
     repository: &'r Repository,
     words: &CallWords,

@@ -62,7 +62,7 @@ fn call_over<I: Source, S: Sink, O: Sink>(
 }
 
 /// How a call came out to which the net gave no connection.
-fn end_of(fault: NetFault) -> CallEnd
+pub fn end_of(fault: NetFault) -> CallEnd
     ensures { result ≡ Spec.end_of fault }
 {
     match fault {
