@@ -1,3 +1,4 @@
 pub mod CallerJobs
 pub mod OwnReplies
 pub mod WholeRuns
+pub mod LossCauses

@@ -1,9 +1,10 @@
 -- A run of several callers over one link: own profile.
-use Rattle.std.specs.Prelude.{◌≡◌, ℕ, ◌+◌, true, List, [], ◌∷◌, ◌++◌, Some}
+use Rattle.std.specs.Prelude.{◌≡◌, ◌⊎◌, ℕ, ◌+◌, true, List, [], ◌∷◌, ◌++◌, Some}
 use Rattle.orb_base.specs.Outside.{SourceState, SinkState}
 use Rattle.client_mux.specs.declared.heard_reply.HeardReply.{HeardReply}
 use Rattle.turn_cell.specs.Good.{entry}
 use Rattle.client_mux.specs.declared.why.Why.{Why}
+use Rattle.client_mux.specs.declared.why.Why.TheVariants as why
 use Rattle.client_mux.specs.declared.call.MuxCall.TheVariants.{Lost}
 use Rattle.client_mux.specs.declared.call.MuxReply.TheVariants as answer
 use Rattle.client_mux.specs.Machine.{History, opening}
@@ -15,6 +16,7 @@ use Rattle.mux_sides.specs.Sending.{AreGiven, last_of, texts_of, WritesBy}
 use Rattle.mux_sides.specs.declared.calling.CallEnd.{CallEnd}
 use Rattle.mux_sides.specs.declared.calling.CallEnd.TheVariants as came
 use Rattle.mux_sides.specs.declared.writing.WriterEnd.{WriterEnd}
+use Rattle.mux_sides.specs.declared.writing.WriterEnd.TheVariants as end
 use Rattle.mux_runs.specs.declared.jobs.Asking.{Asking}
 
 -- the entries of the caller with this number are its call, once, which came to this, and then its leaving
@@ -57,6 +59,16 @@ IsOwn h number came.NoneDue = Unit {0}
 abbrev pub AreOwn : History → ℕ → List CallEnd → Type 0
 AreOwn h first [] = Unit {0}
 AreOwn h first (e ∷ es) = IsOwn h first e × AreOwn h (first + 1) es
+
+-- the writer's way of coming out loses the link for this cause
+abbrev pub LosesFor : WriterEnd → Why → Type 0
+LosesFor end.Finished w = ⊥
+LosesFor end.WriteFault w = w ≡ why.WriteFault
+LosesFor end.NoMemory w = w ≡ why.NoMemory
+
+-- a link is lost for this cause: as the reader says it, or for what became of the writer
+abbrev pub IsCause : WriterEnd → Why → Why → Type 0
+IsCause write read w = (w ≡ read) ⊎ LosesFor write w
 
 -- the calls of callers, writer and reader are one legal history, and each call in it is one that its seat may make
 pub record IsLawful (callers : ℕ) (h : History) : Type 0 where

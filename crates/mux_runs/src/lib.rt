@@ -4,8 +4,10 @@
 
 mod callers;
 mod jobs;
+mod laws;
 mod run;
 mod sides;
 
 pub use jobs::Asking;
+pub use laws::losses_have_their_causes;
 pub use run::{MuxRun, mux_run};
