@@ -1,0 +1,4 @@
+pub mod Machine
+pub mod Callers
+pub mod Held
+pub mod Laws
