@@ -1,0 +1,5 @@
+pub mod Below
+pub mod Counting
+pub mod Stacks
+pub mod Moves
+pub mod LawProofs
