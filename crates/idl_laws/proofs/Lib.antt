@@ -1,0 +1,9 @@
+pub mod Apart
+pub mod Found
+pub mod Chains
+pub mod Points
+pub mod Naming
+pub mod Scoped
+pub mod Parts
+pub mod Kept
+pub mod Earlier
