@@ -1,7 +1,7 @@
 //! The calls of the link machine and their replies.
 
-use crate::why::Why;
 use crate::heard_reply::HeardReply;
+use crate::why::Why;
 use giop_messages::Request;
 use orb_base::Arc;
 

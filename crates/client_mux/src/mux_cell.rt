@@ -5,10 +5,10 @@ ghost use Rattle.client_mux.specs.Machine.{step, is_ready, IsSound, Steps, start
 
 use crate::call::{MuxCall, MuxReply};
 use crate::called::{Called, Doing, Sending};
+use crate::heard_reply::HeardReply;
 use crate::limits::{MAX_CALLERS, MAX_CALLS, MAX_SEATS, MAX_SENDS};
 use crate::why::Why;
 use flat_seats::flat_heir;
-use crate::heard_reply::HeardReply;
 use giop_messages::Request;
 use orb_base::{Arc, NoMemory};
 use std::alloc::Global;

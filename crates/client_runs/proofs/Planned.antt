@@ -18,7 +18,7 @@ use Rattle.client_runs.specs.Plans.{asked_in, Binds, JudgedAs, Judges}
 use Rattle.client_runs.specs.declared.call_end.CallEnd.{CallEnd}
 use Rattle.client_runs.specs.declared.call_end.CallEnd.TheVariants as end
 use Rattle.client_runs.specs.declared.call_end.LocalFault.{LocalFault}
-use Rattle.client_runs.specs.declared.call_end.LocalFault.TheVariants.{BadReference, NoInterface, NoOperation, BadArguments, NoBand}
+use Rattle.client_runs.specs.declared.call_end.LocalFault.TheVariants.{BadReference, NoInterface, NoOperation, BadArguments, NoBand, SharedBand}
 use Rattle.client_runs.specs.declared.call_words.CallWords.{CallWords}
 use Rattle.client_runs.specs.declared.plan.Plan.{Plan}
 
@@ -52,33 +52,51 @@ sendable_with asked band none chosen s =
 
 -- ---- no step before the band looks at it
 
-or_not : {A : Type 0} (fault : LocalFault) (o : Option A) → ¬ (fault ≡ NoBand) → ¬ (or_fault fault o ≡ Err NoBand)
-or_not fault None other = λ h. other cc
-or_not fault (Some x) other = λ h. cc
+-- a fault that is judged after the arguments
+record IsLate (late : LocalFault) : Type 0 where
+  no_reference : ¬ (BadReference ≡ late)
+  no_interface : ¬ (NoInterface ≡ late)
+  no_operation : ¬ (NoOperation ≡ late)
+  no_arguments : ¬ (BadArguments ≡ late)
 
-if_not : {A : Type 0} (b : Bool) (x y : Result A LocalFault) → ¬ (x ≡ Err NoBand) → ¬ (y ≡ Err NoBand) → ¬ ((if b then x else y) ≡ Err NoBand)
-if_not true x y at_true at_false = at_true
-if_not false x y at_true at_false = at_false
+or_not : {A : Type 0} (late fault : LocalFault) (o : Option A) → ¬ (fault ≡ late) → ¬ (or_fault fault o ≡ Err late)
+or_not late fault None other = λ h. other cc
+or_not late fault (Some x) other = λ h. cc
 
-then_not : {A B : Type 0} (asked : Result A LocalFault) (f : A → Result B LocalFault) → ¬ (asked ≡ Err NoBand)
-    → ((x : A) → ¬ (f x ≡ Err NoBand)) → ¬ (asked >>= f ≡ Err NoBand)
-then_not (Ok x) f first later = later x
-then_not (Err e) f first later = λ h. first cc
+if_not : {A : Type 0} (late : LocalFault) (b : Bool) (x y : Result A LocalFault) → ¬ (x ≡ Err late) → ¬ (y ≡ Err late) → ¬ ((if b then x else y) ≡ Err late)
+if_not late true x y at_true at_false = at_true
+if_not late false x y at_true at_false = at_false
 
-asked_not : (words : CallWords) (things : List Thing) → ¬ (asked_by words things ≡ Err NoBand)
+then_not : {A B : Type 0} (late : LocalFault) (asked : Result A LocalFault) (f : A → Result B LocalFault) → ¬ (asked ≡ Err late)
+    → ((x : A) → ¬ (f x ≡ Err late)) → ¬ (asked >>= f ≡ Err late)
+then_not late (Ok x) f first later = later x
+then_not late (Err e) f first later = λ h. first cc
+
+fault_not : {A : Type 0} (late fault : LocalFault) → ¬ (fault ≡ late) → ¬ (◌≡◌ {A = Result A LocalFault} (Err fault) (Err late))
+fault_not late fault other = λ h. other cc
+
+asked_not : (late : LocalFault) → IsLate late → (words : CallWords) (things : List Thing) → ¬ (asked_by words things ≡ Err late)
 unfolding asked_by
-asked_not words things =
-    then_not (remote_by words.reference) _ (remote_not words.reference) (λ remote.
-    then_not (operation_by words things remote) _ (operation_not things (interface_id words remote) words.operation) (λ operation.
-    then_not (arguments_by words operation) _ (or_not BadArguments _ (λ h. cc)) (λ arguments. λ h. cc)))
+asked_not late is words things =
+    then_not late (remote_by words.reference) _ (remote_not words.reference) (λ remote.
+    then_not late (operation_by words things remote) _ (operation_not things (interface_id words remote) words.operation) (λ operation.
+    then_not late (arguments_by words operation) _ (or_not late BadArguments _ is.no_arguments) (λ arguments. λ h. cc)))
   where
-    remote_not : (text : List ℕ) → ¬ (remote_by text ≡ Err NoBand)
-    remote_not text = if_not (nat_lt MAX_REFERENCE (length text)) (Err BadReference) (remote_in text) (λ h. cc) (or_not BadReference _ (λ h. cc))
+    remote_not : (text : List ℕ) → ¬ (remote_by text ≡ Err late)
+    remote_not text =
+        if_not late (nat_lt MAX_REFERENCE (length text)) (Err BadReference) (remote_in text) (fault_not late BadReference is.no_reference)
+        (or_not late BadReference _ is.no_reference)
 
-    operation_not : (things : List Thing) (id name : List ℕ) → ¬ (operation_in things id name ≡ Err NoBand)
+    operation_not : (things : List Thing) (id name : List ℕ) → ¬ (operation_in things id name ≡ Err late)
     operation_not things id name =
-        if_not (Found.is_interface things id) (or_fault NoOperation (Found.operation_named things id name)) (Err NoInterface)
-        (or_not NoOperation _ (λ h. cc)) (λ h. cc)
+        if_not late (Found.is_interface things id) (or_fault NoOperation (Found.operation_named things id name)) (Err NoInterface)
+        (or_not late NoOperation _ is.no_operation) (fault_not late NoInterface is.no_interface)
+
+band_late : IsLate NoBand
+band_late = record { no_reference = λ h. cc; no_interface = λ h. cc; no_operation = λ h. cc; no_arguments = λ h. cc }
+
+shared_late : IsLate SharedBand
+shared_late = record { no_reference = λ h. cc; no_interface = λ h. cc; no_operation = λ h. cc; no_arguments = λ h. cc }
 
 -- ---- what is asked for
 
@@ -87,7 +105,8 @@ refused BadReference words things h = h
 refused NoInterface words things h = h
 refused NoOperation words things h = h
 refused BadArguments words things h = inl h
-refused NoBand words things h = absurd (asked_not words things h)
+refused NoBand words things h = absurd (asked_not NoBand band_late words things h)
+refused SharedBand words things h = absurd (asked_not SharedBand shared_late words things h)
 
 -- the first fault before the band
 pub unbound_fault : (e : CallEnd) (words : CallWords) (things : List Thing) → Gives asked_in (Err e) (asked_by words things)
@@ -131,6 +150,7 @@ pub unbound_found : (answer : Result Plan CallEnd) (words : CallWords) (things :
 unbound_found (Ok plan) words things unbound is h = record { unbound = unbound; is = is; short = h.0; band = h.1; same = h.2 }
 unbound_found (Err (end.Local BadArguments)) words things unbound is h = inr (record { unbound = unbound; is = is; long = h })
 unbound_found (Err (end.Local NoBand)) words things unbound is h = record { unbound = unbound; is = is; short = h.0; none = h.1 }
+unbound_found (Err (end.Local SharedBand)) words things unbound is h = absurd h
 unbound_found (Err (end.Local BadReference)) words things unbound is h = absurd h
 unbound_found (Err (end.Local NoInterface)) words things unbound is h = absurd h
 unbound_found (Err (end.Local NoOperation)) words things unbound is h = absurd h

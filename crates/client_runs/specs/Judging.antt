@@ -18,7 +18,7 @@ use Rattle.client_stub.specs.Sending.{IsSendable}
 use Rattle.client_runs.specs.declared.call_end.CallEnd.{CallEnd}
 use Rattle.client_runs.specs.declared.call_end.CallEnd.TheVariants.{Local, NoMemory}
 use Rattle.client_runs.specs.declared.call_end.LocalFault.{LocalFault}
-use Rattle.client_runs.specs.declared.call_end.LocalFault.TheVariants.{BadReference, NoInterface, NoOperation, BadArguments, NoBand}
+use Rattle.client_runs.specs.declared.call_end.LocalFault.TheVariants.{BadReference, NoInterface, NoOperation, BadArguments, NoBand, SharedBand}
 use Rattle.client_runs.specs.declared.call_words.CallWords.{CallWords}
 
 -- a thing that is looked for, or this fault where there is none
@@ -95,10 +95,11 @@ pub record LacksBand (words : CallWords) (things : List Thing) : Type 0 where
   pub short : IsSendable unbound
   pub none : band_for unbound.remote unbound.priority ≡ None
 
--- this is the first fault of the words
+-- this is the first fault of the words; that of a link which several callers share is never that of one call
 abbrev pub Refuses : LocalFault → CallWords → List Thing → Type 0
 Refuses NoBand words things = LacksBand words things
 Refuses BadArguments words things = (asked_by words things ≡ Err BadArguments) ⊎ IsLong words things
+Refuses SharedBand words things = ⊥
 Refuses fault words things = asked_by words things ≡ Err fault
 
 -- a step of the judging answers what is looked for, seen by a view, or its fault; out of memory, nothing is said

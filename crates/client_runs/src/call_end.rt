@@ -30,6 +30,8 @@ pub enum LocalFault {
     BadArguments,
     /// The reference has bands, and none of them holds the priority that counts.
     NoBand,
+    /// The reference has bands, one of which would be bound, and several callers share the link.
+    SharedBand,
 }
 
 /// How a call of the command line came out. Its variants are in the order of work. Only after `Done` and `WriteFault` was anything

@@ -106,5 +106,5 @@ loss_caused callers h write why w from to out out' lawful sent heard e =
     let lost : Each p (entry (callers + 2) (Lost why) answer.Noted ∷ []) = ((λ v is. inl (cc)), tt) in
     let writes : Each p (of (writer x) h) = subst (Each p) (sym sent.are) (each_both p sent.taken (last_of (callers + 1) write ∷ []) (given_cause write why (callers + 1) sent.taken sent.given) last) in
     let reads : Each p (of (reader x) h) =
-        subst (Each p) (sym heard.are) (each_both p heard.entries (entry (callers + 2) (Lost why) answer.Noted ∷ []) (arrived_cause write why (callers + 2) heard.replies heard.entries heard.arrived) lost) in
+    subst (Each p) (sym heard.are) (each_both p heard.entries (entry (callers + 2) (Lost why) answer.Noted ∷ []) (arrived_cause write why (callers + 2) heard.replies heard.entries heard.arrived) lost) in
     caused x write why w h (all_by_side x [] h lawful.fit) writes reads e

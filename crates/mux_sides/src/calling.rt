@@ -4,8 +4,7 @@ ghost use Rattle.client_mux.specs.Callers.{IsShort};
 ghost use Rattle.shared_link.specs.Roles.{CanCall, CanAwait};
 ghost use Rattle.mux_sides.specs.Calling as Spec;
 
-use client_mux::Why;
-use client_mux::HeardReply;
+use client_mux::{HeardReply, Why};
 use giop_messages::Request;
 use orb_base::Arc;
 use shared_link::{MuxSeat, Shared, Started, Waited};

@@ -36,7 +36,10 @@ fn copied(
     list: &Reader<'_>,
     body: &[u8],
 ) -> Result<Arc<HeardReply>, NoMemory>
-    ensures { IfOk result (λ r. r ≡ record { order = order; reply = record { id = id; status = status; contexts = listed context_of list.now; body = body.now } }) }
+    ensures { IfOk result (λ r. r ≡ record {
+      order = order;
+      reply = record { id = id; status = status; contexts = listed context_of list.now; body = body.now };
+    }) }
 {
     let contexts = contexts(alloc, list)?;
     let body = Octets::from_vec(Vec::from_slice(alloc, body)?);

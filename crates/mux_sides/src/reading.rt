@@ -6,9 +6,8 @@ ghost use Rattle.shared_link.specs.Roles.{CanRead, CanLose};
 ghost use Rattle.mux_sides.specs.Replying as Spec;
 
 use crate::judge::LinkJudge;
-use client_mux::Why;
 use client_mux::limits::MAX_ARRIVALS;
-use client_mux::HeardReply;
+use client_mux::{HeardReply, Why};
 use heard_messages::{Hearing, MAX_TAKEN, READ_LEN, ReadEnd};
 use orb_base::{Arc, Got, NoMemory, Source};
 use shared_link::{MuxSeat, Shared};
@@ -17,7 +16,13 @@ use std::sync::Wait;
 
 /// Says that one reply arrived, after so many others.
 #[tactic(auto, using(shared_link::proofs::RoleLaws::fit_arrived, shared_link::proofs::RoleLaws::after_arrived, shared_link::proofs::RoleLaws::lose_later, crate::proofs::Arriving::arrives_one))]
-fn put_one<R: Wait>(rt: &R, shared: &Shared, seat: &mut MuxSeat, count: usize, reply: Arc<HeardReply>)
+fn put_one<R: Wait>(
+    rt: &R,
+    shared: &Shared,
+    seat: &mut MuxSeat,
+    count: usize,
+    reply: Arc<HeardReply>,
+)
     requires reads { CanRead shared.now.cell count seat.old }
     requires loses { CanLose shared.now.cell seat.old }
     requires few { count < MAX_ARRIVALS }

@@ -2,8 +2,7 @@
 ghost use Rattle.std.specs.Prelude.{◌≡◌, true};
 ghost use Rattle.shared_link.specs.Replies.{started_reply, stopped_reply, waited_reply, upcoming_reply, placed_reply, is_started, is_stopped, is_waited, is_upcoming, is_placed};
 
-use client_mux::{MuxReply, Why};
-use client_mux::HeardReply;
+use client_mux::{HeardReply, MuxReply, Why};
 use giop_messages::Request;
 use orb_base::Arc;
 

@@ -13,8 +13,7 @@ use crate::answers::{
     stop_answer, wait_answer,
 };
 use crate::mux_seat::MuxSeat;
-use client_mux::{MuxCall, MuxCell, MuxReply, Why};
-use client_mux::HeardReply;
+use client_mux::{HeardReply, MuxCall, MuxCell, MuxReply, Why};
 use giop_messages::Request;
 use orb_base::Arc;
 use std::marker::Model;

@@ -1,0 +1,4 @@
+pub mod AllAsking
+pub mod Meanings
+pub mod LinesWritten
+pub mod Sharing

@@ -1,0 +1,4 @@
+pub mod Asking
+pub mod Results
+pub mod Lines
+pub mod Runs
