@@ -83,18 +83,25 @@ pub idl_joined_reads : (file : Text)
 unfolding reading uses has_no_stray_dash
 idl_joined_reads file = refl
 
-pub call_reads : (remote op args priority file id : Text) → form_of remote ≡ plain → form_of op ≡ plain → form_of args ≡ plain → form_of priority ≡ plain → form_of file ≡ plain → form_of id ≡ plain
+pub call_reads : (remote op args priority file id number : Text) → form_of remote ≡ plain → form_of op ≡ plain → form_of args ≡ plain → form_of priority ≡ plain → form_of file ≡ plain → form_of id ≡ plain → form_of number ≡ plain
+    → reading call_items (codes "--ref" ∷ remote ∷ codes "--op" ∷ op ∷ codes "--args" ∷ args ∷ codes "--priority" ∷ priority ∷ codes "--idl" ∷ file ∷ codes "--interface" ∷ id ∷ codes "--callers" ∷ number ∷ [])
+    ≡ Some ((codes "ref", Some remote) ∷ (codes "op", Some op) ∷ (codes "args", Some args) ∷ (codes "priority", Some priority) ∷ (codes "idl", Some file) ∷ (codes "interface", Some id) ∷ (codes "callers", Some number) ∷ [])
+unfolding reading uses has_no_stray_dash
+call_reads remote op args priority file id number remote_plain op_plain args_plain priority_plain file_plain id_plain number_plain =
+    rw (remote_plain, op_plain, args_plain, priority_plain, file_plain, id_plain, number_plain) refl
+
+pub call_joined_reads : (remote op args priority file id number : Text)
+    → reading call_items ((codes "--callers=" ++ number) ∷ (codes "--interface=" ++ id) ∷ (codes "--idl=" ++ file) ∷ (codes "--priority=" ++ priority) ∷ (codes "--args=" ++ args) ∷ (codes "--op=" ++ op) ∷ (codes "--ref=" ++ remote) ∷ [])
+    ≡ Some ((codes "callers", Some number) ∷ (codes "interface", Some id) ∷ (codes "idl", Some file) ∷ (codes "priority", Some priority) ∷ (codes "args", Some args) ∷ (codes "op", Some op) ∷ (codes "ref", Some remote) ∷ [])
+unfolding reading uses has_no_stray_dash
+call_joined_reads remote op args priority file id number = refl
+
+pub call_alone_reads : (remote op args priority file id : Text) → form_of remote ≡ plain → form_of op ≡ plain → form_of args ≡ plain → form_of priority ≡ plain → form_of file ≡ plain → form_of id ≡ plain
     → reading call_items (codes "--ref" ∷ remote ∷ codes "--op" ∷ op ∷ codes "--args" ∷ args ∷ codes "--priority" ∷ priority ∷ codes "--idl" ∷ file ∷ codes "--interface" ∷ id ∷ [])
     ≡ Some ((codes "ref", Some remote) ∷ (codes "op", Some op) ∷ (codes "args", Some args) ∷ (codes "priority", Some priority) ∷ (codes "idl", Some file) ∷ (codes "interface", Some id) ∷ [])
 unfolding reading uses has_no_stray_dash
-call_reads remote op args priority file id remote_plain op_plain args_plain priority_plain file_plain id_plain =
+call_alone_reads remote op args priority file id remote_plain op_plain args_plain priority_plain file_plain id_plain =
     rw (remote_plain, op_plain, args_plain, priority_plain, file_plain, id_plain) refl
-
-pub call_joined_reads : (remote op args priority file id : Text)
-    → reading call_items ((codes "--interface=" ++ id) ∷ (codes "--idl=" ++ file) ∷ (codes "--priority=" ++ priority) ∷ (codes "--args=" ++ args) ∷ (codes "--op=" ++ op) ∷ (codes "--ref=" ++ remote) ∷ [])
-    ≡ Some ((codes "interface", Some id) ∷ (codes "idl", Some file) ∷ (codes "priority", Some priority) ∷ (codes "args", Some args) ∷ (codes "op", Some op) ∷ (codes "ref", Some remote) ∷ [])
-unfolding reading uses has_no_stray_dash
-call_joined_reads remote op args priority file id = refl
 
 pub load_reads : (seed count file batch fragment : Text) → form_of seed ≡ plain → form_of count ≡ plain → form_of file ≡ plain → form_of batch ≡ plain → form_of fragment ≡ plain
     → reading load_items (seed ∷ count ∷ codes "--config" ∷ file ∷ codes "--batch" ∷ batch ∷ codes "--fragment" ∷ fragment ∷ [])

@@ -44,11 +44,11 @@ audit_items = []
 abbrev pub idl_items : List Item
 idl_items = must_have Valued (codes "file") ∷ []
 
--- `call --ref TEXT --op NAME [--args JSON] [--priority N] [--idl FILE] [--interface ID]`
+-- `call --ref TEXT --op NAME [--args JSON] [--priority N] [--idl FILE] [--interface ID] [--callers N]`
 abbrev pub call_items : List Item
 call_items =
     must_have Valued (codes "ref") ∷ must_have Valued (codes "op") ∷ may_have Valued (codes "args") ∷ may_have Valued (codes "priority")
-    ∷ may_have Valued (codes "idl") ∷ may_have Valued (codes "interface") ∷ []
+    ∷ may_have Valued (codes "idl") ∷ may_have Valued (codes "interface") ∷ may_have Valued (codes "callers") ∷ []
 
 -- `load SEED COUNT [--config FILE] [--batch N] [--fragment N]`
 abbrev pub load_items : List Item

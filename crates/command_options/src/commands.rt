@@ -93,8 +93,8 @@ static IDL: [Item<'static>; 1] = [Item {
     is_due: true,
 }];
 
-// `call --ref TEXT --op NAME [--args JSON] [--priority N] [--idl FILE] [--interface ID]`
-static CALL: [Item<'static>; 6] = [
+// `call --ref TEXT --op NAME [--args JSON] [--priority N] [--idl FILE] [--interface ID] [--callers N]`
+static CALL: [Item<'static>; 7] = [
     Item {
         name: "ref",
         kind: Kind::Valued,
@@ -122,6 +122,11 @@ static CALL: [Item<'static>; 6] = [
     },
     Item {
         name: "interface",
+        kind: Kind::Valued,
+        is_due: false,
+    },
+    Item {
+        name: "callers",
         kind: Kind::Valued,
         is_due: false,
     },
@@ -241,7 +246,7 @@ pub fn read_idl<'a, S: AsStr>(
 }
 
 /// What the words after `call` give, which are `--ref TEXT --op NAME [--args JSON] [--priority N] [--idl FILE]
-/// [--interface ID]` in any order.
+/// [--interface ID] [--callers N]` in any order.
 /// None where the words have no reading.
 pub fn read_call<'a, S: AsStr>(
     alloc: Global,

@@ -62,17 +62,23 @@ pub fn commands_are_read_as_written()
     ensures idl_joined { (file : Text)
         → reading idl_items ((codes "--file=" ++ file) ∷ [])
         ≡ Some ((codes "file", Some file) ∷ []) }
-    ensures call { (remote op args priority file id : Text) → form_of remote ≡ plain → form_of op ≡ plain → form_of args ≡ plain
+    ensures call { (remote op args priority file id number : Text) → form_of remote ≡ plain → form_of op ≡ plain → form_of args ≡ plain
+        → form_of priority ≡ plain → form_of file ≡ plain → form_of id ≡ plain → form_of number ≡ plain
+        → reading call_items (codes "--ref" ∷ remote ∷ codes "--op" ∷ op ∷ codes "--args" ∷ args ∷ codes "--priority" ∷ priority
+        ∷ codes "--idl" ∷ file ∷ codes "--interface" ∷ id ∷ codes "--callers" ∷ number ∷ [])
+        ≡ Some ((codes "ref", Some remote) ∷ (codes "op", Some op) ∷ (codes "args", Some args) ∷ (codes "priority", Some priority)
+        ∷ (codes "idl", Some file) ∷ (codes "interface", Some id) ∷ (codes "callers", Some number) ∷ []) }
+    ensures call_joined { (remote op args priority file id number : Text)
+        → reading call_items ((codes "--callers=" ++ number) ∷ (codes "--interface=" ++ id) ∷ (codes "--idl=" ++ file)
+        ∷ (codes "--priority=" ++ priority) ∷ (codes "--args=" ++ args) ∷ (codes "--op=" ++ op) ∷ (codes "--ref=" ++ remote) ∷ [])
+        ≡ Some ((codes "callers", Some number) ∷ (codes "interface", Some id) ∷ (codes "idl", Some file) ∷ (codes "priority", Some priority)
+        ∷ (codes "args", Some args) ∷ (codes "op", Some op) ∷ (codes "ref", Some remote) ∷ []) }
+    ensures call_alone { (remote op args priority file id : Text) → form_of remote ≡ plain → form_of op ≡ plain → form_of args ≡ plain
         → form_of priority ≡ plain → form_of file ≡ plain → form_of id ≡ plain
         → reading call_items (codes "--ref" ∷ remote ∷ codes "--op" ∷ op ∷ codes "--args" ∷ args ∷ codes "--priority" ∷ priority
         ∷ codes "--idl" ∷ file ∷ codes "--interface" ∷ id ∷ [])
         ≡ Some ((codes "ref", Some remote) ∷ (codes "op", Some op) ∷ (codes "args", Some args) ∷ (codes "priority", Some priority)
         ∷ (codes "idl", Some file) ∷ (codes "interface", Some id) ∷ []) }
-    ensures call_joined { (remote op args priority file id : Text)
-        → reading call_items ((codes "--interface=" ++ id) ∷ (codes "--idl=" ++ file) ∷ (codes "--priority=" ++ priority)
-        ∷ (codes "--args=" ++ args) ∷ (codes "--op=" ++ op) ∷ (codes "--ref=" ++ remote) ∷ [])
-        ≡ Some ((codes "interface", Some id) ∷ (codes "idl", Some file) ∷ (codes "priority", Some priority) ∷ (codes "args", Some args)
-        ∷ (codes "op", Some op) ∷ (codes "ref", Some remote) ∷ []) }
     ensures load { (seed count file batch fragment : Text) → form_of seed ≡ plain → form_of count ≡ plain → form_of file ≡ plain
         → form_of batch ≡ plain → form_of fragment ≡ plain
         → reading load_items (seed ∷ count ∷ codes "--config" ∷ file ∷ codes "--batch" ∷ batch ∷ codes "--fragment" ∷ fragment ∷ [])

@@ -12,7 +12,7 @@ use Rattle.command_options.specs.Numbers.{number_of}
 use Rattle.command_options.specs.Words.{form_of, plain}
 use Rattle.command_options.proofs.Written as options
 use Rattle.command_words.specs.Meanings.{called, listed, loaded, named_at, piped, planned, refs_at, served_at}
-use Rattle.command_words.specs.Numbers.{batch_of, count_of, fragment_of, priority_of, runs_of}
+use Rattle.command_words.specs.Numbers.{batch_of, callers_of, count_of, fragment_of, priority_of, runs_of}
 use Rattle.command_words.specs.Words.{command_of}
 
 -- ---- bytes before a value
@@ -127,12 +127,12 @@ idl_joined_means file file_clean =
     let file_so : HasNoNul (codes "--file=" ++ file) = clean (codes "--file=" ++ file) file refl file_clean in
     rw (file_so, options.idl_joined_reads file) refl
 
-pub call_means : (remote op args priority file id : Text) → form_of remote ≡ plain → form_of op ≡ plain → form_of args ≡ plain → form_of priority ≡ plain → form_of file ≡ plain → form_of id ≡ plain
-    → HasNoNul remote → HasNoNul op → HasNoNul args → HasNoNul priority → HasNoNul file → HasNoNul id
-    → command_of (codes "call" ∷ codes "--ref" ∷ remote ∷ codes "--op" ∷ op ∷ codes "--args" ∷ args ∷ codes "--priority" ∷ priority ∷ codes "--idl" ∷ file ∷ codes "--interface" ∷ id ∷ [])
-    ≡ called (Some remote) (Some op) (Some args) (option_map Some (priority_of priority)) (Some file) (Some id)
+pub call_means : (remote op args priority file id number : Text) → form_of remote ≡ plain → form_of op ≡ plain → form_of args ≡ plain → form_of priority ≡ plain → form_of file ≡ plain → form_of id ≡ plain → form_of number ≡ plain
+    → HasNoNul remote → HasNoNul op → HasNoNul args → HasNoNul priority → HasNoNul file → HasNoNul id → HasNoNul number
+    → command_of (codes "call" ∷ codes "--ref" ∷ remote ∷ codes "--op" ∷ op ∷ codes "--args" ∷ args ∷ codes "--priority" ∷ priority ∷ codes "--idl" ∷ file ∷ codes "--interface" ∷ id ∷ codes "--callers" ∷ number ∷ [])
+    ≡ called (Some remote) (Some op) (Some args) (option_map Some (priority_of priority)) (Some file) (Some id) (option_map Some (callers_of number))
 unfolding command_of given
-call_means remote op args priority file id remote_plain op_plain args_plain priority_plain file_plain id_plain remote_clean op_clean args_clean priority_clean file_clean id_clean =
+call_means remote op args priority file id number remote_plain op_plain args_plain priority_plain file_plain id_plain number_plain remote_clean op_clean args_clean priority_clean file_clean id_clean number_clean =
     rw (
       remote_clean,
       op_clean,
@@ -140,21 +140,39 @@ call_means remote op args priority file id remote_plain op_plain args_plain prio
       priority_clean,
       file_clean,
       id_clean,
-      options.call_reads remote op args priority file id remote_plain op_plain args_plain priority_plain file_plain id_plain,
+      number_clean,
+      options.call_reads remote op args priority file id number remote_plain op_plain args_plain priority_plain file_plain id_plain number_plain,
     ) refl
 
-pub call_joined_means : (remote op args priority file id : Text) → HasNoNul remote → HasNoNul op → HasNoNul args → HasNoNul priority → HasNoNul file → HasNoNul id
-    → command_of (codes "call" ∷ (codes "--interface=" ++ id) ∷ (codes "--idl=" ++ file) ∷ (codes "--priority=" ++ priority) ∷ (codes "--args=" ++ args) ∷ (codes "--op=" ++ op) ∷ (codes "--ref=" ++ remote) ∷ [])
-    ≡ called (Some remote) (Some op) (Some args) (option_map Some (priority_of priority)) (Some file) (Some id)
+pub call_joined_means : (remote op args priority file id number : Text) → HasNoNul remote → HasNoNul op → HasNoNul args → HasNoNul priority → HasNoNul file → HasNoNul id → HasNoNul number
+    → command_of (codes "call" ∷ (codes "--callers=" ++ number) ∷ (codes "--interface=" ++ id) ∷ (codes "--idl=" ++ file) ∷ (codes "--priority=" ++ priority) ∷ (codes "--args=" ++ args) ∷ (codes "--op=" ++ op) ∷ (codes "--ref=" ++ remote) ∷ [])
+    ≡ called (Some remote) (Some op) (Some args) (option_map Some (priority_of priority)) (Some file) (Some id) (option_map Some (callers_of number))
 unfolding command_of given
-call_joined_means remote op args priority file id remote_clean op_clean args_clean priority_clean file_clean id_clean =
+call_joined_means remote op args priority file id number remote_clean op_clean args_clean priority_clean file_clean id_clean number_clean =
     let remote_so : HasNoNul (codes "--ref=" ++ remote) = clean (codes "--ref=" ++ remote) remote refl remote_clean in
     let op_so : HasNoNul (codes "--op=" ++ op) = clean (codes "--op=" ++ op) op refl op_clean in
     let args_so : HasNoNul (codes "--args=" ++ args) = clean (codes "--args=" ++ args) args refl args_clean in
     let priority_so : HasNoNul (codes "--priority=" ++ priority) = clean (codes "--priority=" ++ priority) priority refl priority_clean in
     let file_so : HasNoNul (codes "--idl=" ++ file) = clean (codes "--idl=" ++ file) file refl file_clean in
     let id_so : HasNoNul (codes "--interface=" ++ id) = clean (codes "--interface=" ++ id) id refl id_clean in
-    rw (remote_so, op_so, args_so, priority_so, file_so, id_so, options.call_joined_reads remote op args priority file id) refl
+    let number_so : HasNoNul (codes "--callers=" ++ number) = clean (codes "--callers=" ++ number) number refl number_clean in
+    rw (remote_so, op_so, args_so, priority_so, file_so, id_so, number_so, options.call_joined_reads remote op args priority file id number) refl
+
+pub call_alone_means : (remote op args priority file id : Text) → form_of remote ≡ plain → form_of op ≡ plain → form_of args ≡ plain → form_of priority ≡ plain → form_of file ≡ plain → form_of id ≡ plain
+    → HasNoNul remote → HasNoNul op → HasNoNul args → HasNoNul priority → HasNoNul file → HasNoNul id
+    → command_of (codes "call" ∷ codes "--ref" ∷ remote ∷ codes "--op" ∷ op ∷ codes "--args" ∷ args ∷ codes "--priority" ∷ priority ∷ codes "--idl" ∷ file ∷ codes "--interface" ∷ id ∷ [])
+    ≡ called (Some remote) (Some op) (Some args) (option_map Some (priority_of priority)) (Some file) (Some id) (Some None)
+unfolding command_of given
+call_alone_means remote op args priority file id remote_plain op_plain args_plain priority_plain file_plain id_plain remote_clean op_clean args_clean priority_clean file_clean id_clean =
+    rw (
+      remote_clean,
+      op_clean,
+      args_clean,
+      priority_clean,
+      file_clean,
+      id_clean,
+      options.call_alone_reads remote op args priority file id remote_plain op_plain args_plain priority_plain file_plain id_plain,
+    ) refl
 
 pub load_means : (seed count file batch fragment : Text) → form_of seed ≡ plain → form_of count ≡ plain → form_of file ≡ plain → form_of batch ≡ plain → form_of fragment ≡ plain
     → HasNoNul seed → HasNoNul count → HasNoNul file → HasNoNul batch → HasNoNul fragment

@@ -5,11 +5,13 @@ use Rattle.object_lines.specs.Addresses.{Place, address_of}
 use Rattle.load_runs.specs.declared.load_plan.LoadPlan.{LoadPlan}
 use Rattle.pipe_runs.specs.declared.shown.Shown.{Shown}
 use Rattle.pipe_runs.specs.declared.shown.Shown.TheVariants as shown
+use Rattle.client_runs.specs.declared.call_words.CallWords.{CallWords}
 use Rattle.command_options.specs.Items.{Text}
 use Rattle.command_options.specs.Numbers.{number_of}
-use Rattle.command_words.specs.Numbers.{batch_by, runs_by, priority_by, count_of, fragment_by}
+use Rattle.command_words.specs.Numbers.{batch_by, runs_by, callers_by, priority_by, count_of, fragment_by}
 use Rattle.command_words.specs.declared.meaning.Meaning.{Meaning}
-use Rattle.command_words.specs.declared.meaning.Meaning.TheVariants.{Pipe, Serve, Names, Dump, Audit, Refs, RefsAt, Idl, Call, Load, Unread}
+use Rattle.command_words.specs.declared.meaning.Meaning.TheVariants.{Pipe, Serve, Names, Dump, Audit, Refs, RefsAt, Idl}
+use Rattle.command_words.specs.declared.meaning.Meaning.TheVariants.{Call, SharedCall, Load, Unread}
 
 -- what words give the items of a command: for each name its text, where the item is used
 abbrev pub Gives : Type 0
@@ -103,21 +105,27 @@ listed None = Unread
 abbrev pub idl_by : Gives → Meaning
 idl_by gives = listed (gives (codes "file"))
 
--- ---- `call --ref TEXT --op NAME [--args JSON] [--priority N] [--idl FILE] [--interface ID]`
+-- ---- `call --ref TEXT --op NAME [--args JSON] [--priority N] [--idl FILE] [--interface ID] [--callers N]`
 
--- the call of an operation of a reference, where its priority is a number that it may be
-abbrev pub called : (remote op args : Option Text) → Option (Option ℕ) → (file id : Option Text) → Meaning
-called (Some remote) (Some op) args (Some priority) file id =
-    Call (record { reference = remote; operation = op; arguments = args; priority = priority; idl = file; interface = id })
-called (Some remote) (Some op) args None file id = Unread
-called (Some remote) None args priority file id = Unread
-called None op args priority file id = Unread
+-- a call, which callers make over one link where their number is given
+abbrev pub called_by : CallWords → Option ℕ → Meaning
+called_by words None = Call words
+called_by words (Some callers) = SharedCall words callers
+
+-- the call of an operation of a reference, where its priority and its callers are numbers that they may be
+abbrev pub called : (remote op args : Option Text) → Option (Option ℕ) → (file id : Option Text) → Option (Option ℕ) → Meaning
+called (Some remote) (Some op) args (Some priority) file id (Some callers) =
+    called_by (record { reference = remote; operation = op; arguments = args; priority = priority; idl = file; interface = id }) callers
+called (Some remote) (Some op) args (Some priority) file id None = Unread
+called (Some remote) (Some op) args None file id callers = Unread
+called (Some remote) None args priority file id callers = Unread
+called None op args priority file id callers = Unread
 
 -- the call, by the texts of its options
 abbrev pub call_by : Gives → Meaning
 call_by gives =
     called (gives (codes "ref")) (gives (codes "op")) (gives (codes "args")) (priority_by (gives (codes "priority")))
-    (gives (codes "idl")) (gives (codes "interface"))
+    (gives (codes "idl")) (gives (codes "interface")) (callers_by (gives (codes "callers")))
 
 -- ---- `load SEED COUNT [--config FILE] [--batch N] [--fragment N]`
 

@@ -5,6 +5,7 @@ use Rattle.object_refs.specs.LocationReading.{port_number}
 use Rattle.load_runs.specs.Counts.{fragment_len, load_count}
 use Rattle.pipe_runs.specs.Batches.{batch}
 use Rattle.server_runs.specs.Counts.{run_count}
+use Rattle.client_mux.specs.Counts.{caller_count}
 use Rattle.command_options.specs.Items.{Text}
 use Rattle.command_options.specs.Numbers.{number_of}
 
@@ -25,6 +26,15 @@ runs_of word = option_and_then run_count (port_number 10 word)
 abbrev pub runs_by : Option Text → Option ℕ
 runs_by (Some word) = runs_of word
 runs_by None = Some 1
+
+-- a number of callers from 1 to 16, of 1 to 10 decimal digits
+abbrev pub callers_of : Text → Option ℕ
+callers_of word = option_and_then caller_count (port_number 10 word)
+
+-- how many callers share a link: the number that the word is, or none where there is no word
+abbrev pub callers_by : Option Text → Option (Option ℕ)
+callers_by (Some word) = option_map Some (callers_of word)
+callers_by None = Some None
 
 -- a number that a priority may be
 abbrev pub priority : ℕ → Option ℕ

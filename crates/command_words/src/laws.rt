@@ -1,5 +1,5 @@
 //! Laws of what words mean. The bodies are empty: each contract is a law of the definitions.
-ghost use Rattle.std.specs.Prelude.{◌≡◌, ◌++◌, ◌∷◌, [], List, Some, codes, false, true, option_map};
+ghost use Rattle.std.specs.Prelude.{◌≡◌, ◌++◌, ◌∷◌, [], List, Some, None, codes, false, true, option_map};
 ghost use Rattle.orb_base.specs.NulFree.{HasNoNul};
 ghost use Rattle.object_lines.specs.Addresses.{address_of};
 ghost use Rattle.pipe_runs.specs.declared.shown.Shown.TheVariants as shown;
@@ -10,7 +10,7 @@ ghost use Rattle.command_options.specs.Whole.{IsWhole};
 ghost use Rattle.command_options.specs.Words.{form_of, plain};
 ghost use Rattle.command_words.specs.declared.meaning.Meaning.TheVariants.{Unread};
 ghost use Rattle.command_words.specs.Meanings.{called, listed, loaded, named_at, piped, planned, refs_at, served_at};
-ghost use Rattle.command_words.specs.Numbers.{batch_of, count_of, fragment_of, priority_of, runs_of};
+ghost use Rattle.command_words.specs.Numbers.{batch_of, callers_of, count_of, fragment_of, priority_of, runs_of};
 ghost use Rattle.command_words.specs.Words.{Command, command_named, command_of};
 
 /// The order of options is free: words in which two options of a command, each written out whole, change places mean the same. So do
@@ -73,17 +73,25 @@ pub fn commands_mean_what_they_say()
     ensures idl_joined { (file : Text) → HasNoNul file
         → command_of (codes "idl" ∷ (codes "--file=" ++ file) ∷ [])
         ≡ listed (Some file) }
-    ensures call { (remote op args priority file id : Text) → form_of remote ≡ plain → form_of op ≡ plain → form_of args ≡ plain
+    ensures call { (remote op args priority file id number : Text) → form_of remote ≡ plain → form_of op ≡ plain → form_of args ≡ plain
+        → form_of priority ≡ plain → form_of file ≡ plain → form_of id ≡ plain → form_of number ≡ plain → HasNoNul remote → HasNoNul op
+        → HasNoNul args → HasNoNul priority → HasNoNul file → HasNoNul id → HasNoNul number
+        → command_of (codes "call" ∷ codes "--ref" ∷ remote ∷ codes "--op" ∷ op ∷ codes "--args" ∷ args ∷ codes "--priority" ∷ priority
+        ∷ codes "--idl" ∷ file ∷ codes "--interface" ∷ id ∷ codes "--callers" ∷ number ∷ [])
+        ≡ called (Some remote) (Some op) (Some args) (option_map Some (priority_of priority)) (Some file) (Some id)
+        (option_map Some (callers_of number)) }
+    ensures call_joined { (remote op args priority file id number : Text) → HasNoNul remote → HasNoNul op → HasNoNul args
+        → HasNoNul priority → HasNoNul file → HasNoNul id → HasNoNul number
+        → command_of (codes "call" ∷ (codes "--callers=" ++ number) ∷ (codes "--interface=" ++ id) ∷ (codes "--idl=" ++ file)
+        ∷ (codes "--priority=" ++ priority) ∷ (codes "--args=" ++ args) ∷ (codes "--op=" ++ op) ∷ (codes "--ref=" ++ remote) ∷ [])
+        ≡ called (Some remote) (Some op) (Some args) (option_map Some (priority_of priority)) (Some file) (Some id)
+        (option_map Some (callers_of number)) }
+    ensures call_alone { (remote op args priority file id : Text) → form_of remote ≡ plain → form_of op ≡ plain → form_of args ≡ plain
         → form_of priority ≡ plain → form_of file ≡ plain → form_of id ≡ plain → HasNoNul remote → HasNoNul op → HasNoNul args
         → HasNoNul priority → HasNoNul file → HasNoNul id
         → command_of (codes "call" ∷ codes "--ref" ∷ remote ∷ codes "--op" ∷ op ∷ codes "--args" ∷ args ∷ codes "--priority" ∷ priority
         ∷ codes "--idl" ∷ file ∷ codes "--interface" ∷ id ∷ [])
-        ≡ called (Some remote) (Some op) (Some args) (option_map Some (priority_of priority)) (Some file) (Some id) }
-    ensures call_joined { (remote op args priority file id : Text) → HasNoNul remote → HasNoNul op → HasNoNul args → HasNoNul priority
-        → HasNoNul file → HasNoNul id
-        → command_of (codes "call" ∷ (codes "--interface=" ++ id) ∷ (codes "--idl=" ++ file) ∷ (codes "--priority=" ++ priority)
-        ∷ (codes "--args=" ++ args) ∷ (codes "--op=" ++ op) ∷ (codes "--ref=" ++ remote) ∷ [])
-        ≡ called (Some remote) (Some op) (Some args) (option_map Some (priority_of priority)) (Some file) (Some id) }
+        ≡ called (Some remote) (Some op) (Some args) (option_map Some (priority_of priority)) (Some file) (Some id) (Some None) }
     ensures load { (seed count file batch fragment : Text) → form_of seed ≡ plain → form_of count ≡ plain → form_of file ≡ plain
         → form_of batch ≡ plain → form_of fragment ≡ plain → HasNoNul seed → HasNoNul count → HasNoNul file → HasNoNul batch
         → HasNoNul fragment

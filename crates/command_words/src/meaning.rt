@@ -1,5 +1,6 @@
 //! What the words of a command line mean.
 
+use client_mux::CallerCount;
 use client_runs::CallWords;
 use load_runs::LoadPlan;
 use object_lines::Address;
@@ -59,6 +60,13 @@ pub enum Meaning {
     Idl(Text),
     /// The command `call`.
     Call(CallWords),
+    /// The command `call` with `--callers`: so many callers make the call over one link.
+    SharedCall {
+        /// The call.
+        words: CallWords,
+        /// How many callers there are.
+        callers: CallerCount,
+    },
     /// The command `load`.
     Load(LoadWords),
     /// The words have no reading.

@@ -2,6 +2,7 @@
 ghost use Rattle.std.specs.Prelude.{◌≡◌, option_map};
 ghost use Rattle.command_words.specs.Numbers as Spec;
 
+use client_mux::CallerCount;
 use command_options::{MAX_DIGITS, number_of};
 use load_runs::{FragmentLen, LoadCount};
 use object_refs::port_number;
@@ -34,6 +35,20 @@ pub(crate) fn runs_by(word: Option<&str>) -> Option<RunCount>
             RunCount::new(number)
         }
         None => Some(RunCount::one()),
+    }
+}
+
+/// How many callers share a link: the number that the word is, 1 to 16 in 1 to 10 decimal digits, or none where there is no word. None
+/// where the word is no such number.
+pub(crate) fn callers_by(word: Option<&str>) -> Option<Option<CallerCount>>
+    ensures { result ≡ Spec.callers_by (option_map (λ word. word.now) word.entry) }
+{
+    match word {
+        Some(word) => {
+            let number = port_number(word.as_bytes(), MAX_DIGITS)?;
+            Some(Some(CallerCount::new(number)?))
+        }
+        None => Some(None),
     }
 }
 

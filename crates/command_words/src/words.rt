@@ -8,7 +8,8 @@ ghost use Rattle.command_words.specs.Meanings as By;
 ghost use Rattle.command_words.specs.Words as Spec;
 
 use crate::meaning::{LoadWords, Meaning, PipeWords, ServeWords};
-use crate::numbers::{batch_by, count_of, fragment_by, priority_by, runs_by};
+use crate::numbers::{batch_by, callers_by, count_of, fragment_by, priority_by, runs_by};
+use client_mux::CallerCount;
 use client_runs::{ArgumentText, CallWords};
 use command_options::{
     Options, has_nul, number_of, read_audit, read_call, read_dump, read_idl, read_load, read_names,
@@ -264,19 +265,33 @@ fn call_by(alloc: Global, options: &Options<'_>) -> Result<Meaning, NoMemory>
     let Some(priority) = priority_by(options.value("priority")) else {
         return Ok(Meaning::Unread);
     };
+    let Some(callers) = callers_by(options.value("callers")) else {
+        return Ok(Meaning::Unread);
+    };
     let reference = text_of(alloc, remote)?;
     let operation = text_of(alloc, name)?;
     let arguments = arguments_by(alloc, options.value("args"))?;
     let idl = text_by(alloc, options.value("idl"))?;
     let interface = text_by(alloc, options.value("interface"))?;
-    Ok(Meaning::Call(CallWords {
+    let words = CallWords {
         reference,
         operation,
         arguments,
         priority,
         idl,
         interface,
-    }))
+    };
+    Ok(called_by(words, callers))
+}
+
+/// A call, which callers make over one link where their number is given.
+fn called_by(words: CallWords, callers: Option<CallerCount>) -> Meaning
+    ensures { result ≡ By.called_by words callers }
+{
+    match callers {
+        Some(callers) => Meaning::SharedCall { words, callers },
+        None => Meaning::Call(words),
+    }
 }
 
 /// The text of arguments, if there is one.
