@@ -45,6 +45,7 @@ fn without_words<A, I, O>(alloc: Global, fault: &io::Error) -> Answered<A, I, O>
         names: None,
         acceptors: List::new(alloc),
         link: None,
+        mux: None,
     }
 }
 

@@ -28,6 +28,7 @@ fn local_name(fault: LocalFault) -> &'static str {
         LocalFault::NoOperation => "NoOperation",
         LocalFault::BadArguments => "BadArguments",
         LocalFault::NoBand => "NoBand",
+        LocalFault::SharedBand => "SharedBand",
     }
 }
 

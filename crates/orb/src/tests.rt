@@ -121,6 +121,7 @@ const LINES: &[(Plain, &str)] = &[
         "local: BadArguments",
     ),
     (Plain::Local(LocalFault::NoBand), "local: NoBand"),
+    (Plain::Local(LocalFault::SharedBand), "local: SharedBand"),
 ];
 
 fn note_of(plain: Plain) -> Note {

@@ -25,7 +25,6 @@ use Rattle.text_streams.proofs.CallerLemmas.{gave_none}
 use Rattle.text_streams.specs.Streams.{GaveFew}
 use Rattle.command_words.specs.declared.meaning.Meaning.TheVariants.{Call}
 use Rattle.orb_command.specs.declared.answered.Answered.{Answered}
-use Rattle.orb_command.specs.declared.answered.Reported.{Reported}
 use Rattle.orb_command.specs.declared.call.CallTold.{CallTold}
 use Rattle.orb_command.specs.declared.note.Note.TheVariants.{Memory}
 use Rattle.orb_command.specs.CallAnswer.{note_of_end, note_of_fault, CallsSo}
@@ -34,7 +33,7 @@ use Rattle.orb_command.specs.Faults.{CallFaults}
 use Rattle.orb_command.specs.Moment.{Moment}
 
 -- nothing is known out of memory
-known_wanting : (idl : Option (List ℕ)) (files : FilesState) → Knows (Err end.NoMemory) idl files files
+pub known_wanting : (idl : Option (List ℕ)) (files : FilesState) → Knows (Err end.NoMemory) idl files files
 known_wanting (Some name) files = refl
 known_wanting None files = refl
 
@@ -59,9 +58,23 @@ module _ {I O : Type 0} (source : I → SourceState) (sink : O → SinkState) wh
 
 -- ---- the counts
 
-known_same : (r : Repository) (idl : Option (List ℕ)) (files files' : FilesState) → Knows (Ok r) idl files files' → files'.faults ≡ files.faults
+pub known_same : (r : Repository) (idl : Option (List ℕ)) (files files' : FilesState) → Knows (Ok r) idl files files' → files'.faults ≡ files.faults
 known_same r (Some name) files files' h = h.1
 known_same r None files files' h = ap (λ (s : FilesState). s.faults) h.1
+
+-- a call that gave no results
+pub fault_faults : (f : CallFault) (before after : Moment) → after.files.faults ≡ before.files.faults → after.out.faults ≡ before.out.faults
+    → CallFaults (note_of_fault f) before after
+fault_faults (fault.System x) before after same out = (same, out)
+fault_faults (fault.User id) before after same out = (same, out)
+fault_faults (fault.Forward n) before after same out = (same, out)
+fault_faults (fault.Refused n f) before after same out = (same, out)
+fault_faults fault.BadBody before after same out = (same, out)
+fault_faults fault.Closed before after same out = (same, out)
+fault_faults fault.ReadFault before after same out = out
+fault_faults fault.WriteFault before after same out = same
+fault_faults fault.Limit before after same out = (same, out)
+fault_faults fault.NoMemory before after same out = (same, out)
 
 -- a call over a connection, after the files were read
 told_faults : (answer : CallEnd) (outcome : Outcome) (operation : OperationView) (before after : Moment) → after.files.faults ≡ before.files.faults
@@ -75,28 +88,15 @@ told_faults end.NetFault (Ok values) operation before after same h = absurd h
 told_faults (end.Called f) (Ok values) operation before after same h = absurd h
 told_faults answer (Err f) operation before after same h =
     subst (λ x. CallFaults (note_of_end x) before after) (sym h.0) (fault_faults f before after same (ap (λ (o : SinkState). o.faults) h.1))
-  where
-    fault_faults : (f : CallFault) (before after : Moment) → after.files.faults ≡ before.files.faults → after.out.faults ≡ before.out.faults
-        → CallFaults (note_of_fault f) before after
-    fault_faults (fault.System x) before after same out = (same, out)
-    fault_faults (fault.User id) before after same out = (same, out)
-    fault_faults (fault.Forward n) before after same out = (same, out)
-    fault_faults (fault.Refused n f) before after same out = (same, out)
-    fault_faults fault.BadBody before after same out = (same, out)
-    fault_faults fault.Closed before after same out = (same, out)
-    fault_faults fault.ReadFault before after same out = out
-    fault_faults fault.WriteFault before after same out = same
-    fault_faults fault.Limit before after same out = (same, out)
-    fault_faults fault.NoMemory before after same out = (same, out)
 
 -- without a connection
-refused_faults : (why : NetFault) (before after : Moment) → after.files.faults ≡ before.files.faults → after.out.faults ≡ before.out.faults
+pub refused_faults : (why : NetFault) (before after : Moment) → after.files.faults ≡ before.files.faults → after.out.faults ≡ before.out.faults
     → CallFaults (note_of_end (end_of why)) before after
 refused_faults net.Failed before after same out = (same, out)
 refused_faults net.NoMemory before after same out = (same, out)
 
 -- nothing is known
-unknown_faults : (e : CallEnd) (idl : Option (List ℕ)) (before after : Moment) → Knows (Err e) idl before.files after.files → after.out.faults ≡ before.out.faults
+pub unknown_faults : (e : CallEnd) (idl : Option (List ℕ)) (before after : Moment) → Knows (Err e) idl before.files after.files → after.out.faults ≡ before.out.faults
     → CallFaults (note_of_end e) before after
 unknown_faults (end.File (file.Refused f)) (Some name) before after h out = (h.1, out)
 unknown_faults (end.File file.Absent) (Some name) before after h out = (h.1, out)
@@ -148,8 +148,8 @@ module _ {A I O : Type 0} (state : A → AcceptorState I O) (source : I → Sour
   pub call_answers : (words : CallWords) (answered : Answered A I O) (before after : Moment) (net net' : NetState I O) → after.input ≡ before.input
       → CallsSo source sink words (call_told answered) before.files after.files net net' before.out after.out
       → answered.status ≡ status_of answered.note → answered.piped ≡ None → answered.runs.items ≡ [] → answered.names ≡ None → answered.acceptors.items ≡ []
-      → Answers state source sink (Call words) answered before after net net'
-  call_answers words answered before after net net' same h status none run unnamed empty = record {
+      → answered.mux ≡ None → Answers state source sink (Call words) answered before after net net'
+  call_answers words answered before after net net' same h status none run unnamed empty alone = record {
     reports = record {
       status = status;
       means = same;
@@ -157,5 +157,5 @@ module _ {A I O : Type 0} (state : A → AcceptorState I O) (source : I → Sour
       faults = (same, subst (λ n. CallFaults n before after) (sym h.note) (calls_faults source sink words h.answer net net' before after h.calls));
       few = subst (λ (s : SourceState). GaveFew 0 before.input s) (sym same) (gave_none 0 before.input);
     };
-    uses = (run, unnamed, empty, h);
+    uses = (run, unnamed, empty, alone, h);
   }

@@ -65,14 +65,21 @@ use Rattle.client_runs.specs.declared.call_end.FileFault.{FileFault}
 use Rattle.client_runs.specs.declared.call_end.FileFault.TheVariants as file
 use Rattle.client_runs.specs.declared.call_words.CallWords.{CallWords}
 use Rattle.client_runs.specs.declared.called.Called.{Called}
+use Rattle.mux_runs.specs.declared.run.MuxRun.{MuxRun}
+use Rattle.shared_calls.specs.Lines as shared_lines
+use Rattle.shared_calls.specs.Results.{results_of}
+use Rattle.shared_calls.specs.Runs as shared
+use Rattle.shared_calls.specs.Runs.{Team, RanOver}
+use Rattle.shared_calls.specs.declared.shared_call.SharedCall.{SharedCall as SharedRun}
 use Rattle.command_words.specs.declared.meaning.Meaning.{Meaning}
-use Rattle.command_words.specs.declared.meaning.Meaning.TheVariants.{Pipe, Serve, Names, Dump, Audit, Refs, RefsAt, Idl, Call, Load, Unread}
+use Rattle.command_words.specs.declared.meaning.Meaning.TheVariants.{Pipe, Serve, Names, Dump, Audit, Refs, RefsAt, Idl, Call, SharedCall, Load, Unread}
 use Rattle.command_words.specs.declared.meaning.PipeWords.{PipeWords}
 use Rattle.command_words.specs.declared.meaning.ServeWords.{ServeWords}
 use Rattle.command_words.specs.declared.meaning.LoadWords.{LoadWords}
 use Rattle.orb_command.proofs.NamesNotes.{names_asked}
+use Rattle.orb_command.proofs.SharedGood.{read_rose, write_rose}
 use Rattle.orb_command.specs.Moment.{Moment}
-use Rattle.orb_command.specs.Command.{status_of, Answers}
+use Rattle.orb_command.specs.Command.{status_of, Answers, link_by, link_of}
 use Rattle.orb_command.specs.Completeness.{is_good, LinkFails, RefusesSetup, RefusesListed, RefusesKnown, GoesWell}
 use Rattle.orb_command.specs.Faults.{FaultsAt, PipeFaults}
 use Rattle.orb_command.specs.SetupNotes.{setup_note, serving_note}
@@ -308,6 +315,54 @@ module _ {I O : Type 0} (source : I → SourceState) (sink : O → SinkState) wh
   call_good words ran files files' net net' out out' none store nets unsaid links (inr (end, knows, un)) =
       subst (λ e. Good (Call words) (called.note_of_end e)) (sym un.why) (known_good words words.idl end files files' none store knows)
 
+  -- the lines of the callers
+  lines_good : (words : CallWords) (asked : Asked) (callers : ℕ) (ran : SharedRun I O) (link : I × O) (run : MuxRun I O) (end : CallEnd) (out out' : SinkState)
+      → ¬ Rose (source link.0).faults (source run.source).faults → ¬ Rose (sink link.1).faults (sink run.sink).faults → ¬ Rose out.faults out'.faults
+      → RanOver source sink asked callers run link → shared_lines.WritesLines end asked.operation (results_of asked.operation run.ends.items) out out'
+      → Good (Call words) (called.note_of_end end)
+  lines_good words asked callers ran link run call.Done out out' unread unwritten unsaid over lines = refl
+  lines_good words asked callers ran link run (call.Called f) out out' unread unwritten unsaid over lines =
+      call_fault_good words f
+      (λ e. unread (read_rose callers run.history.items run.write run.why (source link.0) (source run.source) (sink link.1) (sink run.sink) asked.operation run.ends.items
+      over.lawful over.sent over.heard over.own (lines.0 ∙ ap Some e)))
+      (λ e. unwritten (write_rose callers run.history.items run.write run.why (source link.0) (source run.source) (sink link.1) (sink run.sink) asked.operation run.ends.items
+      over.lawful over.sent over.heard over.own (lines.0 ∙ ap Some e)))
+  lines_good words asked callers ran link run call.WriteFault out out' unread unwritten unsaid over lines = absurd (unsaid lines.1)
+  lines_good words asked callers ran link run call.NoMemory out out' unread unwritten unsaid over lines = refl
+  lines_good words asked callers ran link run (call.File f) out out' unread unwritten unsaid over lines = absurd lines
+  lines_good words asked callers ran link run (call.Local f) out out' unread unwritten unsaid over lines = refl
+  lines_good words asked callers ran link run call.NetFault out out' unread unwritten unsaid over lines = absurd lines
+
+  -- what came of connecting for several callers
+  links_good : (words : CallWords) (asked : Asked) (callers : ℕ) (ran : SharedRun I O) (answer : Result (I × O) NetFault) (net net' : NetState I O) (out out' : SinkState)
+      → ¬ Rose net.faults net'.faults → ¬ Rose out.faults out'.faults → ¬ LinkFails source sink (link_by ran.run ran.link) → CountsNetFault answer net net'
+      → shared.Comes source sink asked callers ran answer out out' → Good (Call words) (called.note_of_end ran.end)
+  links_good words asked callers ran (Ok link) net net' out out' nets unsaid links counts (new_source, new_sink, inl over) =
+      let run = over.run in
+      let held : ¬ LinkFails source sink (Some (run.source, run.sink)) = λ fails. links (subst (λ (r : Option (MuxRun I O)). LinkFails source sink (link_by r ran.link)) (sym over.is) fails) in
+      lines_good words asked callers ran link run ran.end out out'
+      (λ rose. held (inl (subst (λ n. Rose n (source run.source).faults) new_source.0 rose)))
+      (λ rose. held (inr (subst (λ n. Rose n (sink run.sink).faults) new_sink.0 rose)))
+      unsaid over.over over.lines
+  links_good words asked callers ran (Ok link) net net' out out' nets unsaid links counts (new_source, new_sink, inr not) =
+      subst (λ e. Good (Call words) (called.note_of_end e)) (sym not.why) refl
+  links_good words asked callers ran (Err net.Failed) net net' out out' nets unsaid links counts comes = absurd (nets counts.1)
+  links_good words asked callers ran (Err net.NoMemory) net net' out out' nets unsaid links counts comes =
+      subst (λ e. Good (Call words) (called.note_of_end e)) (sym comes.0) refl
+
+  shared_good : (team : Team) (ran : SharedRun I O) (files files' : FilesState) (net net' : NetState I O) (out out' : SinkState)
+      → ¬ RefusesKnown team.words.idl files files' → ¬ Rose files.faults files'.faults → ¬ Rose net.faults net'.faults → ¬ Rose out.faults out'.faults
+      → ¬ LinkFails source sink (link_by ran.run ran.link) → shared.SharesWith source sink team ran files files' net net' out out'
+      → Good (Call team.words) (called.note_of_end ran.end)
+  shared_good team ran files files' net net' out out' none store nets unsaid links (inl (r, knows, inl made)) =
+      links_good team.words made.asked team.callers ran made.once.answer net net' out out' nets unsaid links made.once.faults made.once.comes
+  shared_good team ran files files' net net' out out' none store nets unsaid links (inl (r, knows, inr (inl (why, refuses, un)))) =
+      subst (λ e. Good (Call team.words) (called.note_of_end e)) (sym un.why) refl
+  shared_good team ran files files' net net' out out' none store nets unsaid links (inl (r, knows, inr (inr un))) =
+      subst (λ e. Good (Call team.words) (called.note_of_end e)) (sym un.why) refl
+  shared_good team ran files files' net net' out out' none store nets unsaid links (inr (end, knows, un)) =
+      subst (λ e. Good (Call team.words) (called.note_of_end e)) (sym un.why) (known_good team.words team.words.idl end files files' none store knows)
+
 idl_good : (name : List ℕ) (end : IdlEnd) (files files' : FilesState) (out out' : SinkState) → ¬ RefusesListed name files files' → Lists end name files files' out out'
     → (idl_note end ≡ ReadFault → ⊥) → (idl_note end ≡ WriteFault → ⊥) → Good (Idl name) (idl_note end)
 idl_good name listed.Done files files' out out' none h unread unwritten = refl
@@ -337,7 +392,7 @@ module _ {A I O : Type 0} (state : A → AcceptorState I O) (source : I → Sour
   -- what a command answered that went well
   abbrev Fine : Meaning → Answered A I O → Moment → Moment → NetState I O → NetState I O → Type 0
   Fine command answered before after net net' =
-      Answers state source sink command answered before after net net' × GoesWell source sink command answered.link before after net net'
+      Answers state source sink command answered before after net net' × GoesWell source sink command (link_of answered) before after net net'
 
   -- the status is that of its note
   by_note : (command : Meaning) (answered : Answered A I O) (before after : Moment) (net net' : NetState I O) (note : Note)
@@ -350,7 +405,7 @@ module _ {A I O : Type 0} (state : A → AcceptorState I O) (source : I → Sour
   never command answered before after net net' note n h e none same = none (subst (λ x. FaultsAt command x before after) (e ∙ same) h.0.reports.faults)
 
   pub complete : (command : Meaning) (answered : Answered A I O) (before after : Moment) (net net' : NetState I O)
-      → Answers state source sink command answered before after net net' → GoesWell source sink command answered.link before after net net'
+      → Answers state source sink command answered before after net net' → GoesWell source sink command (link_of answered) before after net net'
       → is_good command answered.status ≡ true
   complete (Pipe words) answered before after net net' h well =
       let c = Pipe words in
@@ -416,10 +471,17 @@ module _ {A I O : Type 0} (state : A → AcceptorState I O) (source : I → Sour
       (never c answered before after net net' (idl_note m.answer) ReadFault (h, well) m.told (λ f. well.store f.1.0))
       (never c answered before after net net' (idl_note m.answer) WriteFault (h, well) m.told (λ f. well.output f.1.1)))
   complete (Call words) answered before after net net' h well =
-      let c = h.uses.3 in
+      let c = h.uses.4 in
       by_note (Call words) answered before after net net' (called.note_of_end c.answer.end) (h, well) c.note
       (call_good source sink words c.answer before.files after.files net net' before.out after.out well.files well.store well.nets well.output
-      (λ fails. well.links (subst (LinkFails source sink) (sym c.link) fails)) c.calls)
+      (λ fails. well.links (subst (λ (r : Option (MuxRun I O)). LinkFails source sink (link_by r answered.link)) (sym h.uses.3) (subst (LinkFails source sink) (sym c.link) fails))) c.calls)
+  complete (SharedCall words callers) answered before after net net' h well =
+      let c = h.uses.3 in
+      let left : link_by answered.mux answered.link ≡ link_by c.answer.run c.answer.link =
+      ap (λ (r : Option (MuxRun I O)). link_by r answered.link) c.run ∙ ap (λ (l : Option (I × O)). link_by c.answer.run l) c.link in
+      by_note (SharedCall words callers) answered before after net net' (called.note_of_end c.answer.end) (h, well) c.note
+      (shared_good source sink (record { words = words; callers = callers }) c.answer before.files after.files net net' before.out after.out well.files well.store well.nets well.output
+      (λ fails. well.links (subst (LinkFails source sink) (sym left) fails)) c.shares)
   complete (Load words) answered before after net net' h well =
       let c = Load words in
       elim h.reports.means.loads.1 [

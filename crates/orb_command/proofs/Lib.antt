@@ -1,6 +1,7 @@
 pub mod CommandLaws
 pub mod AtLaws
 pub mod CallNotes
+pub mod SharedNotes
 pub mod LoadNotes
 pub mod IdlLaws
 pub mod PipeNotes
@@ -8,4 +9,5 @@ pub mod Plain
 pub mod NamesNotes
 pub mod ServeNotes
 pub mod UsageLaws
+pub mod SharedGood
 pub mod Complete

@@ -19,7 +19,7 @@ use Rattle.names_server.specs.declared.names_end.NamesEnd.TheVariants as end
 use Rattle.text_streams.proofs.CallerLemmas.{gave_none}
 use Rattle.text_streams.specs.Streams.{GaveFew}
 use Rattle.command_words.specs.declared.meaning.Meaning.TheVariants.{Names}
-use Rattle.orb_command.specs.Command.{status_of, Answers, names_told}
+use Rattle.orb_command.specs.Command.{status_of, Answers, Unlinked, names_told}
 use Rattle.orb_command.specs.Faults.{NamesFaults}
 use Rattle.orb_command.specs.Moment.{Moment}
 use Rattle.orb_command.specs.NamesAnswer.{note_of_end, NamesBy}
@@ -114,7 +114,7 @@ module _ {A I O : Type 0} (state : A → AcceptorState I O) (source : I → Sour
 
   pub names_answers : (at : Place) (answered : Answered A I O) (before after : Moment) (net net' : NetState I O) → after.input ≡ before.input
       → after.files ≡ before.files → NamesBy state source sink at (names_told answered) net net' before.out after.out
-      → answered.status ≡ status_of answered.note → answered.piped ≡ None → answered.runs.items ≡ [] → answered.link ≡ None
+      → answered.status ≡ status_of answered.note → answered.piped ≡ None → answered.runs.items ≡ [] → Unlinked answered
       → Answers state source sink (Names at) answered before after net net'
   names_answers at answered before after net net' same kept h status none run link = record {
     reports = record {

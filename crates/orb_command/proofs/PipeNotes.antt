@@ -35,7 +35,7 @@ use Rattle.text_streams.proofs.CallerLemmas.{gave_none}
 use Rattle.text_streams.specs.Streams.{GaveFew}
 use Rattle.orb_command.specs.declared.answered.Reported.{Reported}
 use Rattle.command_words.specs.declared.meaning.Meaning.{Meaning}
-use Rattle.command_words.specs.declared.meaning.Meaning.TheVariants.{Pipe, Serve, Names, Dump, Audit, Refs, RefsAt, Idl, Call, Load, Unread}
+use Rattle.command_words.specs.declared.meaning.Meaning.TheVariants.{Pipe, Serve, Names, Dump, Audit, Refs, RefsAt, Idl, Call, SharedCall, Load, Unread}
 use Rattle.orb_command.specs.declared.note.Note.{Note}
 use Rattle.orb_command.specs.declared.note.Note.TheVariants.{Memory}
 use Rattle.orb_command.specs.Command.{status_of, Reports}
@@ -222,6 +222,13 @@ wanting_answers Refs answered before note status none = refs_wanting answered be
 wanting_answers Unread answered before note status none = unread_wanting answered before note status none
 wanting_answers (Load words) answered before note status none = load_wanting words answered before note status none
 wanting_answers (Call words) answered before note status none = record {
+  status = status ∙ ap status_of (sym note);
+  means = refl;
+  piped = none;
+  faults = (refl, subst (λ n. CallFaults n before before) (sym note) (refl, refl));
+  few = gave_none 0 before.input;
+}
+wanting_answers (SharedCall words callers) answered before note status none = record {
   status = status ∙ ap status_of (sym note);
   means = refl;
   piped = none;

@@ -4,10 +4,10 @@ use Rattle.orb_base.specs.Links.{AcceptorState}
 use Rattle.orb_base.specs.Outside.{SourceState, SinkState}
 use Rattle.orb_nets.specs.Nets.{NetState}
 use Rattle.command_words.specs.declared.meaning.Meaning.{Meaning}
-use Rattle.command_words.specs.declared.meaning.Meaning.TheVariants.{Pipe, Serve, Names, Dump, Audit, Refs, RefsAt, Idl, Call, Load, Unread}
+use Rattle.command_words.specs.declared.meaning.Meaning.TheVariants.{Pipe, Serve, Names, Dump, Audit, Refs, RefsAt, Idl, Call, SharedCall, Load, Unread}
 use Rattle.orb_command.specs.declared.answered.Answered.{Answered}
 use Rattle.orb_command.specs.declared.answered.Reported.{Reported}
-use Rattle.orb_command.specs.Command.{Reports, Answers, LeavesNet, UsesNet, report_of}
+use Rattle.orb_command.specs.Command.{Reports, Answers, LeavesNet, Unlinked, UsesNet, report_of}
 use Rattle.orb_command.specs.Moment.{Moment}
 
 -- the words mean another command than the server, the name service and a call
@@ -21,6 +21,7 @@ IsPlain Refs = Unit {0}
 IsPlain (RefsAt place config) = Unit {0}
 IsPlain (Idl name) = Unit {0}
 IsPlain (Call words) = ⊥
+IsPlain (SharedCall words callers) = ⊥
 IsPlain (Load words) = Unit {0}
 IsPlain Unread = Unit {0}
 
@@ -36,11 +37,12 @@ module _ {A I O : Type 0} (state : A → AcceptorState I O) (source : I → Sour
   leaves_net (RefsAt place config) answered before after net plain h = h
   leaves_net (Idl name) answered before after net plain h = h
   leaves_net (Call words) answered before after net plain h = absurd plain
+  leaves_net (SharedCall words callers) answered before after net plain h = absurd plain
   leaves_net (Load words) answered before after net plain h = h
   leaves_net Unread answered before after net plain h = h
 
   pub plain_answers : (command : Meaning) (reported : Reported) (answered : Answered A I O) (before after : Moment) (net : NetState I O)
-      → IsPlain command → Reports command reported before after → report_of answered ≡ reported → answered.runs.items ≡ [] → answered.names ≡ None → answered.acceptors.items ≡ [] → answered.link ≡ None
+      → IsPlain command → Reports command reported before after → report_of answered ≡ reported → answered.runs.items ≡ [] → answered.names ≡ None → answered.acceptors.items ≡ [] → Unlinked answered
       → Answers state source sink command answered before after net net
   plain_answers command reported answered before after net plain h same runs unnamed none link = record {
     reports = subst (λ r. Reports command r before after) (sym same) h;

@@ -30,9 +30,9 @@ use Rattle.server_runs.specs.declared.run_at.Served.{Served}
 use Rattle.text_streams.proofs.CallerLemmas.{gave_none}
 use Rattle.text_streams.specs.Streams.{GaveFew}
 use Rattle.command_words.specs.declared.meaning.Meaning.{Meaning}
-use Rattle.command_words.specs.declared.meaning.Meaning.TheVariants.{Pipe, Serve, Names, Dump, Audit, Refs, RefsAt, Idl, Call, Load, Unread}
+use Rattle.command_words.specs.declared.meaning.Meaning.TheVariants.{Pipe, Serve, Names, Dump, Audit, Refs, RefsAt, Idl, Call, SharedCall, Load, Unread}
 use Rattle.command_words.specs.declared.meaning.ServeWords.{ServeWords}
-use Rattle.orb_command.specs.Command.{status_of, Answers, call_told, names_told, report_of, serve_told}
+use Rattle.orb_command.specs.Command.{status_of, Answers, Unlinked, call_told, names_told, report_of, serve_told, shared_told}
 use Rattle.orb_command.specs.Faults.{FiledFaults, ServeFaults}
 use Rattle.orb_command.specs.Moment.{Moment}
 use Rattle.orb_command.specs.ServeAnswer.{note_of_end, RanAt, ServesBy}
@@ -45,6 +45,7 @@ use Rattle.orb_command.specs.declared.note.Note.TheVariants.{Nothing, Usage, Con
 use Rattle.orb_command.proofs.AtLaws.{broker_faults}
 use Rattle.orb_command.proofs.PipeNotes.{wanting_answers}
 use Rattle.orb_command.proofs.CallNotes.{call_answers, call_wanting}
+use Rattle.orb_command.proofs.SharedNotes.{shared_answers, shared_wanting}
 use Rattle.orb_command.proofs.NamesNotes.{names_answers, names_wanting}
 use Rattle.orb_command.proofs.Plain.{plain_answers}
 
@@ -182,7 +183,7 @@ module _ {A I O : Type 0} (state : A → AcceptorState I O) (source : I → Sour
 
   pub serve_answers : (words : ServeWords) (answered : Answered A I O) (before after : Moment) (net net' : NetState I O) → after.input ≡ before.input
       → ServesBy state source sink words (serve_told answered) before.files after.files net net' before.out after.out
-      → answered.status ≡ status_of answered.note → answered.piped ≡ None → answered.names ≡ None → answered.link ≡ None → Answers state source sink (Serve words) answered before after net net'
+      → answered.status ≡ status_of answered.note → answered.piped ≡ None → answered.names ≡ None → Unlinked answered → Answers state source sink (Serve words) answered before after net net'
   serve_answers words answered before after net net' same h status none unnamed link = record {
     reports = record {
       status = status;
@@ -197,7 +198,7 @@ module _ {A I O : Type 0} (state : A → AcceptorState I O) (source : I → Sour
   -- where memory runs out over the words, nothing was done
   pub wanting : (command : Meaning) (reported : Reported) (answered : Answered A I O) (before : Moment) (net : NetState I O)
       → reported.note ≡ Memory → reported.status ≡ 12 → reported.piped ≡ None → report_of answered ≡ reported → answered.runs.items ≡ [] → answered.names ≡ None → answered.acceptors.items ≡ []
-      → answered.link ≡ None → Answers state source sink command answered before before net net
+      → Unlinked answered → Answers state source sink command answered before before net net
   wanting (Serve words) reported answered before net note status none same run unnamed empty link =
       let told : answered.note ≡ Memory = ap (λ (r : Reported). r.note) same ∙ note in
       serve_answers words answered before before net net refl
@@ -211,7 +212,12 @@ module _ {A I O : Type 0} (state : A → AcceptorState I O) (source : I → Sour
   wanting (Call words) reported answered before net note status none same run unnamed empty link =
       let told : answered.note ≡ Memory = ap (λ (r : Reported). r.note) same ∙ note in
       call_answers state source sink words answered before before net net refl
-      (call_wanting source sink words (call_told answered) before.files net before.out told link)
+      (call_wanting source sink words (call_told answered) before.files net before.out told link.0)
+      (ap (λ (r : Reported). r.status) same ∙ (status ∙ ap status_of (sym told))) (ap (λ (r : Reported). r.piped) same ∙ none) run unnamed empty link.1
+  wanting (SharedCall words callers) reported answered before net note status none same run unnamed empty link =
+      let told : answered.note ≡ Memory = ap (λ (r : Reported). r.note) same ∙ note in
+      shared_answers state source sink words callers answered before before net net refl
+      (shared_wanting source sink (record { words = words; callers = callers }) (shared_told answered) before.files net before.out told link.1 link.0)
       (ap (λ (r : Reported). r.status) same ∙ (status ∙ ap status_of (sym told))) (ap (λ (r : Reported). r.piped) same ∙ none) run unnamed empty
   wanting (Pipe words) reported answered before net note status none same run unnamed empty link =
       plain_answers state source sink (Pipe words) reported answered before before net tt (wanting_answers (Pipe words) reported before note status none) same run unnamed empty link

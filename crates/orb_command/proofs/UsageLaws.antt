@@ -9,7 +9,7 @@ use Rattle.trace_audit.specs.declared.audit_end.AuditEnd.TheVariants as audit
 use Rattle.reference_lines.specs.declared.refs_end.RefsEnd.{RefsEnd}
 use Rattle.reference_lines.specs.declared.refs_end.RefsEnd.TheVariants as refs
 use Rattle.command_words.specs.declared.meaning.Meaning.{Meaning}
-use Rattle.command_words.specs.declared.meaning.Meaning.TheVariants.{Pipe, Serve, Names, Dump, Audit, Refs as RefsMeaning, RefsAt, Idl, Call, Load, Unread}
+use Rattle.command_words.specs.declared.meaning.Meaning.TheVariants.{Pipe, Serve, Names, Dump, Audit, Refs as RefsMeaning, RefsAt, Idl, Call, SharedCall, Load, Unread}
 use Rattle.orb_command.specs.declared.answered.Reported.{Reported}
 use Rattle.orb_command.specs.declared.note.Note.{Note}
 use Rattle.orb_command.specs.declared.note.Note.TheVariants.{Nothing, Usage, Config, Idl as IdlNote, Script, Check, TooLong, ReadFault}
@@ -101,5 +101,7 @@ usage_only Audit reported before after h e = absurd (audit_other h.means.answer 
 usage_only RefsMeaning reported before after h e = absurd (refs_other h.means.answer (ap status_of (sym h.means.told) ∙ sym h.status ∙ e))
 usage_only (Call words) reported before after h e =
     absurd ((subst (λ n. FaultsAt (Call words) n before after) (usage_note reported.note (sym h.status ∙ e)) h.faults).1)
+usage_only (SharedCall words callers) reported before after h e =
+    absurd ((subst (λ n. FaultsAt (SharedCall words callers) n before after) (usage_note reported.note (sym h.status ∙ e)) h.faults).1)
 usage_only (Load words) reported before after h e =
     absurd ((subst (λ n. FaultsAt (Load words) n before after) (usage_note reported.note (sym h.status ∙ e)) h.faults).1)

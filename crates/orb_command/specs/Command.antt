@@ -1,16 +1,18 @@
 -- The answers of the top call: for each note its cause, and what was written.
-use Rattle.std.specs.Prelude.{◌≡◌, ◌+◌, ◌⊎◌, ℕ, true, List, [], Option, None}
+use Rattle.std.specs.Prelude.{◌≡◌, ◌+◌, ◌⊎◌, ℕ, true, List, [], Option, Some, None}
 use Rattle.orb_base.specs.Links.{AcceptorState}
 use Rattle.orb_base.specs.Outside.{SourceState, SinkState}
 use Rattle.orb_nets.specs.Nets.{NetState}
 use Rattle.command_options.specs.Items.{Text}
 use Rattle.command_words.specs.Words.{asks_memory, command_of}
 use Rattle.command_words.specs.declared.meaning.Meaning.{Meaning}
-use Rattle.command_words.specs.declared.meaning.Meaning.TheVariants.{Pipe, Serve, Names, Dump, Audit, Refs, RefsAt, Idl, Call, Load, Unread}
+use Rattle.command_words.specs.declared.meaning.Meaning.TheVariants.{Pipe, Serve, Names, Dump, Audit, Refs, RefsAt, Idl, Call, SharedCall, Load, Unread}
 use Rattle.orb_command.specs.declared.answered.Answered.{Answered}
 use Rattle.orb_command.specs.declared.answered.Reported.{Reported}
 use Rattle.orb_command.specs.declared.note.Note.{Note}
 use Rattle.orb_command.specs.declared.call.CallTold.{CallTold}
+use Rattle.orb_command.specs.declared.shared.SharedTold.{SharedTold}
+use Rattle.mux_runs.specs.declared.run.MuxRun.{MuxRun}
 use Rattle.orb_command.specs.declared.serve.ServeTold.{ServeTold}
 use Rattle.orb_command.specs.declared.names.NamesTold.{NamesTold}
 use Rattle.orb_command.specs.declared.note.Note.TheVariants.{Nothing, Usage, Config, Idl as IdlNote, Script, Check, TooLong, ReadFault}
@@ -33,6 +35,7 @@ use Rattle.orb_command.specs.IdlAnswer.{IdlAnswers}
 use Rattle.orb_command.specs.ServeAnswer.{ServesBy}
 use Rattle.orb_command.specs.NamesAnswer.{NamesBy}
 use Rattle.orb_command.specs.CallAnswer.{CallsSo}
+use Rattle.orb_command.specs.SharedAnswer.{SharesSo}
 use Rattle.orb_command.specs.LoadAnswer.{LoadAnswers}
 
 -- the exit status of a note
@@ -71,7 +74,8 @@ most_taken Refs = MAX_REFERENCE + 2
 most_taken _ = 0
 
 -- what each note means, and what a run of the pipe says, by what the words mean; words without a reading do nothing, whether they are
--- refused or memory runs out over them; the server, the name service and a call take no input, and what their notes mean is by what they do to the net
+-- refused or memory runs out over them; the server, the name service and a call take no input, and what their notes mean is by what they
+-- do to the net
 abbrev pub NoteMeans : Meaning → Note → Option Piped → Moment → Moment → Type 0
 NoteMeans (Pipe words) note piped before after = PipeAnswers words note piped before after
 NoteMeans (Serve words) note piped before after = after.input ≡ before.input
@@ -82,6 +86,7 @@ NoteMeans Refs note piped before after = RefsAnswers note before after
 NoteMeans (RefsAt place config) note piped before after = AtAnswers place config note before after
 NoteMeans (Idl name) note piped before after = IdlAnswers name note before after
 NoteMeans (Call words) note piped before after = after.input ≡ before.input
+NoteMeans (SharedCall words callers) note piped before after = after.input ≡ before.input
 NoteMeans (Load words) note piped before after = LoadAnswers words note before after
 NoteMeans Unread note piped before after = ((note ≡ Usage) ⊎ (note ≡ Memory)) × (after ≡ before)
 
@@ -98,6 +103,11 @@ pub record Reports (command : Meaning) (reported : Reported) (before after : Mom
   pub piped : PipedBy command reported.piped
   pub faults : FaultsAt command reported.note before after
   pub few : GaveFew (most_taken command) before.input after.input
+
+-- the source and the sink of the run of several callers, or else these
+abbrev pub link_by : {I O : Type 0} → Option (MuxRun I O) → Option (I × O) → Option (I × O)
+link_by (Some run) link = Some (run.source, run.sink)
+link_by None link = link
 
 module _ {A I O : Type 0} where
   -- what is answered, without the server's part
@@ -116,26 +126,43 @@ module _ {A I O : Type 0} where
   abbrev pub call_told : Answered A I O → CallTold I O
   call_told answered = record { note = answered.note; link = answered.link }
 
+  -- the part of a call of several callers
+  abbrev pub shared_told : Answered A I O → SharedTold I O
+  shared_told answered = record { note = answered.note; run = answered.mux; link = answered.link }
+
+  -- no call has a connection
+  abbrev pub Unlinked : Answered A I O → Type 0
+  Unlinked answered = (answered.link ≡ None) × (answered.mux ≡ None)
+
+  -- the connection of a call, as it is at the end, if the net gave one
+  abbrev pub link_of : Answered A I O → Option (I × O)
+  link_of answered = link_by answered.mux answered.link
+
   -- the net was not asked
   pub record LeavesNet (answered : Answered A I O) (net net' : NetState I O) : Type 0 where
     pub runs : answered.runs.items ≡ []
     pub names : answered.names ≡ None
     pub acceptors : answered.acceptors.items ≡ []
-    pub link : answered.link ≡ None
+    pub link : Unlinked answered
     pub unasked : net' ≡ net
 
   module _ (state : A → AcceptorState I O) (source : I → SourceState) (sink : O → SinkState) where
     -- what was done over the net, by what the words mean: nothing but by the server, by the name service and by a call
     abbrev pub UsesNet : Meaning → Answered A I O → Moment → Moment → NetState I O → NetState I O → Type 0
     UsesNet (Serve words) answered before after net net' =
-        (answered.names ≡ None) × (answered.link ≡ None)
+        (answered.names ≡ None) × Unlinked answered
         × ServesBy state source sink words (serve_told answered) before.files after.files net net' before.out after.out
     UsesNet (Names at) answered before after net net' =
-        (answered.runs.items ≡ []) × (answered.link ≡ None)
+        (answered.runs.items ≡ []) × Unlinked answered
         × NamesBy state source sink at (names_told answered) net net' before.out after.out
     UsesNet (Call words) answered before after net net' =
         (answered.runs.items ≡ []) × (answered.names ≡ None) × (answered.acceptors.items ≡ [])
+        × (answered.mux ≡ None)
         × CallsSo source sink words (call_told answered) before.files after.files net net' before.out after.out
+    UsesNet (SharedCall words callers) answered before after net net' =
+        (answered.runs.items ≡ []) × (answered.names ≡ None) × (answered.acceptors.items ≡ [])
+        × SharesSo source sink (record { words = words; callers = callers }) (shared_told answered) before.files after.files net net'
+        before.out after.out
     UsesNet _ answered before after net net' = LeavesNet answered net net'
 
     -- what the program answers, between two moments, and what it did over the net

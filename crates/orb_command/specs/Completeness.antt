@@ -17,7 +17,7 @@ use Rattle.client_runs.specs.declared.call_end.CallEnd.TheVariants.{File}
 use Rattle.client_runs.specs.declared.call_end.FileFault.{FileFault}
 use Rattle.client_runs.specs.declared.call_end.FileFault.TheVariants as known
 use Rattle.command_words.specs.declared.meaning.Meaning.{Meaning}
-use Rattle.command_words.specs.declared.meaning.Meaning.TheVariants.{Pipe, Serve, Names, Dump, Audit, Refs, RefsAt, Idl, Call, Load, Unread}
+use Rattle.command_words.specs.declared.meaning.Meaning.TheVariants.{Pipe, Serve, Names, Dump, Audit, Refs, RefsAt, Idl, Call, SharedCall, Load, Unread}
 use Rattle.orb_command.specs.Moment.{Moment}
 
 -- this reason for which a setup has no servants blames a file: it is absent, too long, or has a fault. A failed read and memory that ran out
@@ -73,6 +73,7 @@ RefusesFile (RefsAt place config) files files' = RefusesSetup config files files
 RefusesFile (Load words) files files' = RefusesSetup words.config files files'
 RefusesFile (Idl name) files files' = RefusesListed name files files'
 RefusesFile (Call words) files files' = RefusesKnown words.idl files files'
+RefusesFile (SharedCall words callers) files files' = RefusesKnown words.idl files files'
 RefusesFile _ files files' = ⊥
 
 -- the statuses with which a command that goes well may end: 12 of out of memory, and those of its own causes
@@ -86,6 +87,7 @@ good_ends Refs = 0 ∷ 8 ∷ 12 ∷ []
 good_ends (RefsAt place config) = 0 ∷ 12 ∷ []
 good_ends (Idl name) = 0 ∷ 12 ∷ []
 good_ends (Call words) = 0 ∷ 6 ∷ 7 ∷ 9 ∷ 11 ∷ 13 ∷ 12 ∷ []
+good_ends (SharedCall words callers) = 0 ∷ 6 ∷ 7 ∷ 9 ∷ 11 ∷ 13 ∷ 12 ∷ []
 good_ends (Load words) = 0 ∷ 13 ∷ 12 ∷ []
 good_ends Unread = 1 ∷ 12 ∷ []
 

@@ -5,7 +5,7 @@ use Rattle.pipe_runs.specs.Pipe.{MayFail}
 use Rattle.text_streams.specs.Faults.{NoneFailed, ReadFailed, WriteFailed}
 use Rattle.orb_command.specs.Moment.{Moment}
 use Rattle.command_words.specs.declared.meaning.Meaning.{Meaning}
-use Rattle.command_words.specs.declared.meaning.Meaning.TheVariants.{Pipe, Serve, Names, Dump, Audit, Refs, RefsAt, Idl, Call, Load, Unread}
+use Rattle.command_words.specs.declared.meaning.Meaning.TheVariants.{Pipe, Serve, Names, Dump, Audit, Refs, RefsAt, Idl, Call, SharedCall, Load, Unread}
 use Rattle.orb_command.specs.declared.note.Note.{Note}
 use Rattle.orb_command.specs.declared.note.Note.TheVariants.{Nothing, Usage, Config, Idl as IdlNote, Script, Check, TooLong, ReadFault}
 use Rattle.orb_command.specs.declared.note.Note.TheVariants.{WriteFault, NetFault, Input, Absent, Reference, Local, System, User, Forward}
@@ -136,5 +136,6 @@ FaultsAt Refs note before after = (after.files ≡ before.files) × StreamFaults
 FaultsAt (RefsAt place config) note before after = (after.input ≡ before.input) × FiledFaults note before after
 FaultsAt (Idl name) note before after = (after.input ≡ before.input) × FiledFaults note before after
 FaultsAt (Call words) note before after = (after.input ≡ before.input) × CallFaults note before after
+FaultsAt (SharedCall words callers) note before after = (after.input ≡ before.input) × CallFaults note before after
 FaultsAt (Load words) note before after = (after.input ≡ before.input) × LoadFaults note before after
 FaultsAt Unread note before after = (after.files ≡ before.files) × StreamFaults note before after

@@ -9,6 +9,7 @@ pub mod RefsAnswer
 pub mod ServeAnswer
 pub mod NamesAnswer
 pub mod CallAnswer
+pub mod SharedAnswer
 pub mod LoadAnswer
 pub mod Faults
 pub mod Command

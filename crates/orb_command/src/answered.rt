@@ -1,8 +1,9 @@
 //! What the top call answers.
 ghost use Rattle.std.specs.Prelude.{◌≡◌, [], None};
-ghost use Rattle.orb_command.specs.Command.{report_of};
+ghost use Rattle.orb_command.specs.Command.{report_of, Unlinked};
 
 use crate::note::Note;
+use mux_runs::MuxRun;
 use names_runs::NamesRun;
 use orb_base::List;
 use orb_server::Run;
@@ -18,7 +19,8 @@ pub struct Reported {
 }
 
 /// What the program ends with: its status, the note that it prints, what a run of `pipe` came to, what the runs of `serve` and that of
-/// `names` left over these acceptors and connections of these sources and sinks, and what `call` left of its connection.
+/// `names` left over these acceptors and connections of these sources and sinks, and what `call` left of its connection, or its callers of
+/// theirs.
 #[derive(Drop)]
 pub struct Answered<A, I, O> {
     /// The exit status: 0 done, 1 usage, 2 a file that is too long or refused, 3 a read fault, 4 a write fault, 5 a fault of the net, 6 an
@@ -35,8 +37,12 @@ pub struct Answered<A, I, O> {
     pub names: Option<NamesRun<I, O>>,
     /// The acceptors that the net gave to `serve` or `names`, as they are at the end.
     pub acceptors: List<A>,
-    /// The source and the sink of the connection that the net gave to `call`, as they are at the end.
+    /// The source and the sink of the connection that the net gave to `call`, as they are at the end; of several callers they are in `mux`,
+    /// where those ran.
     pub link: Option<(I, O)>,
+    /// The run of several callers of `call`, with its history, and with the source and the sink of their link: exactly where the net gave
+    /// one, and memory did not run out before the callers ran.
+    pub mux: Option<MuxRun<I, O>>,
 }
 
 impl<A, I, O> Answered<A, I, O> {
@@ -46,7 +52,7 @@ impl<A, I, O> Answered<A, I, O> {
         ensures runs { result.runs.items ≡ [] }
         ensures names { result.names ≡ None }
         ensures acceptors { result.acceptors.items ≡ [] }
-        ensures link { result.link ≡ None }
+        ensures link { Unlinked result }
     {
         Answered {
             status: reported.status,
@@ -56,6 +62,7 @@ impl<A, I, O> Answered<A, I, O> {
             names: None,
             acceptors: List::new(alloc),
             link: None,
+            mux: None,
         }
     }
 }

@@ -40,7 +40,7 @@ fn note_of_fault(fault: CallFault) -> Note
 }
 
 /// The note of how a call came out.
-fn note_of_end(end: CallEnd) -> Note
+pub fn note_of_end(end: CallEnd) -> Note
     ensures { result ≡ Spec.note_of_end end }
 {
     match end {

@@ -18,6 +18,7 @@ use crate::note::Note;
 use crate::pipe::{Told, run_pipe};
 use crate::refs::{note_at, refs_note};
 use crate::serve::{ServeTold, run_server};
+use crate::shared::{SharedTold, run_shared};
 use command_words::{Meaning, read_words};
 use giop_dump::dump_run;
 use idl_lines::idl_run;
@@ -87,7 +88,7 @@ fn answered_serve<A, I, O>(told: ServeTold<A, I, O>) -> Answered<A, I, O>
     ensures status { result.status ≡ Spec.status_of told.note }
     ensures piped { result.piped ≡ None }
     ensures names { result.names ≡ None }
-    ensures link { result.link ≡ None }
+    ensures link { Spec.Unlinked result }
 {
     let status = status_of(&told.note);
     Answered {
@@ -98,6 +99,7 @@ fn answered_serve<A, I, O>(told: ServeTold<A, I, O>) -> Answered<A, I, O>
         names: None,
         acceptors: told.acceptors,
         link: None,
+        mux: None,
     }
 }
 
@@ -107,7 +109,7 @@ fn answered_names<A, I, O>(alloc: Global, told: NamesTold<A, I, O>) -> Answered<
     ensures status { result.status ≡ Spec.status_of told.note }
     ensures piped { result.piped ≡ None }
     ensures runs { result.runs.items ≡ [] }
-    ensures link { result.link ≡ None }
+    ensures link { Spec.Unlinked result }
 {
     let status = status_of(&told.note);
     Answered {
@@ -118,12 +120,36 @@ fn answered_names<A, I, O>(alloc: Global, told: NamesTold<A, I, O>) -> Answered<
         names: told.run,
         acceptors: told.acceptors,
         link: None,
+        mux: None,
     }
 }
 
 /// What a call came to, with its status.
 fn answered_call<A, I, O>(alloc: Global, told: CallTold<I, O>) -> Answered<A, I, O>
     ensures told { Spec.call_told result ≡ told }
+    ensures status { result.status ≡ Spec.status_of told.note }
+    ensures piped { result.piped ≡ None }
+    ensures runs { result.runs.items ≡ [] }
+    ensures names { result.names ≡ None }
+    ensures acceptors { result.acceptors.items ≡ [] }
+    ensures mux { result.mux ≡ None }
+{
+    let status = status_of(&told.note);
+    Answered {
+        status,
+        note: told.note,
+        piped: None,
+        runs: List::new(alloc),
+        names: None,
+        acceptors: List::new(alloc),
+        link: told.link,
+        mux: None,
+    }
+}
+
+/// What a call of several callers came to, with its status.
+fn answered_shared<A, I, O>(alloc: Global, told: SharedTold<I, O>) -> Answered<A, I, O>
+    ensures told { Spec.shared_told result ≡ told }
     ensures status { result.status ≡ Spec.status_of told.note }
     ensures piped { result.piped ≡ None }
     ensures runs { result.runs.items ≡ [] }
@@ -139,6 +165,7 @@ fn answered_call<A, I, O>(alloc: Global, told: CallTold<I, O>) -> Answered<A, I,
         names: None,
         acceptors: List::new(alloc),
         link: told.link,
+        mux: told.run,
     }
 }
 
@@ -178,6 +205,10 @@ fn carry_out<N: Net, F: Files, I: Source, O: Sink, R: Wait + Threads + Sync>(
             reported(idl_note(idl_run(alloc, files, &name, out))),
         ),
         Meaning::Call(words) => answered_call(alloc, run_call(alloc, net, files, &words, out)),
+        Meaning::SharedCall { words, callers } => answered_shared(
+            alloc,
+            run_shared(rt, alloc, net, files, &words, callers, out),
+        ),
         Meaning::Load(words) => {
             Answered::plain(alloc, reported(run_load(alloc, files, &words, out)))
         }
@@ -191,15 +222,17 @@ fn carry_out<N: Net, F: Files, I: Source, O: Sink, R: Wait + Threads + Sync>(
 /// names, in groups of one, or with `--batch N` of up to N calls, and writes what is answered, or with `--history` the text of the run's
 /// history, or with `--trace` its trace. `serve --config FILE --listen HOST:PORT` serves the configuration of this name at that address, in
 /// one run, or with `--runs N` in up to N, one after another; after each it writes one line of summary, and before that with `--trace` the
-/// run's trace. `names --listen HOST:PORT` serves the map of names at that address in one run, and writes its line. `audit` judges each run of the traces that the input is, and writes a line for each. `dump` writes a line for each message
-/// of the input, and `refs` writes the parts of the reference that it is. `refs --at HOST:PORT` writes the reference of each object of the
-/// built-in setup at that address, and with `--config FILE` of each object of the configuration of this name. `idl --file FILE` lists what
-/// the IDL of the file declares. `call --ref TEXT --op NAME` calls the operation of the object that the reference is of, with the arguments
-/// of `--args JSON`, and writes its results as one line of JSON; `--priority N` is the caller's priority, `--idl FILE` a file of the
-/// interface, and `--interface ID` the interface where the reference doesn't say it. `load SEED COUNT` makes COUNT requests to the first
+/// run's trace. `names --listen HOST:PORT` serves the map of names at that address in one run, and writes its line. `audit` judges each run
+/// of the traces that the input is, and writes a line for each. `dump` writes a line for each message of the input, and `refs` writes the
+/// parts of the reference that it is. `refs --at HOST:PORT` writes the reference of each object of the built-in setup at that address, and
+/// with `--config FILE` of each object of the configuration of this name. `idl --file FILE` lists what the IDL of the file declares. `call
+/// --ref TEXT --op NAME` calls the operation of the object that the reference is of, with the arguments of `--args JSON`, and writes its
+/// results as one line of JSON; `--priority N` is the caller's priority, `--idl FILE` a file of the interface, and `--interface ID` the
+/// interface where the reference doesn't say it; with `--callers N` so many callers make the call over one connection, each in a thread of
+/// its own, and a line is written for each, in order, up to the first that failed. `load SEED COUNT` makes COUNT requests to the first
 /// object, runs them as `pipe` does, whole or with `--fragment N` in pieces, and writes one line of counts. It returns where each read and
-/// write returns, and `serve` where its runs end. The answers to `pipe`, `serve` and `names` have their runs, with the history, and that
-/// to `call` its connection.
+/// write returns, and `serve` where its runs end. The answers to `pipe`, `serve` and `names` have their runs, with the history, and that to
+/// `call` its connection, or the run of its callers.
 pub fn orb_main<N: Net, F: Files, I: Source, O: Sink, R: Wait + Threads + Sync>(
     rt: &R,
     alloc: Global,
@@ -219,7 +252,7 @@ pub fn orb_main<N: Net, F: Files, I: Source, O: Sink, R: Wait + Threads + Sync>(
         (moment (F.state files.old) (I.state input.old) (O.state out.old))
         (moment (F.state files.new) (I.state input.new) (O.state out.new)) (N.state net.old) (N.state net.new) }
     // Where no file is refused, and no read, write, listen or connect failed, the status is one of those with which the command may end.
-    ensures complete { GoesWell N.In.state N.Out.state (command_of (map string_bytes words.now)) result.link
+    ensures complete { GoesWell N.In.state N.Out.state (command_of (map string_bytes words.now)) (Spec.link_of result)
         (moment (F.state files.old) (I.state input.old) (O.state out.old))
         (moment (F.state files.new) (I.state input.new) (O.state out.new)) (N.state net.old) (N.state net.new)
         → is_good (command_of (map string_bytes words.now)) result.status ≡ true }

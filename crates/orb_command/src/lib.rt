@@ -14,6 +14,7 @@ mod pipe;
 mod refs;
 mod serve;
 mod setup_note;
+mod shared;
 
 pub use answered::{Answered, Reported};
 pub use command::orb_main;

@@ -1,9 +1,10 @@
 use Rattle.std.proofs.Common.{◌≡◌, refl, sym, ap, ◌∙◌}
-use Rattle.command_words.specs.declared.meaning.Meaning.TheVariants.{Pipe, Serve, Names, Dump, Audit, Refs, RefsAt, Idl, Call, Load, Unread}
+use Rattle.command_words.specs.declared.meaning.Meaning.TheVariants.{Pipe, Serve, Names, Dump, Audit, Refs, RefsAt, Idl, Call, SharedCall, Load, Unread}
 use Rattle.orb_command.specs.Moment.{moment}
 use Rattle.orb_command.specs.Command.{status_of}
 use Rattle.orb_command.proofs.CommandLaws.{dump_answers, audit_answers, refs_answers, unread_answers}
 use Rattle.orb_command.proofs.CallNotes.{call_answers}
+use Rattle.orb_command.proofs.SharedNotes.{shared_answers}
 use Rattle.orb_command.proofs.LoadNotes.{load_answers}
 use Rattle.orb_command.proofs.NamesNotes.{names_answers}
 use Rattle.orb_command.proofs.AtLaws.{at_answers}
@@ -109,7 +110,17 @@ returns-in-Call-clause-answers g c =
     rw c.in-Call.is
     (call_answers g.N.Acc.Acceptor.state g.N.In.Source.state g.N.Out.Sink.state c.in-Call.words c.answered_call.result before after
     (g.N.Net.state c.args.net.now) (g.N.Net.state c.run_call.new.net) refl
-    (rw told.told c.run_call.ensures) (told.status ∙ ap (λ t. status_of t.note) (sym told.told)) told.piped told.runs told.names told.acceptors)
+    (rw told.told c.run_call.ensures) (told.status ∙ ap (λ t. status_of t.note) (sym told.told)) told.piped told.runs told.names told.acceptors told.mux)
+
+pub returns-in-SharedCall-clause-answers : goal.returns-in-SharedCall-clause-answers
+returns-in-SharedCall-clause-answers g c =
+    let told = c.answered_shared.ensures in
+    let before = moment (g.F.Files.state c.args.files.now) (g.I.Source.state c.args.input.now) (g.O.Sink.state c.args.out.now) in
+    let after = moment (g.F.Files.state c.run_shared.new.files) (g.I.Source.state c.args.input.now) (g.O.Sink.state c.run_shared.new.out) in
+    rw c.in-SharedCall.is
+    (shared_answers g.N.Acc.Acceptor.state g.N.In.Source.state g.N.Out.Sink.state c.in-SharedCall.words c.in-SharedCall.callers c.answered_shared.result before after
+    (g.N.Net.state c.args.net.now) (g.N.Net.state c.run_shared.new.net) refl
+    (rw told.told c.run_shared.ensures) (told.status ∙ ap (λ t. status_of t.note) (sym told.told)) told.piped told.runs told.names told.acceptors)
 
 pub returns-in-Load-clause-answers : goal.returns-in-Load-clause-answers
 returns-in-Load-clause-answers g c =
@@ -156,6 +167,9 @@ returns-in-Idl-clause-usage g c = λ e. let no : Idl c.in-Idl.name ≡ Unread = 
 
 pub returns-in-Call-clause-usage : goal.returns-in-Call-clause-usage
 returns-in-Call-clause-usage g c = λ e. let no : Call c.in-Call.words ≡ Unread = sym c.in-Call.is ∙ e in absurd (cc)
+
+pub returns-in-SharedCall-clause-usage : goal.returns-in-SharedCall-clause-usage
+returns-in-SharedCall-clause-usage g c = λ e. let no : SharedCall c.in-SharedCall.words c.in-SharedCall.callers ≡ Unread = sym c.in-SharedCall.is ∙ e in absurd (cc)
 
 pub returns-in-Load-clause-usage : goal.returns-in-Load-clause-usage
 returns-in-Load-clause-usage g c = λ e. let no : Load c.in-Load.words ≡ Unread = sym c.in-Load.is ∙ e in absurd (cc)
