@@ -27,6 +27,8 @@ enum Said {
     /// The file.
     Idl(&'static str),
     Call(CallSaid),
+    /// The call, and how many callers make it over one link.
+    SharedCall(CallSaid, u8),
     Load(LoadSaid),
     Unread,
 }
@@ -172,6 +174,9 @@ fn is_said(meaning: &Meaning, want: Said) -> bool {
         }
         (Meaning::Idl(name), Said::Idl(want)) => is_text(name, want),
         (Meaning::Call(words), Said::Call(want)) => is_call(words, want),
+        (Meaning::SharedCall { words, callers }, Said::SharedCall(want, count)) => {
+            is_call(words, want) && callers.count() == count
+        }
         (Meaning::Load(words), Said::Load(want)) => is_load(words, want),
         (Meaning::Dump, Said::Dump)
         | (Meaning::Audit, Said::Audit)
@@ -575,6 +580,10 @@ const SERVES: &[Row] = &[
     ),
     (
         &["serve", "--config", "c", "--listen", "h:1", "--at=h:1"],
+        Said::Unread,
+    ),
+    (
+        &["serve", "--config", "c", "--listen", "h:1", "--callers=2"],
         Said::Unread,
     ),
     (
@@ -1112,12 +1121,112 @@ const CALL_VALUES: &[Row] = &[
     ),
 ];
 
+/// Calls with a number of callers.
+const CALL_CALLERS: &[Row] = &[
+    // Alone beside what is due, in both forms; with all other options, last and first.
+    (
+        &["call", "--ref=r", "--op=o", "--callers", "16"],
+        Said::SharedCall(CALL, 16),
+    ),
+    (
+        &["call", "--ref=r", "--op=o", "--callers=3"],
+        Said::SharedCall(CALL, 3),
+    ),
+    (
+        &[
+            "call",
+            "--ref",
+            "r",
+            "--op",
+            "o",
+            "--args",
+            "[1, 2]",
+            "--priority",
+            "7",
+            "--idl",
+            "f",
+            "--interface",
+            "i",
+            "--callers",
+            "2",
+        ],
+        Said::SharedCall(WHOLE_CALL, 2),
+    ),
+    (
+        &[
+            "call",
+            "--callers=2",
+            "--interface=i",
+            "--idl=f",
+            "--priority=7",
+            "--args=[1, 2]",
+            "--op=o",
+            "--ref=r",
+        ],
+        Said::SharedCall(WHOLE_CALL, 2),
+    ),
+    // What is due left out.
+    (&["call", "--ref=r", "--callers=2"], Said::Unread),
+    (&["call", "--op=o", "--callers=2"], Said::Unread),
+    // Twice, and last without a value.
+    (
+        &["call", "--ref=r", "--op=o", "--callers=2", "--callers=2"],
+        Said::Unread,
+    ),
+    (&["call", "--ref=r", "--op=o", "--callers"], Said::Unread),
+    // Numbers: both ends and one past, digits, a sign, zeros before.
+    (
+        &["call", "--ref=r", "--op=o", "--callers", "1"],
+        Said::SharedCall(CALL, 1),
+    ),
+    (
+        &["call", "--ref=r", "--op=o", "--callers", "0"],
+        Said::Unread,
+    ),
+    (
+        &["call", "--ref=r", "--op=o", "--callers", "17"],
+        Said::Unread,
+    ),
+    (
+        &["call", "--ref=r", "--op=o", "--callers=0000000016"],
+        Said::SharedCall(CALL, 16),
+    ),
+    (
+        &["call", "--ref=r", "--op=o", "--callers=00000000016"],
+        Said::Unread,
+    ),
+    (
+        &["call", "--ref=r", "--op=o", "--callers=65537"],
+        Said::Unread,
+    ),
+    (
+        &["call", "--ref=r", "--op=o", "--callers", "-1"],
+        Said::Unread,
+    ),
+    (&["call", "--ref=r", "--op=o", "--callers=-1"], Said::Unread),
+    (&["call", "--ref=r", "--op=o", "--callers=+1"], Said::Unread),
+    (&["call", "--ref=r", "--op=o", "--callers="], Said::Unread),
+    (
+        &["call", "--ref=r", "--op=o", "--callers", "x"],
+        Said::Unread,
+    ),
+    // Another number that is none that it may be.
+    (
+        &["call", "--ref=r", "--op=o", "--callers=2", "--priority=x"],
+        Said::Unread,
+    ),
+    // A word with a NUL.
+    (
+        &["call", "--ref=r", "--op=o", "--callers=2\0"],
+        Said::Unread,
+    ),
+];
+
 /// Calls with other words.
 const CALL_STRANGERS: &[Row] = &[
     // Words that are no options of it.
     (&["call", "r", "--ref=r", "--op=o"], Said::Unread),
     (&["call", "--ref=r", "--op=o", "--config=c"], Said::Unread),
-    (&["call", "--ref=r", "--op=o", "--callers=2"], Said::Unread),
     (&["call", "--ref=r", "--op=o", "x"], Said::Unread),
     (&["call", "--ref=r", "--op=o", "--history"], Said::Unread),
     (&["call", "--ref=r", "--op=o", "--trace"], Said::Unread),
@@ -1150,6 +1259,11 @@ fn each_option_of_call_may_be_left_out_and_has_one_value(rt: HostRuntime) {
 #[test]
 fn the_values_of_call(rt: HostRuntime) {
     assert!(rt; all_mean(rt.alloc(), CALL_VALUES));
+}
+
+#[test]
+fn the_callers_of_call(rt: HostRuntime) {
+    assert!(rt; all_mean(rt.alloc(), CALL_CALLERS));
 }
 
 #[test]

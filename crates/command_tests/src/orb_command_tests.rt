@@ -11,5 +11,6 @@ mod names_tests;
 mod rows;
 mod script_tests;
 mod serve_tests;
+mod shared_call_tests;
 mod tests;
 mod tool_tests;

@@ -36,6 +36,8 @@ pub enum Left<'a> {
     Unnamed,
     /// The connection of a call, over which this was sent.
     Called(&'a [u8]),
+    /// A run of so many callers over one link.
+    Shared(usize),
     /// No connection of a call.
     NoCall,
 }
@@ -234,7 +236,11 @@ fn is_left(told: &Told, want: Left<'_>) -> bool {
         Left::Named(want) => is_named(told, want),
         Left::Unnamed => told.names.is_none(),
         Left::Called(want) => is_called(told, want),
-        Left::NoCall => told.link.is_none(),
+        Left::Shared(callers) => match &told.mux {
+            Some(run) => told.link.is_none() && run.ends.len() == callers,
+            None => false,
+        },
+        Left::NoCall => told.link.is_none() && told.mux.is_none(),
     }
 }
 
