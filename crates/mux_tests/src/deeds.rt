@@ -8,10 +8,10 @@ ghost use Rattle.shared_link.specs.Turns.{IsOpen};
 ghost use Rattle.shared_link.specs.Roles.{CanCall, CanAwait, CanCancel, CanSend, CanRead, CanLose};
 ghost use Rattle.mux_tests.specs.Seats.{IsIdle, AreIdle};
 
-use client_mux::Why;
+use client_mux::{HeardReply, Why};
 use giop_messages::{Message, Reply, Request, Target, message_len};
 use orb_base::limits::MAX_MESSAGE;
-use orb_base::{Arc, List, Text};
+use orb_base::{Arc, List, Order, Text};
 use shared_link::{MuxSeat, Opened, Placed, Shared, Started, Stopped, Upcoming, Waited, open};
 use std::alloc::Global;
 use std::sync::Wait;
@@ -225,7 +225,7 @@ pub fn place<R: Wait>(
     ensures reads { CanRead shared.now.cell (nth + 1) seat.new }
     ensures loses { CanLose shared.now.cell seat.new }
 {
-    let id = reply.get().id;
+    let id = reply.get().reply.id;
     shared.put_arrived(rt, seat, id, reply)
 }
 
