@@ -1,5 +1,5 @@
--- What is known in the middle of a script: stacks, the newest first. A stack that is empty gives something blank; that no text
--- of the grammar meets one isn't proved.
+-- What is known in the middle of a script: stacks, the newest first. A stack that is empty gives something blank, which no text
+-- of the grammar meets (crate `script_depths`).
 use Rattle.std.specs.Prelude.{List, [], ◌∷◌, ◌++◌, Bool, true, false}
 use Rattle.idl_tokens.specs.Placed.{Placed}
 use Rattle.idl_tokens.specs.Stream.{first_or, rest_of}
