@@ -7,7 +7,8 @@
 //   served blocks PORT COUNT BLOCKS                 COUNT calls of `current` on one connection, told in so many parts
 //   served kept PORT COUNT KEPT PRIORITY            first KEPT oneway calls of `slow` at priority 0, on connections of 60 each that are then
 //                                                   closed, and then COUNT calls of `current` on one connection
-//   served fill PORT KEYS                           binds so many keys, k0000 and so on, to texts of 200 bytes
+//   served fill PORT KEYS [LEN TARGET]              binds so many keys, k0000 and so on, of LEN bytes to texts of TARGET bytes, by default
+//                                                   5 and 200
 //   served resolve PORT CONNS COUNT KEY             COUNT calls of `resolve` a connection
 //   served bind PORT COUNT KEY                      binds and unbinds a key COUNT times, and tells the binds
 //   served cosnaming PORT CONNS COUNT NAME          COUNT calls of CosNaming's `resolve` of a name of one component, with an empty kind
@@ -239,13 +240,15 @@ static void keep(uint16_t port, int kept) {
 
 static const string names = "NameService";
 
-static void fill(uint16_t port, int keys) {
+static void fill(uint16_t port, int keys, size_t length, size_t target) {
     int socket = connected(port);
     vector<char> room;
     for (int i = 0; i < keys; i++) {
         char key[16];
         snprintf(key, sizeof key, "k%04d", i);
-        send_all(socket, request(i, "bind", -1, spelled({key, string(200, 'i')}), names));
+        string text = key;
+        text.resize(max(text.size(), length), 'k');
+        send_all(socket, request(i, "bind", -1, spelled({text, string(target, 'i')}), names));
         reply(socket, room);
     }
     close(socket);
@@ -280,7 +283,7 @@ int main(int n, char **words) {
     } else if (what == "kept") {
         keep(number(2), number(4));
         current(number(2), 1, number(3), 1, number(5), 0);
-    } else if (what == "fill") fill(number(2), number(3));
+    } else if (what == "fill") fill(number(2), number(3), n > 4 ? number(4) : 5, n > 5 ? number(5) : 200);
     else if (what == "bind") binds(number(2), number(3), words[4]);
     else if (what == "resolve") {
         string key = spelled({words[5]});
