@@ -1,5 +1,5 @@
 //! Times the calls of several callers over one link. To be run by hand, with the host and the port of a server that has `Orb::Ping` under
-//! the key `ping`, the number of callers and the number of calls of each.
+//! the key `ping`, the number of callers, 1 to 16, and the number of calls of each, at most 64.
 #![tactic(auto)]
 
 mod callers;
@@ -39,9 +39,7 @@ fn asked<R: Env + AllocGlobal>(rt: &R) -> io::Result<Option<Wanted>> {
 
 fn main(rt: HostRuntime) -> io::Result<()> {
     let Some(wanted) = asked(&rt)? else {
-        return rt.println(
-            "link_bench HOST PORT CALLERS CALLS, with 1 to 16 callers of 1 to 64 calls",
-        );
+        return Ok(());
     };
     match timing::time_link(&rt, rt.alloc(), &wanted)? {
         Some(timed) => println!(rt; "{} calls answered in {:?}", timed.answered, timed.time),
