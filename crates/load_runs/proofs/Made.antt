@@ -1,11 +1,13 @@
 -- A load that was made so far, and one request more.
-use Rattle.std.proofs.Common.{◌≡◌, ℕ, suc, ◌+◌, ◌*◌, ◌≤◌, List, [], ◌∷◌, ◌++◌, length, Option, Some, None, Result, Ok, Err, refl, sym, ap, ◌∙◌, subst, arith, length-append}
+use Rattle.std.proofs.Common.{◌≡◌, ℕ, suc, ◌+◌, ◌*◌, ◌^◌, ◌<◌, ◌≤◌, is_some, List, [], ◌∷◌, ◌++◌, length, Option, Some, None, Result, Ok, Err, refl, sym, ap, ◌∙◌, subst, arith, length-append}
 use Rattle.std.specs.Prelude.{IfOk, slice_get}
+use Rattle.std.specs.Int.{w32}
 use Rattle.orb_base.specs.Pool.{Pool}
 use Rattle.orb_base.specs.Room.{Room}
 use Rattle.orb_base.specs.declared.limits.TheConstants.{MAX_MESSAGE, MAX_RUN_CALLS}
 use Rattle.orb_base.specs.declared.order.Order.TheVariants.{Big}
 use Rattle.cdr_core.specs.Cursor.{AreBytes}
+use Rattle.cdr_core.specs.Field.{number_bytes}
 use Rattle.giop_frames.specs.Messages as Frames
 use Rattle.giop_frames.specs.Messages.{lone}
 use Rattle.giop_frames.specs.Pieces as Pieces
@@ -22,11 +24,12 @@ use Rattle.giop_messages.proofs.Written.{reads_written}
 use Rattle.adapter_policies.specs.SetupData.{AdapterData, SetupData}
 use Rattle.adapter_policies.specs.declared.object_spec.ObjectSpec.{ObjectSpec}
 use Rattle.load_runs.specs.Generated.{Aim, aim_of, asking, request_at, sent_level, StreamsThem}
-use Rattle.load_runs.specs.Making.{AreShort, Sends, Puts, MadeSoFar, IsMade}
+use Rattle.load_runs.specs.Making.{AreShort, Sends, Puts, MadeSoFar, IsMade, IsPattern, carries, content}
 use Rattle.load_runs.specs.declared.load_plan.LoadPlan.{LoadPlan}
 use Rattle.load_runs.proofs.Past.{IsEven, past}
 use Rattle.load_runs.proofs.Pieces.{SaysOne, sent_says, sent_few}
-use Rattle.load_runs.proofs.Requests.{is_uncut}
+use Rattle.load_runs.proofs.Patterns.{carries_so}
+use Rattle.load_runs.proofs.Requests.{is_uncut, uncut_bytes}
 
 order_big : (m : Message) → Pieces.order_of (spelled Big m) ≡ Big
 unfolding Pieces.order_of
@@ -103,6 +106,27 @@ next_made limit aim pool seed n level old new newer short is same made puts =
     let Q : List ℕ → Type 0 = λ x. MadeSoFar limit (request_at aim pool seed) (n + 1) x in
     let here : Puts limit (request_at aim pool seed n) old new = subst P is puts in
     subst Q (sym same) (one_more limit (request_at aim pool seed) n old new (is_uncut (n + 1) aim.object (sent_level aim.model pool seed n) short) made here)
+
+-- a request that was made by what all have in common
+pub made_so : (aim : Aim) (pool : Pool) (seed n : ℕ) (level : Option ℕ) (before after bytes : List ℕ) → IsPattern aim.object (carries aim.model) before after
+    → level ≡ sent_level aim.model pool seed n → bytes ≡ before ++ number_bytes Big w32 (n + 1) ++ after ++ content level → bytes ≡ spelled Big (asking (n + 1) aim.object level)
+made_so aim pool seed n level before after bytes pattern is made =
+    made ∙ sym (pattern.says (n + 1) level (ap is_some is ∙ carries_so aim.model pool seed n))
+
+-- it can be sent
+pub uncut_so : (aim : Aim) (pool : Pool) (seed n : ℕ) (level : Option ℕ) (before after bytes : List ℕ) → AreShort aim.object → IsPattern aim.object (carries aim.model) before after
+    → level ≡ sent_level aim.model pool seed n → bytes ≡ before ++ number_bytes Big w32 (n + 1) ++ after ++ content level → IsUncut bytes
+uncut_so aim pool seed n level before after bytes short pattern is made =
+    uncut_bytes (n + 1) aim.object level bytes short (made_so aim pool seed n level before after bytes pattern is made)
+
+-- and when it was sent, it was put after the bytes
+pub puts_so : (limit : Option ℕ) (aim : Aim) (pool : Pool) (seed n : ℕ) (level : Option ℕ) (before after bytes old new : List ℕ) → AreShort aim.object
+    → IsPattern aim.object (carries aim.model) before after → level ≡ sent_level aim.model pool seed n → bytes ≡ before ++ number_bytes Big w32 (n + 1) ++ after ++ content level
+    → n < MAX_RUN_CALLS → AreBytes bytes → Sends limit bytes old new → Puts limit (asking (n + 1) aim.object level) old new
+puts_so limit aim pool seed n level before after bytes old new short pattern is made few are sends =
+    let lt : n + 1 < 2 ^ 32 = omega (arith, few) in
+    puts_by limit (n + 1) aim.object level bytes old new short (made_so aim pool seed n level before after bytes pattern is made) are
+    (pattern.fits (n + 1) level (ap is_some is ∙ carries_so aim.model pool seed n) lt) sends
 
 -- what was made for the first object of a setup
 pub is_made : {E : Type 0} (r : Result (Room ℕ) E) (setup : SetupData) (plan : LoadPlan) (object : ObjectSpec) (adapter : AdapterData) (key : List ℕ) (pool : Pool)

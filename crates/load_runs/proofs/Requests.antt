@@ -24,7 +24,7 @@ IsLen object name sizes body n =
     (order : Order) (id flags : ℕ) (told : List Context) (bytes : List ℕ) → map data_len told ≡ sizes → length bytes ≡ body
     → n ≡ held (length (spelled order (request_of id flags (key object) name told bytes)))
 
-priority_data : (level : ℕ) → length (encapsulation Big (priority_fields level)) ≡ 4
+pub priority_data : (level : ℕ) → length (encapsulation Big (priority_fields level)) ≡ 4
 priority_data level =
     let all : 4 ≡ 1 + length (fields_bytes Big 1 (priority_fields level)) = fields_end-is Big 1 (priority_fields level) in
     omega (arith, all)

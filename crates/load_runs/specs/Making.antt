@@ -1,8 +1,14 @@
 -- What the calls that make a load come to.
-use Rattle.std.specs.Prelude.{◌≡◌, ◌≤◌, ℕ, ◌*◌, ◌%◌, List, ◌++◌, length, Option, Some, None}
+use Rattle.std.specs.Prelude.{◌≡◌, ◌≤◌, ◌<◌, ℕ, ◌*◌, ◌%◌, ◌^◌, Bool, true, false, List, [], ◌++◌, length, Option, Some, None, is_some}
+use Rattle.std.specs.Int.{w32}
 use Rattle.orb_base.specs.declared.limits.TheConstants.{MAX_RUN_CALLS}
 use Rattle.orb_base.specs.declared.order.Order.TheVariants.{Big}
+use Rattle.orb_base.specs.declared.priority_model.PriorityModel.{PriorityModel}
+use Rattle.orb_base.specs.declared.priority_model.PriorityModel.TheVariants.{ClientPropagated, ServerDeclared}
 use Rattle.cdr_core.specs.Cursor.{AreBytes}
+use Rattle.cdr_core.specs.Encapsulation.{encapsulation}
+use Rattle.cdr_core.specs.Field.{number_bytes}
+use Rattle.service_contexts.specs.Layout.{priority_fields}
 use Rattle.giop_messages.specs.Message.{Message, Fits}
 use Rattle.giop_messages.specs.Spelling.{spelled}
 use Rattle.adapter_policies.specs.SetupData.{SetupData}
@@ -15,6 +21,37 @@ use Rattle.load_runs.specs.declared.input.TheConstants.{MAX_SENT}
 -- requests to the object of a key are short, whatever their id and priority
 abbrev pub AreShort : List ℕ → Type 0
 AreShort object = (id : ℕ) (level : Option ℕ) → length (spelled Big (asking id object level)) ≤ MAX_REQUEST
+
+-- whether the requests under a model carry a priority
+abbrev pub carries : PriorityModel → Bool
+carries ClientPropagated = true
+carries ServerDeclared = false
+
+-- what the context of a request says of its priority, where it carries one
+abbrev pub content : Option ℕ → List ℕ
+content (Some level) = encapsulation Big (priority_fields level)
+content None = []
+
+-- how many bytes that is under a model
+abbrev pub content_len : PriorityModel → ℕ
+content_len ClientPropagated = 4
+content_len ServerDeclared = 0
+
+-- all requests to the object of a key that carry a priority, or all that don't, are spelled as these bytes, the id, those, and what is said
+-- of the priority
+pub record IsPattern (object : List ℕ) (leveled : Bool) (before after : List ℕ) : Type 0 where
+  pub says : (id : ℕ) (level : Option ℕ) → is_some level ≡ leveled
+      → spelled Big (asking id object level) ≡ before ++ number_bytes Big w32 id ++ after ++ content level
+  pub fits : (id : ℕ) (level : Option ℕ) → is_some level ≡ leveled → id < 2 ^ 32 → Fits (asking id object level)
+
+-- the bytes are those before an id, the id, those after it, and so many more
+pub record IsCut (bytes : List ℕ) (len : ℕ) (before after : List ℕ) : Type 0 where
+  pub id : List ℕ
+  pub last : List ℕ
+  pub parts : bytes ≡ before ++ id ++ after ++ last
+  pub before_len : length before ≡ 12
+  pub id_len : length id ≡ 4
+  pub last_len : length last ≡ len
 
 -- a limit under which messages can be cut into pieces
 abbrev pub CutsWell : Option ℕ → Type 0

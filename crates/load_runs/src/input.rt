@@ -9,10 +9,11 @@ ghost use Rattle.load_runs.specs.Making.{AreShort, Sends, Puts, MadeSoFar, IsMad
 
 use crate::fragment_len::FragmentLen;
 use crate::load_plan::LoadPlan;
-use crate::request::{are_short, request, sent_level};
+use crate::pattern::Pattern;
+use crate::request::{are_short, sent_level};
 use adapter_policies::Setup;
 use giop_frames::split;
-use orb_base::{NoMemory, Octets, PoolSpec, Priority, PriorityModel};
+use orb_base::{NoMemory, Octets, PoolSpec, PriorityModel};
 use std::alloc::Global;
 
 /// The most bytes that a request is sent as: its own, and the headers and ids of its pieces.
@@ -63,24 +64,6 @@ fn see_bytes(bytes: &[u8])
     ensures { AreBytes bytes.now }
 {}
 
-/// Puts a request under an id to the object of a key after the bytes.
-#[tactic(auto, using(crate::proofs::Requests::short_message))]
-fn put_request(
-    alloc: Global,
-    id: u32,
-    object: &[u8],
-    level: Option<Priority>,
-    fragment: Option<FragmentLen>,
-    into: &mut Octets,
-) -> Result<(), NoMemory>
-    requires short { AreShort object.now }
-    ensures { OnOk result (Puts fragment (Spec.asking id object.now level) into.old.items into.new.items) }
-{
-    let bytes = request(alloc, id, object, level)?;
-    see_bytes(bytes.as_slice());
-    put_sent(alloc, bytes.as_slice(), fragment, into)
-}
-
 /// After the first of so many requests makes room for the others, each of which is as long.
 fn reserve_others(input: &mut Octets, i: u32, requests: u32) -> Result<(), NoMemory>
     ensures { input.new.items ≡ input.old.items }
@@ -92,9 +75,8 @@ fn reserve_others(input: &mut Octets, i: u32, requests: u32) -> Result<(), NoMem
     input.reserve_exact(input.len().saturating_mul(others))
 }
 
-/// The requests of a plan to the object of a key under an adapter of this model. All are of one length, so that the room for them is
-/// asked for once, after the first one.
-#[tactic(auto, using(crate::proofs::Made::nothing_made, crate::proofs::Made::next_made))]
+/// The requests of a plan to the object of a key under an adapter of this model. One of them is spelled, and the others are made by what
+/// they have in common. All are of one length, so that the room for them is asked for once, after the first one.
 fn requests(
     alloc: Global,
     object: &[u8],
@@ -108,10 +90,14 @@ fn requests(
         (Spec.request_at (record { object = object.now; model = model }) pool.now plan.now.seed) plan.now.count input.items) }
 {
     let count = plan.count.requests();
+    let pattern = Pattern::new(alloc, object, model)?;
+    let mut message = Octets::new(alloc);
     let mut input = Octets::new(alloc);
     for i in 0..count {
         let level = sent_level(model, pool, plan.seed, i);
-        put_request(alloc, i + 1, object, level, plan.fragment, &mut input)?;
+        pattern.spell(i + 1, level, &mut message)?;
+        see_bytes(message.as_slice());
+        put_sent(alloc, message.as_slice(), plan.fragment, &mut input)?;
         reserve_others(&mut input, i, count)?;
     }
     Ok(input)

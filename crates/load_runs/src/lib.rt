@@ -9,6 +9,7 @@ mod load_count;
 mod load_end;
 mod load_line;
 mod load_plan;
+mod pattern;
 mod request;
 mod run;
 

@@ -34,7 +34,7 @@ pub(crate) fn are_short(object: &[u8]) -> bool
 }
 
 /// The priority of so many, which is in their range.
-fn priority(level: u64) -> Priority
+pub(crate) fn priority(level: u64) -> Priority
     requires { level < 32768 }
     ensures { result ≡ level }
 {
