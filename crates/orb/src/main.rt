@@ -6,28 +6,18 @@ ghost use Rattle.orb_command.specs.Command.{status_of};
 
 #[cfg(test)]
 mod cause_tests;
-mod door_sink;
 mod note_text;
-mod run_door;
-mod std_files;
-mod std_links;
-mod std_net;
 #[cfg(test)]
 mod tests;
-mod turned_away;
 
-use door_sink::DoorSink;
 use note_text::NoteText;
 use orb_base::List;
 use orb_command::{Answered, Note, orb_main};
-use run_door::RunDoor;
 use std::alloc::Global;
 use std::io;
 use std::process::ExitCode;
 use std_devices::{StdSink, StdSource, words};
-use std_files::StdFiles;
-use std_net::StdNet;
-use turned_away::end_listening;
+use system_devices::{DoorSink, RunDoor, StdFiles, StdNet, end_listening};
 
 /// What is answered where the words can't be had: out of memory, or one of them isn't UTF-8.
 fn without_words<A, I, O>(alloc: Global, fault: &io::Error) -> Answered<A, I, O>

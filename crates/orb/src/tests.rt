@@ -1,10 +1,6 @@
 //! The lines that notes print, files, and a request over loopback.
 
 use crate::cause_tests::is_line;
-use crate::run_door::RunDoor;
-use crate::std_files::StdFiles;
-use crate::std_net::StdNet;
-use crate::turned_away::CLOSE;
 use crate::{orb_main, without_words};
 use client_calls::SystemException;
 use client_runs::LocalFault;
@@ -23,7 +19,11 @@ use std::sync::Wait;
 use std::thread::Threads;
 use std::time::Duration;
 use std::{fs, io, net, rt, thread};
+use system_devices::{RunDoor, StdFiles, StdNet};
 use text_streams::{ReadAll, WriteAll, read_all, write_all};
+
+/// CloseConnection. CORBA 3.0.3, section 15.4.7.
+const CLOSE: &[u8] = b"GIOP\x01\x02\0\x05\0\0\0\0";
 
 /// A note that holds no text.
 #[derive(Clone, Copy)]

@@ -180,15 +180,15 @@ const MOST_WAITS: u32 = 50;
 
 /// A link that nobody serves yet.
 #[derive(Drop)]
-pub struct Fresh {
-    pub stream: TcpStream,
+pub(crate) struct Fresh {
+    pub(crate) stream: TcpStream,
     /// What reads it, with its first bytes once they are there.
-    pub reader: BufReader<TcpStream>,
+    pub(crate) reader: BufReader<TcpStream>,
 }
 
 impl Fresh {
     /// A link of a stream, whose small writes go at once (TCP_NODELAY). None where the system refuses.
-    pub fn new(alloc: Global, stream: TcpStream) -> Option<Fresh> {
+    pub(crate) fn new(alloc: Global, stream: TcpStream) -> Option<Fresh> {
         let Ok(()) = stream.set_nodelay(true) else {
             return None;
         };
@@ -212,7 +212,10 @@ impl Fresh {
     }
 
     /// Its halves.
-    pub fn halves<'a, R>(self, closer: Option<DoorCloser<'a, R>>) -> (LinkSource, LinkSink<'a, R>)
+    pub(crate) fn halves<'a, R>(
+        self,
+        closer: Option<DoorCloser<'a, R>>,
+    ) -> (LinkSource, LinkSink<'a, R>)
         ensures source { IsNewSource (⟦<LinkSource as Source>⟧.state result.0) }
         ensures sink { result.1.faults ≡ 0 }
     {
@@ -236,7 +239,7 @@ fn is_silent(reader: &mut BufReader<TcpStream>) -> bool {
 const MOST_GONE: u32 = 1_000;
 
 /// Whether an accept met a peer that is gone again, or was interrupted: the next one may do.
-pub fn is_passing(fault: &io::Error) -> bool {
+pub(crate) fn is_passing(fault: &io::Error) -> bool {
     matches!(
         fault.kind(),
         io::ErrorKind::ConnectionAborted
@@ -286,7 +289,7 @@ pub struct StdAcceptor<'a, R> {
 
 impl<'a, R: net::Net<Listener = TcpListener, Stream = TcpStream>> StdAcceptor<'a, R> {
     /// What accepts so many links, with its counts at 0.
-    pub fn new(
+    pub(crate) fn new(
         alloc: Global,
         listener: TcpListener,
         closer: DoorCloser<'a, R>,
@@ -306,7 +309,7 @@ impl<'a, R: net::Net<Listener = TcpListener, Stream = TcpStream>> StdAcceptor<'a
     }
 
     /// The share of the listener, and the link that was kept.
-    pub fn into_parts(self) -> (TcpListener, Option<Fresh>) {
+    pub(crate) fn into_parts(self) -> (TcpListener, Option<Fresh>) {
         (self.listener, self.kept)
     }
 

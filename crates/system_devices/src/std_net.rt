@@ -20,10 +20,10 @@ pub struct StdNet<'a, R> {
     faults: u64,
 }
 
-impl<'a, R: net::Net<Listener = TcpListener, Stream = TcpStream>> StdNet<'a, R> {
+impl<'a, R: net::Net<Listener = TcpListener, Stream = TcpStream> + Sync> StdNet<'a, R> {
     /// A net over the system's sockets, with its count at 0, whose slots share this door.
     pub fn new(system: &'a R, alloc: Global, door: &'a RunDoor) -> StdNet<'a, R>
-        ensures { result.faults ≡ 0 }
+        ensures { ⟦<StdNet<'a, R> as Net>⟧.state result ≡ record { asked = None; slots = None; peers = None; faults = 0 } }
     {
         StdNet {
             system,
@@ -32,7 +32,9 @@ impl<'a, R: net::Net<Listener = TcpListener, Stream = TcpStream>> StdNet<'a, R> 
             faults: 0,
         }
     }
+}
 
+impl<'a, R: net::Net<Listener = TcpListener, Stream = TcpStream>> StdNet<'a, R> {
     /// What listens at a host and a port, and what closes the door of a run there. None where the system refuses.
     fn listener_at(&self, host: &Text, port: u16) -> Option<(TcpListener, DoorCloser<'a, R>)> {
         let listener = bind(self.system, host, port)?;

@@ -1,6 +1,6 @@
 //! A store of files over the file system.
 ghost use Rattle.std.specs.Prelude.{◌≡◌, ◌≤◌, None, [], length};
-ghost use Rattle.orb.specs.Filling.{Fills};
+ghost use Rattle.system_devices.specs.Filling.{Fills};
 
 use orb_base::{Filed, Files, Octets, Text};
 use std::alloc::Global;

@@ -47,27 +47,27 @@ impl RunDoor {
     }
 
     /// A run is over, and the next one takes links.
-    pub fn open(&self) {
+    pub(crate) fn open(&self) {
         self.closing.store(0, Ordering::SeqCst);
     }
 
     /// Whether the run closes.
-    pub fn is_closing(&self) -> bool {
+    pub(crate) fn is_closing(&self) -> bool {
         self.closing.load(Ordering::SeqCst) != 0
     }
 
     /// A slot begins to wait. It is to look at `is_closing` after this, since who closes the run looks at who waits after that.
-    pub fn begin_waiting(&self) {
+    pub(crate) fn begin_waiting(&self) {
         self.waiting.fetch_add(1, Ordering::SeqCst);
     }
 
     /// A slot waits no more.
-    pub fn end_waiting(&self) {
+    pub(crate) fn end_waiting(&self) {
         self.waiting.fetch_sub(1, Ordering::SeqCst);
     }
 
     /// Whether a link that was accepted is one of the server's own, from an address to itself and a port that is noted. Each is met once.
-    pub fn is_own(&self, stream: &TcpStream) -> bool {
+    pub(crate) fn is_own(&self, stream: &TcpStream) -> bool {
         let (Ok(peer), Ok(here)) = (stream.peer_addr(), stream.local_addr()) else {
             return false;
         };
@@ -90,7 +90,7 @@ fn is_taken(own: &AtomicU64, port: u64) -> bool {
 
 /// What closes the door of a run, and wakes the slots that wait.
 #[derive(Drop)]
-pub struct DoorCloser<'a, R> {
+pub(crate) struct DoorCloser<'a, R> {
     system: &'a R,
     at: SocketAddr,
     door: &'a RunDoor,
@@ -98,17 +98,17 @@ pub struct DoorCloser<'a, R> {
 
 impl<'a, R> DoorCloser<'a, R> {
     /// What wakes those that listen there.
-    pub fn new(system: &'a R, at: SocketAddr, door: &'a RunDoor) -> DoorCloser<'a, R> {
+    pub(crate) fn new(system: &'a R, at: SocketAddr, door: &'a RunDoor) -> DoorCloser<'a, R> {
         DoorCloser { system, at, door }
     }
 
     /// The same, once more.
-    pub fn again(&self) -> DoorCloser<'a, R> {
+    pub(crate) fn again(&self) -> DoorCloser<'a, R> {
         DoorCloser::new(self.system, self.at, self.door)
     }
 
     /// The door.
-    pub fn door(&self) -> &RunDoor {
+    pub(crate) fn door(&self) -> &RunDoor {
         self.door
     }
 }
@@ -116,7 +116,7 @@ impl<'a, R> DoorCloser<'a, R> {
 impl<'a, R: net::Net<Listener = TcpListener, Stream = TcpStream>> DoorCloser<'a, R> {
     /// Closes the door, unless it is closed, and wakes each slot that waits by a link of the server's own: a waiting accept can't be
     /// given up otherwise.
-    pub fn close(&self) {
+    pub(crate) fn close(&self) {
         if self.door.closing.swap(1, Ordering::SeqCst) != 0 {
             return;
         }

@@ -9,7 +9,7 @@ use std::net::{Shutdown, TcpListener, TcpStream};
 use std::time::Duration;
 
 /// CloseConnection: nothing of what the peer sent was run. CORBA 3.0.3, section 15.4.7.
-pub const CLOSE: &[u8] = b"GIOP\x01\x02\0\x05\0\0\0\0";
+pub(crate) const CLOSE: &[u8] = b"GIOP\x01\x02\0\x05\0\0\0\0";
 
 /// A Reply of 56 bytes, up to its id, and what comes after that: SYSTEM_EXCEPTION, no contexts, and TRANSIENT, minor 2 (own profile),
 /// completed NO. CORBA 3.0.3, sections 4.12 and 15.4.3.
@@ -29,7 +29,7 @@ const PATIENCE: u64 = 20;
 
 /// Passes over what a peer sent, up to its end: a link that is let go with bytes unread is reset, and the peer may lose what it was
 /// sent.
-pub fn pass_over(stream: &mut TcpStream) {
+fn pass_over(stream: &mut TcpStream) {
     for _ in 0..MOST_PASSED_OVER {
         let mut piece = [0u8; 4096];
         match stream.read(&mut piece) {
