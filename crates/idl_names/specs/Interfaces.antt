@@ -13,7 +13,7 @@ use Rattle.idl_scopes.specs.Ids.{id_of}
 use Rattle.idl_types.specs.declared.way.Way.{Way}
 use Rattle.idl_types.specs.declared.way.Way.TheVariants.{Input, Output, Both}
 use Rattle.idl_types.specs.Things.{OperationView}
-use Rattle.idl_names.specs.declared.head.Head.TheVariants.{Parameters, Raises}
+use Rattle.idl_lookup.specs.declared.head.Head.TheVariants.{Parameters, Raises}
 use Rattle.idl_names.specs.Sizes.{Sized, plus, times}
 use Rattle.idl_names.specs.Each.{and_each}
 use Rattle.idl_names.specs.State.{Thing, nothing, interface, exception, operations, Parts, no_parts, Built}

@@ -1,6 +1,5 @@
 -- Scoped names, and what they are used for: CORBA 3.0.3, chapter 3, names and scoping.
-use Rattle.std.specs.Prelude.{ℕ, ◌+◌, ◌==◌, ◌&&◌, Bool, List, Option, Some, None, if◌then◌else◌, Result, Ok, Err}
-use Rattle.std.specs.Str.{bytes_eq}
+use Rattle.std.specs.Prelude.{ℕ, ◌+◌, List, Option, Some, None, Result, Ok, Err}
 use Rattle.grammar.specs.Language.{Placed}
 use Rattle.grammar.specs.Reading.{◌>>=◌}
 use Rattle.idl_tokens.specs.declared.kind.Kind.{Kind}
@@ -11,43 +10,20 @@ use Rattle.idl_scopes.specs.Table.{module_}
 use Rattle.idl_scopes.specs.Finding as scopes
 use Rattle.idl_constants.specs.ConstValues.{Value, choice}
 use Rattle.idl_names.specs.Sizes.{Sized}
-use Rattle.idl_names.specs.declared.head.Head.{Head}
-use Rattle.idl_names.specs.declared.head.Head.TheVariants.{Outside, Parameters, Raises}
+use Rattle.idl_lookup.specs.declared.seat.Seat.{Seat}
+use Rattle.idl_lookup.specs.Lookup.{find_first, find_further}
 use Rattle.idl_names.specs.State.{Thing, nothing, interface, type, constant, enumerator, Search, fresh, rooted, found, Built}
-use Rattle.idl_names.specs.Changes.{Done, place_of, fault, refused, opened, name_at, declare_in, enter, thing_at}
+use Rattle.idl_names.specs.Changes.{Done, place_of, fault, refused, declare_in, enter, thing_at}
 
--- this is the name of the operation that is read, in the scope that the operation is declared in
-abbrev pub is_itself : List ℕ → ℕ → Built → Bool
-is_itself name scope s = (scope == scopes.outer s.scopes s.here) && bytes_eq (name_at s (opened s)) name
-
--- An operation is declared at its name: in its interface that name means the operation itself, and any other one is looked up.
-abbrev pub find_around : List ℕ → Built → Option ℕ
-find_around name s =
-    if is_itself name (scopes.outer s.scopes s.here) s then Some (opened s) else scopes.looked_up s.scopes name (scopes.outer s.scopes s.here)
-
--- the first part of a name is looked up here; in an operation's parameters there and then in its interface, and in what it raises
--- in its interface alone
-abbrev pub find_first : Head → List ℕ → Built → Option ℕ
-find_first Outside name s = scopes.looked_up s.scopes name s.here
-find_first Parameters name s = scopes.or_else (scopes.own s.scopes name s.here) (find_around name s)
-find_first Raises name s = find_around name s
-
--- in an operation, a further part: inside the operation itself nothing is found, and inside its interface the operation is
-abbrev pub find_in_head : List ℕ → Built → ℕ → Option ℕ
-find_in_head name s i =
-    if i == opened s then None else (if is_itself name (i + 1) s then Some (opened s) else scopes.inside_of s.scopes name i)
-
--- a further part of a name is looked up inside what was found
-abbrev pub find_further : Head → List ℕ → Built → ℕ → Option ℕ
-find_further Outside name s i = scopes.inside_of s.scopes name i
-find_further Parameters name s i = find_in_head name s i
-find_further Raises name s i = find_in_head name s i
+-- from where names are looked up
+abbrev pub seat_of : Built → Seat
+seat_of s = record { head = s.parts.head; here = s.here }
 
 -- a part of a name: the first one, or the first after `::`, which is in the file's scope, or a further one
 abbrev pub find_part : List ℕ → Built → Search → Option ℕ
-find_part name s fresh = find_first s.parts.head name s
+find_part name s fresh = find_first s.scopes (seat_of s) s.parts.head name
 find_part name s rooted = scopes.own s.scopes name 0
-find_part name s (found i) = find_further s.parts.head name s i
+find_part name s (found i) = find_further s.scopes (seat_of s) s.parts.head name i
 
 -- the name means this so far, or its part is unknown
 abbrev pub part_found : Placed Kind → Built → Option ℕ → Done

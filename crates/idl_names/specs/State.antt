@@ -7,8 +7,8 @@ use Rattle.idl_constants.specs.ConstValues.{Value, number}
 use Rattle.idl_types.specs.declared.way.Way.{Way}
 use Rattle.idl_types.specs.declared.way.Way.TheVariants.{Input}
 use Rattle.idl_types.specs.Things.{ParamView, OperationView}
-use Rattle.idl_names.specs.declared.head.Head.{Head}
-use Rattle.idl_names.specs.declared.head.Head.TheVariants.{Outside}
+use Rattle.idl_lookup.specs.declared.head.Head.{Head}
+use Rattle.idl_lookup.specs.declared.head.Head.TheVariants.{Outside}
 use Rattle.idl_names.specs.Sizes.{Sized, leaf}
 
 -- what a declaration stands for beside its scope

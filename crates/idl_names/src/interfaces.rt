@@ -9,7 +9,6 @@ ghost use Rattle.idl_names.specs.State.{no_parts};
 ghost use Rattle.idl_names.specs.Views.{built_of, thing_of};
 
 use crate::changes::{Done, fault, place_of, with_memory};
-use crate::head::Head;
 use crate::inheritance::leaves_at;
 use crate::operations::{and_operation, attribute_of, is_exception, is_input, operation_of};
 use crate::sizes::plus;
@@ -18,6 +17,7 @@ use crate::texts::text_of;
 use cdr_values::copy_type;
 use grammar::ReadError;
 use idl_grammar::IdlCause;
+use idl_lookup::Head;
 use idl_scopes::{DeclareFault, Sort};
 use idl_tokens::Token;
 use idl_types::{Param, Way};

@@ -8,7 +8,6 @@
 mod bodies;
 mod changes;
 mod each;
-mod head;
 mod inheritance;
 mod interfaces;
 mod labels;

@@ -9,12 +9,12 @@ ghost use Rattle.idl_names.specs.ScopedNames as Spec;
 ghost use Rattle.idl_names.specs.Views.{built_of, search_of, sized_of, thing_of};
 
 use crate::changes::{Done, fault, place_of, with_memory};
-use crate::head::Head;
 use crate::sizes::{SizedType, copy_sized};
 use crate::state::{Names, Search, Thing, Valued};
 use grammar::ReadError;
 use idl_constants::ConstValue;
 use idl_grammar::{IdlCause, IdlFault};
+use idl_lookup::Seat;
 use idl_scopes::{Place, Sort};
 use idl_tokens::Token;
 use orb_base::{NoMemory, Text};
@@ -50,59 +50,13 @@ fn value_in(alloc: Global, thing: &Thing, last: Place) -> Result<ConstValue, Rea
 }
 
 impl Names {
-    /// Whether this is the name of the operation that is read, in the scope that the operation is declared in.
-    fn is_itself(&self, name: &[u8], scope: usize) -> bool
-        ensures { result ≡ Spec.is_itself name.now scope (built_of self.now) }
+    /// From where names are looked up.
+    fn seat(&self) -> Seat
+        ensures { result ≡ Spec.seat_of (built_of self.now) }
     {
-        scope == self.scopes.outer(self.here) && self.scopes.name_at(self.opened()) == name
-    }
-
-    /// The place of a name in the interface of the operation that is read, which is declared there at its name.
-    fn find_around(&self, name: &[u8]) -> Result<Option<usize>, NoMemory>
-        ensures { IfOk result (λ o. o ≡ Spec.find_around name.now (built_of self.now)) }
-    {
-        let around = self.scopes.outer(self.here);
-        if self.is_itself(name, around) {
-            return Ok(Some(self.opened()));
-        }
-        self.scopes.find(name, around)
-    }
-
-    /// The place of the first part of a name.
-    fn find_first(&self, name: &[u8]) -> Result<Option<usize>, NoMemory>
-        ensures { IfOk result (λ o. o ≡ Spec.find_first self.now.parts.head name.now (built_of self.now)) }
-    {
-        match self.parts.head {
-            Head::Outside => self.scopes.find(name, self.here),
-            Head::Parameters => match self.scopes.own(name, self.here)? {
-                Some(at) => Ok(Some(at)),
-                None => self.find_around(name),
-            },
-            Head::Raises => self.find_around(name),
-        }
-    }
-
-    /// The place of a further part of a name in an operation.
-    fn find_in_head(&self, name: &[u8], at: u32) -> Result<Option<usize>, NoMemory>
-        ensures { IfOk result (λ o. o ≡ Spec.find_in_head name.now (built_of self.now) at) }
-    {
-        if at as usize == self.opened() {
-            return Ok(None);
-        }
-        if self.is_itself(name, at as usize + 1) {
-            return Ok(Some(self.opened()));
-        }
-        self.scopes.find_inside(name, at)
-    }
-
-    /// The place of a further part of a name.
-    fn find_further(&self, name: &[u8], at: u32) -> Result<Option<usize>, NoMemory>
-        ensures { IfOk result (λ o. o ≡ Spec.find_further self.now.parts.head name.now (built_of self.now) at) }
-    {
-        match self.parts.head {
-            Head::Outside => self.scopes.find_inside(name, at),
-            Head::Parameters => self.find_in_head(name, at),
-            Head::Raises => self.find_in_head(name, at),
+        Seat {
+            head: self.parts.head,
+            here: self.here,
         }
     }
 
@@ -111,9 +65,9 @@ impl Names {
         ensures { IfOk result (λ o. o ≡ Spec.find_part name.now (built_of self.now) (search_of self.now.search)) }
     {
         match self.search {
-            Search::Fresh => self.find_first(name),
+            Search::Fresh => self.seat().find_first(&self.scopes, name),
             Search::Rooted => self.scopes.own(name, 0),
-            Search::Found(at) => self.find_further(name, at),
+            Search::Found(at) => self.seat().find_further(&self.scopes, name, at),
         }
     }
 

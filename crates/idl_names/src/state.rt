@@ -4,10 +4,10 @@ ghost use Rattle.idl_scopes.specs.Views.{table_of};
 ghost use Rattle.idl_names.specs.State.{no_parts, nothing_built};
 ghost use Rattle.idl_names.specs.Views.{built_of, parts_of, thing_of};
 
-use crate::head::Head;
 use crate::sizes::SizedType;
 use cdr_values::{Case, IdlType, Member};
 use idl_constants::ConstValue;
+use idl_lookup::Head;
 use idl_scopes::{Inherited, Place, Scopes};
 use idl_types::{Operation, Param, Way};
 use indexmap::IndexSet;

@@ -2,7 +2,7 @@
 
 /// Of the operation whose name was read: where the names of its types and exceptions are.
 #[derive(Clone, Copy, Debug, PartialEq, Eq)]
-pub(crate) enum Head {
+pub enum Head {
     /// No parameter has begun, or no operation is read.
     Outside,
     /// Its parameters.
