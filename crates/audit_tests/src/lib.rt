@@ -1,4 +1,5 @@
-//! Tests of `lane_audit`, `fit_audit`, `trace_reading`, `trace_runs`, `trace_audit`, and of the lane machine beside them.
+//! Tests of `lane_audit`, `fit_audit`, `trace_reading`, `trace_runs`, `trace_audit`, of the lane machine beside them, and of
+//! `trace_picture` and `picture_runs`.
 #![tactic(auto)]
 
 #[cfg(test)]
@@ -7,6 +8,8 @@ mod fit_audit_tests;
 mod lane_audit_tests;
 #[cfg(test)]
 mod lane_machine_tests;
+#[cfg(test)]
+mod picture_tests;
 #[cfg(test)]
 mod replay;
 #[cfg(test)]

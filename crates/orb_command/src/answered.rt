@@ -1,6 +1,6 @@
 //! What the top call answers.
 ghost use Rattle.std.specs.Prelude.{◌≡◌, [], None};
-ghost use Rattle.orb_command.specs.Command.{report_of, Unlinked};
+ghost use Rattle.orb_command.specs.Command.{report_of, status_of, Unlinked};
 
 use crate::note::Note;
 use mux_runs::MuxRun;
@@ -9,6 +9,7 @@ use orb_base::List;
 use orb_server::Run;
 use pipe_runs::Piped;
 use std::alloc::Global;
+use std::io;
 
 /// What a command other than `serve`, `names` and `call` ends with: its status, the note that it prints, and what a run of `pipe` came to.
 #[derive(Drop)]
@@ -65,4 +66,26 @@ impl<A, I, O> Answered<A, I, O> {
             mux: None,
         }
     }
+}
+
+/// What the program ends with where the words of its command line can't be had: out of memory, or one of them isn't UTF-8.
+pub fn without_words<A, I, O>(alloc: Global, fault: &io::Error) -> Answered<A, I, O>
+    ensures status { result.status ≡ status_of result.note }
+    ensures runs { result.runs.items ≡ [] }
+    ensures names { result.names ≡ None }
+    ensures acceptors { result.acceptors.items ≡ [] }
+    ensures link { Unlinked result }
+{
+    let (status, note) = match fault.kind() {
+        io::ErrorKind::OutOfMemory => (12, Note::Memory),
+        _ => (1, Note::Usage),
+    };
+    Answered::plain(
+        alloc,
+        Reported {
+            status,
+            note,
+            piped: None,
+        },
+    )
 }

@@ -16,6 +16,6 @@ mod serve;
 mod setup_note;
 mod shared;
 
-pub use answered::{Answered, Reported};
+pub use answered::{Answered, Reported, without_words};
 pub use command::orb_main;
 pub use note::{Note, Role};

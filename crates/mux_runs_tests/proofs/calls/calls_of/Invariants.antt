@@ -1,5 +1,0 @@
-use Rattle.mux_runs.specs.Callers.{AreShort}
-use Rattle.mux_runs_tests.proofs.calls.calls_of.Given as goal
-
-abbrev pub invariant-loop : goal.invariant-loop
-invariant-loop l = AreShort l.calls.items

@@ -1,5 +1,0 @@
-use Rattle.mux_tests.specs.Seats.{AreIdle, AreBusy}
-use Rattle.mux_tests.proofs.many_callers.all_begin.Given as goal
-
-abbrev pub invariant-loop : goal.invariant-loop
-invariant-loop g l = AreIdle l.shared.cell l.callers.items × AreBusy l.shared.cell l.busy.items

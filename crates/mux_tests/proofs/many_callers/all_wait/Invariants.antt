@@ -1,5 +1,0 @@
-use Rattle.mux_tests.specs.Seats.{AreBusy}
-use Rattle.mux_tests.proofs.many_callers.all_wait.Given as goal
-
-abbrev pub invariant-loop : goal.invariant-loop
-invariant-loop g l = AreBusy l.shared.cell l.busy.items

@@ -1,5 +1,0 @@
-//! Tests of `trace_picture`, `picture_runs`.
-#![tactic(auto)]
-
-#[cfg(test)]
-mod picture_tests;
