@@ -1,6 +1,6 @@
 -- The thread's hands are empty, whether it finishes or not.
-use Rattle.audit_tests.proofs.Known.{let_go, finish_known}
-use Rattle.audit_tests.proofs.replay.Replay.finish.Goals as goal
+use Rattle.machine_tests.proofs.Known.{let_go, finish_known}
+use Rattle.machine_tests.proofs.replay.Replay.finish.Goals as goal
 
 pub invariant_of-self : goal.invariant_of-self
 invariant_of-self c = finish_known _ _ _ _ _ _ c.args.thread _ _ c.tried.result _ c.from-at.ensures c.replace.ensures.after c.tried.ensures c.self.invariant

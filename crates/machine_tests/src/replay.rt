@@ -8,7 +8,7 @@ ghost use Rattle.lane_machine.specs.State.{opening};
 ghost use Rattle.lane_machine.specs.Machine.{step};
 ghost use Rattle.lane_machine.specs.Readiness.{IsSound, HasLane};
 ghost use Rattle.lane_machine.specs.declared.call.LaneReply.TheVariants as reply;
-ghost use Rattle.audit_tests.specs.Knowing.{AreEmpty, is_quiet, Tried};
+ghost use Rattle.machine_tests.specs.Knowing.{AreEmpty, is_quiet, Tried};
 
 use lane_machine::{How, LaneCall, LaneReply, Lanes};
 use orb_base::limits::{MAX_BODY, MAX_CONNECTIONS, MAX_SLOTS};
@@ -39,7 +39,7 @@ struct Replay {
 
 impl Model for Replay {
     ghost use Rattle.lane_machine.specs.State.{State};
-    ghost use Rattle.audit_tests.specs.Knowing.{IsKnown};
+    ghost use Rattle.machine_tests.specs.Knowing.{IsKnown};
 
     ghost Value = { State };
 

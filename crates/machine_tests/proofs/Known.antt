@@ -26,7 +26,7 @@ use Rattle.lane_machine.specs.declared.call.LaneCall.{LaneCall}
 use Rattle.lane_machine.specs.declared.call.LaneCall.TheVariants.{Offer, Post, Cancel, Take, Finish, Collect, End, Leave}
 use Rattle.lane_machine.specs.declared.call.LaneReply.{LaneReply}
 use Rattle.lane_machine.specs.declared.call.LaneReply.TheVariants as reply
-use Rattle.audit_tests.specs.Knowing.{HasBusy, AreEmpty, IsKnown, is_quiet, Tried}
+use Rattle.machine_tests.specs.Knowing.{HasBusy, AreEmpty, IsKnown, is_quiet, Tried}
 
 -- each thread that carries out a request goes on with it
 abbrev Keeps : List Thread → List Thread → Type 0
