@@ -1,5 +1,0 @@
-use Rattle.turn_cell.specs.Calls.{IsOf}
-use Rattle.cell_bench.proofs.hatches.take_all.Given as goal
-
-abbrev pub invariant-loop : goal.invariant-loop
-invariant-loop g l = IsOf l.cell l.seat
