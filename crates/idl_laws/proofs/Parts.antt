@@ -19,12 +19,13 @@ use Rattle.idl_names.specs.Sizes.{Sized}
 use Rattle.idl_names.specs.State.{Thing, type, constant, enumerator, found, Built}
 use Rattle.idl_names.specs.Changes.{Done, place_of, refused, unless, opened, thing_at}
 use Rattle.idl_names.specs.ScopedNames as names
+use Rattle.idl_lookup.specs.Lookup as lookup
 use Rattle.idl_names.specs.Interfaces as interfaces
 use Rattle.idl_names.specs.Interfaces.{is_interface, is_exception}
 use Rattle.idl_names.specs.Labels.{judge}
 use Rattle.idl_names.specs.Declaring.{idl}
-use Rattle.idl_names.specs.declared.head.Head.{Head}
-use Rattle.idl_names.specs.declared.head.Head.TheVariants.{Outside, Parameters, Raises}
+use Rattle.idl_lookup.specs.declared.head.Head.{Head}
+use Rattle.idl_lookup.specs.declared.head.Head.TheVariants.{Outside, Parameters, Raises}
 use Rattle.idl_reader.proofs.KeptNames.{IsOrderly, unless_ok}
 use Rattle.idl_laws.specs.Names.{is_rooted, FurtherParts, is_use, MeansAround, MeansHere, FirstMeans, MeansInside, IsItself, MeansWithin, FurtherMeans, RestMeans}
 use Rattle.idl_laws.specs.Points.{Point}
@@ -47,7 +48,7 @@ module _ (s : Built) (o : IsOrderly s) where
 
   -- ---- the first part
 
-  around_by : (name : List ℕ) (i : ℕ) (b : Bool) → names.is_itself name (outer s.scopes s.here) s ≡ b
+  around_by : (name : List ℕ) (i : ℕ) (b : Bool) → lookup.is_itself s.scopes (names.seat_of s) name (outer s.scopes s.here) ≡ b
       → (if b then Some (opened s) else looked_up s.scopes name (outer s.scopes s.here)) ≡ Some i → MeansAround s.scopes s.here name i
   around_by name i true e f =
       let here = outer s.scopes s.here in
@@ -61,15 +62,15 @@ module _ (s : Built) (o : IsOrderly s) where
       both_ways ((here == here) && own_name) e (and_from (here == here) own_name (eq-eqb here here refl) spelled) in
       inr (other, looked_means s.scopes o.names o.keyed name here i f)
 
-  around_so : (name : List ℕ) (i : ℕ) → names.find_around name s ≡ Some i → MeansAround s.scopes s.here name i
-  around_so name i e = around_by name i (names.is_itself name (outer s.scopes s.here) s) refl e
+  around_so : (name : List ℕ) (i : ℕ) → lookup.find_around s.scopes (names.seat_of s) name ≡ Some i → MeansAround s.scopes s.here name i
+  around_so name i e = around_by name i (lookup.is_itself s.scopes (names.seat_of s) name (outer s.scopes s.here)) refl e
 
-  among_by : (name : List ℕ) (i : ℕ) (x : Option ℕ) → own s.scopes name s.here ≡ x → or_else x (names.find_around name s) ≡ Some i
+  among_by : (name : List ℕ) (i : ℕ) (x : Option ℕ) → own s.scopes name s.here ≡ x → or_else x (lookup.find_around s.scopes (names.seat_of s) name) ≡ Some i
       → MeansHere Parameters s.scopes s.here name i
   among_by name i (Some j) e f = inl (own_named s.scopes o.names o.keyed s.here name i (e ∙ f))
   among_by name i None e f = inr (none_own s.scopes o.names o.keyed s.here name e, around_so name i f)
 
-  here_so : (head : Head) (name : List ℕ) (i : ℕ) → names.find_first head name s ≡ Some i → MeansHere head s.scopes s.here name i
+  here_so : (head : Head) (name : List ℕ) (i : ℕ) → lookup.find_first s.scopes (names.seat_of s) head name ≡ Some i → MeansHere head s.scopes s.here name i
   here_so Outside name i e = looked_means s.scopes o.names o.keyed name s.here i e
   here_so Parameters name i e = among_by name i (own s.scopes name s.here) refl e
   here_so Raises name i e = around_so name i e
@@ -90,7 +91,7 @@ module _ (s : Built) (o : IsOrderly s) where
   inside_so : (name : List ℕ) (j i : ℕ) → inside_of s.scopes name j ≡ Some i → MeansInside s.scopes name j i
   inside_so name j i e = inside_by name j i (is_operation (sort_at s.scopes j)) refl e
 
-  itself_by : (name : List ℕ) (j i : ℕ) (p : Place) (b : Bool) → names.is_itself name (j + 1) (at j p) ≡ b
+  itself_by : (name : List ℕ) (j i : ℕ) (p : Place) (b : Bool) → lookup.is_itself s.scopes (names.seat_of s) name (j + 1) ≡ b
       → (if b then Some (opened s) else inside_of s.scopes name j) ≡ Some i
       → (IsItself s.scopes s.here name j × (i ≡ s.here - 1)) ⊎ ((IsItself s.scopes s.here name j → ⊥) × MeansInside s.scopes name j i)
   itself_by name j i p true e f =
@@ -106,12 +107,12 @@ module _ (s : Built) (o : IsOrderly s) where
       inr (other, inside_so name j i f)
 
   within_by : (name : List ℕ) (j i : ℕ) (p : Place) (b : Bool) → (j == opened s) ≡ b
-      → (if b then None else (if names.is_itself name (j + 1) (at j p) then Some (opened s) else inside_of s.scopes name j)) ≡ Some i
+      → (if b then None else (if lookup.is_itself s.scopes (names.seat_of s) name (j + 1) then Some (opened s) else inside_of s.scopes name j)) ≡ Some i
       → MeansWithin s.scopes s.here name j i
   within_by name j i p true e f = absurd (none-some i f)
-  within_by name j i p false e f = (eqb-false j (opened s) e, itself_by name j i p (names.is_itself name (j + 1) (at j p)) refl f)
+  within_by name j i p false e f = (eqb-false j (opened s) e, itself_by name j i p (lookup.is_itself s.scopes (names.seat_of s) name (j + 1)) refl f)
 
-  further_so : (head : Head) (name : List ℕ) (j i : ℕ) (p : Place) → names.find_further head name (at j p) j ≡ Some i
+  further_so : (head : Head) (name : List ℕ) (j i : ℕ) (p : Place) → lookup.find_further s.scopes (names.seat_of s) head name j ≡ Some i
       → FurtherMeans head s.scopes s.here name j i
   further_so Outside name j i p e = inside_so name j i e
   further_so Parameters name j i p e = within_by name j i p (j == opened s) refl e
@@ -136,7 +137,7 @@ module _ (s : Built) (o : IsOrderly s) where
       let part = is.1 in
       let mid = took l.Skip is.0 ∷ took l.NamePart part ∷ did l.Skip ∷ [] in
       let m = acts_split idl mid is.2 (at j p) c (ap (λ (z : List (MarkOf idl)). acts idl z (at j p)) (sym is.5) ∙ e) in
-      let looked = names.find_further s.parts.head part.text (at j p) j in
+      let looked = lookup.find_further s.scopes (names.seat_of s) s.parts.head part.text j in
       let g = part_gives part (at j p) looked m.0 (skip_after (names.part_found part (at j p) looked) m.0 m.1) in
       let next = rest_so parts is.2 g.0 (place_of part) c is.4 (ap (acts idl is.2) g.2 ∙ m.2) in
       let there = further_so s.parts.head part.text j g.0 p g.1 in

@@ -8,8 +8,8 @@ use Rattle.idl_grammar.specs.declared.label.IdlLabel.TheVariants as l
 use Rattle.idl_scopes.specs.Table.{Table}
 use Rattle.idl_scopes.specs.Finding.{is_operation, sort_at, name_at, outer, scopes_of}
 use Rattle.idl_names.specs.Declaring.{idl}
-use Rattle.idl_names.specs.declared.head.Head.{Head}
-use Rattle.idl_names.specs.declared.head.Head.TheVariants.{Outside, Parameters, Raises}
+use Rattle.idl_lookup.specs.declared.head.Head.{Head}
+use Rattle.idl_lookup.specs.declared.head.Head.TheVariants.{Outside, Parameters, Raises}
 use Rattle.idl_laws.specs.Meaning.{IsNamed, HasNone, IsFirst, Means}
 
 -- ---- the marks of a scoped name
