@@ -1,21 +1,12 @@
 -- The seats of a link, taken apart.
-use Rattle.std.specs.Prelude.{IfSome}
-use Rattle.std.proofs.Common.{Option, Some, None, ◌≡◌, ◌≤◌, ◌<◌, ◌+◌, ◌-◌, ◌^◌, ℕ, zero, suc, List, [], ◌∷◌, ◌++◌, length, refl, sym, ap, ◌∙◌, subst, inl, inr, arith}
-use Rattle.std.proofs.Math.Nat.{min-eq_left, min-eq_right}
-use Rattle.std.proofs.lemmas.Bool.{cases_lt}
+use Rattle.std.proofs.Common.{◌≡◌, ◌≤◌, ◌+◌, ℕ, List, [], ◌∷◌, ◌++◌, length, sym, ap, ◌∙◌, subst, inl, inr, arith}
 use Rattle.std.proofs.lemmas.List.{length-append}
-use Rattle.orb_base.specs.declared.limits.TheConstants.{MAX_MESSAGE}
-use Rattle.orb_base.specs.declared.order.Order.{Order}
-use Rattle.orb_base.specs.declared.order.Order.TheVariants.{Big}
-use Rattle.giop_messages.specs.Lengths.{held}
-use Rattle.giop_messages.specs.Message.{Message, Request, request}
-use Rattle.giop_messages.specs.Spelling.{spelled}
 use Rattle.turn_cell.specs.Seats.{CellView}
-use Rattle.client_mux.specs.Machine.{Mux, opening}
-use Rattle.client_mux.specs.Callers.{IsShort, IsCaller, writer, reader, starts, arrivals, losses, lefts, finished}
+use Rattle.client_mux.specs.Machine.{Mux}
+use Rattle.client_mux.specs.Callers.{IsCaller, writer, reader, starts, arrivals, losses, lefts, finished}
 use Rattle.shared_link.specs.Link.{Sitting}
 use Rattle.shared_link.specs.Turns.{IsFresh, AreFrom, IsOpen}
-use Rattle.shared_link.specs.Roles.{CanCall, CanAwait, CanSend, CanRead, CanLose}
+use Rattle.shared_link.specs.Roles.{CanSend, CanRead, CanLose}
 use Rattle.client_tests.specs.Seats.{IsIdle, AreIdle, IsBusy, AreBusy}
 
 -- fresh seats in their roles
@@ -119,17 +110,3 @@ busy_rest cell all xs x a e = (cut_busy cell xs x (subst (AreBusy cell) e a)).0
 
 pub busy_last : (cell : CellView Mux) (all xs : List (Sitting × ℕ)) (x : Sitting × ℕ) → AreBusy cell all → all ≡ xs ++ x ∷ [] → IsBusy cell x
 busy_last cell all xs x a e = (cut_busy cell xs x (subst (AreBusy cell) e a)).1
-
--- a length that is held within the limit of a message is within it
-is_short : (n len : ℕ) → len ≡ held n → len ≤ MAX_MESSAGE → n ≤ MAX_MESSAGE
-is_short n len is few = elim (cases_lt n (2 ^ 64 - 1)) [
-  | inl a ↦ (let l : n ≤ 2 ^ 64 - 1 = omega arith in let h : held n ≡ n = min-eq_left l in omega arith)
-  | inr b ↦ (let l : 2 ^ 64 - 1 ≤ n = omega arith in let h : held n ≡ 2 ^ 64 - 1 = min-eq_right l in absurd (omega arith))
-]
-
-short_of : (m : Message) (r : Request) (len : ℕ) → m ≡ request r → ((order : Order) → len ≡ held (length (spelled order m))) → len ≤ MAX_MESSAGE → IsShort r
-short_of m r len e f few = subst (λ (z : Message). length (spelled Big z) ≤ MAX_MESSAGE) e (is_short (length (spelled Big m)) len (f Big) few)
-
-pub short_some : (m : Message) (o : Option Request) (len : ℕ) → IfSome o (λ r. m ≡ request r) → ((order : Order) → len ≡ held (length (spelled order m))) → len ≤ MAX_MESSAGE → IfSome o (λ r. IsShort r)
-short_some m (Some r) len e f few = short_of m r len e f few
-short_some m None len e f few = tt

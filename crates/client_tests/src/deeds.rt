@@ -1,7 +1,5 @@
 //! A link with its seats taken apart, and calls of them.
-ghost use Rattle.std.specs.Prelude.{◌≡◌, ◌≤◌, ◌<◌, ◌+◌, IfSome, []};
-ghost use Rattle.giop_messages.specs.Message as Spec;
-ghost use Rattle.giop_messages.specs.Views.{message_of};
+ghost use Rattle.std.specs.Prelude.{◌≤◌, ◌<◌, ◌+◌, IfSome, []};
 ghost use Rattle.client_mux.specs.declared.limits.TheConstants.{MAX_CALLERS, MAX_ARRIVALS};
 ghost use Rattle.client_mux.specs.Callers.{IsShort};
 ghost use Rattle.shared_link.specs.Turns.{IsOpen};
@@ -9,8 +7,8 @@ ghost use Rattle.shared_link.specs.Roles.{CanCall, CanAwait, CanCancel, CanSend,
 ghost use Rattle.client_tests.specs.Seats.{IsIdle, AreIdle};
 
 use client_mux::{HeardReply, Why};
-use giop_messages::{Message, Reply, Request, Target, message_len};
-use orb_base::limits::MAX_MESSAGE;
+use giop_messages::{Message, Reply, Request, Target};
+use link_callers::short_request;
 use orb_base::{Arc, List, Order, Text};
 use shared_link::{MuxSeat, Opened, Placed, Shared, Started, Stopped, Upcoming, Waited, open};
 use std::alloc::Global;
@@ -85,38 +83,11 @@ fn asking(alloc: Global) -> Option<Message> {
     }))
 }
 
-/// The request of a message.
-fn only_request(message: Message) -> Option<Request>
-    ensures { IfSome result (λ r. message_of message ≡ Spec.request r) }
-{
-    match message {
-        Message::Request(request) => Some(request),
-        Message::Reply(_reply) => None,
-        Message::Cancel(_id) => None,
-        Message::Locate(_locate) => None,
-        Message::Located(_located) => None,
-        Message::Close => None,
-        Message::Error => None,
-    }
-}
-
-/// A request of `current` that is short enough.
-#[tactic(auto, using(crate::proofs::SeatLemmas::short_some))]
-fn short_request(alloc: Global) -> Option<Request>
-    ensures { IfSome result (λ r. IsShort r) }
-{
-    let message = asking(alloc)?;
-    if message_len(&message) > MAX_MESSAGE {
-        return None;
-    }
-    only_request(message)
-}
-
-/// A share of the same.
+/// A request of `current` that is short enough, to be shared.
 pub fn request(alloc: Global) -> Option<Arc<Request>>
     ensures { IfSome result (λ r. IsShort r) }
 {
-    let request = short_request(alloc)?;
+    let request = short_request(asking(alloc)?)?;
     Arc::new(alloc, request).ok()
 }
 

@@ -28,6 +28,8 @@ mod request_len_tests;
 #[cfg(test)]
 mod rows;
 #[cfg(test)]
+mod short_request_tests;
+#[cfg(test)]
 mod stories;
 #[cfg(test)]
 mod value_json_tests;
