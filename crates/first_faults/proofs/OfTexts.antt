@@ -1,5 +1,5 @@
 -- The laws of first faults at IDL and at scripts.
-use Rattle.std.proofs.Common.{◌≡◌, inl, inr, ℕ, false, List, Ok, Err, refl, ap, ◌∙◌}
+use Rattle.std.proofs.Common.{◌≡◌, inl, inr, ℕ, false, List, [], Ok, Err, refl, ap, ◌∙◌}
 use Rattle.grammar.specs.Plain.{goes_on}
 use Rattle.grammar.specs.Reading.{Reads, read_whole}
 use Rattle.idl_tokens.specs.Cutting.{text_tokens}
@@ -8,6 +8,7 @@ use Rattle.idl_tokens.specs.declared.dialect.Dialect.TheVariants.{Idl, Script}
 use Rattle.idl_tokens.specs.declared.kind.Kind.{Kind}
 use Rattle.idl_tokens.specs.declared.kind.Kind.TheVariants.{End, Bad}
 use Rattle.idl_grammar.specs.declared.fault.IdlFault.{IdlFault}
+use Rattle.idl_grammar.specs.declared.label.IdlLabel.TheVariants as l
 use Rattle.idl_grammar.specs.IdlRules as idl_rules
 use Rattle.idl_grammar.specs.Plain.{IsPlainIdl}
 use Rattle.idl_grammar.proofs.PlainRules.{idl_plain}
@@ -23,7 +24,7 @@ use Rattle.servant_scripts.specs.Drafts.{empty}
 use Rattle.servant_scripts.specs.Labels as scripting
 use Rattle.servant_scripts.specs.Scripts.{scripts, servants_in, tokens_reading, script_reading, Spells}
 use Rattle.servant_scripts.proofs.Ends.{Ends, text_ends}
-use Rattle.first_faults.specs.Laws.{idl_texts, script_texts, RefusesFirst, AtOneToken, IsOne, IsRead, HasNone}
+use Rattle.first_faults.specs.Laws.{idl_texts, script_texts, RefusesFirst, AtOneToken, IsOne, IsRead, HasNone, AnyLabelRefuses}
 use Rattle.first_faults.proofs.Faults.{refused_first, one_token, one_fault, no_fault, fault_read}
 
 -- ---- IDL
@@ -60,6 +61,9 @@ idl_read text f x on = ap built_in (fault_read idl idl_is.rules 64 End idl_rules
 
 pub idl_none : HasNone idl_texts Declares
 idl_none text new f w x = no_fault idl idl_is.rules 64 End idl_rules.file idl_is.whole (text_tokens Idl text) nothing_built new f w x
+
+pub any_refuses : AnyLabelRefuses
+any_refuses text cause = record { marks = []; built = nothing_built; at = text_tokens Idl text; goes = refl; acts_are = refl; why = inr (inl (l.Refuse cause, refl)) }
 
 -- ---- scripts
 

@@ -1,14 +1,17 @@
 -- The laws of first faults, for the texts of IDL and for scripts: own profile.
 use Rattle.std.specs.Prelude.{◌≡◌, ℕ, List, Result, Err}
 use Rattle.grammar.specs.Language.{Language, RuleOf}
-use Rattle.grammar.specs.Reading.{Stream}
+use Rattle.grammar.specs.Reading.{Stream, front}
 use Rattle.grammar.specs.Grammar.{tokens_of}
 use Rattle.idl_tokens.specs.Cutting.{text_tokens}
 use Rattle.idl_tokens.specs.declared.dialect.Dialect.TheVariants.{Idl, Script}
 use Rattle.idl_tokens.specs.declared.kind.Kind.TheVariants.{End}
+use Rattle.idl_grammar.specs.declared.fault.IdlCause.{IdlCause}
 use Rattle.idl_grammar.specs.IdlRules as idl_rules
+use Rattle.idl_grammar.specs.Stopping.{fault_at}
 use Rattle.idl_names.specs.State.{nothing_built}
 use Rattle.idl_names.specs.Declaring.{idl}
+use Rattle.idl_names.specs.Whole.{IsFirstFault}
 use Rattle.script_grammar.specs.ScriptRules as script_rules
 use Rattle.servant_scripts.specs.Drafts.{empty}
 use Rattle.servant_scripts.specs.Scripts.{scripts}
@@ -58,3 +61,7 @@ IsRead t reading = (text : List ℕ) (f : t.language.Fault) (x : IsFirst t text 
 -- a text that says something has no first fault
 abbrev pub HasNone : (t : Texts) → {X : Type 0} → (List ℕ → X → Type 0) → Type 0
 HasNone t {X} says = (text : List ℕ) (said : X) (f : t.language.Fault) → says text said → IsFirst t text f → ⊥
+
+-- where any label may be the one that refused, each text of IDL has each cause at its first token
+abbrev pub AnyLabelRefuses : Type 0
+AnyLabelRefuses = (text : List ℕ) (cause : IdlCause) → IsFirstFault text (fault_at cause (front (text_tokens Idl text)))

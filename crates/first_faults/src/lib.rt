@@ -7,4 +7,4 @@
 
 mod laws;
 
-pub use laws::{first_faults_of_idl, first_faults_of_scripts};
+pub use laws::{any_label_refuses_each_text, first_faults_of_idl, first_faults_of_scripts};
